@@ -1,12 +1,13 @@
 -- A text that has its marks has no places left.
-use Rattle.std.proofs.Common.{◌≡◌, ℕ, ◌||◌, Bool, true, false, List, [], ◌∷◌, ◌++◌, length, take, drop, refl, ap, sym, ◌∙◌, append_assoc, append-nil, subst, if◌then◌else◌, suc, zero, ◌<◌, arith}
+use Rattle.std.proofs.Common.{◌≡◌, ℕ, ◌==◌, ◌&&◌, ◌||◌, Bool, true, false, List, [], ◌∷◌, ◌++◌, length, take, drop, refl, ap, sym, ◌∙◌, append_assoc, append-nil, subst, if◌then◌else◌, suc, zero, ◌<◌, arith}
 use Rattle.std.specs.Str.{IsUtf8}
 use Rattle.unicode_segmentation.specs.Word.{word_bounds}
 use Rattle.hyphenation_segments.specs.Laws.{with_marks}
 use Rattle.html_pieces.specs.Bytes.{is_white_space}
 use Rattle.hyphenation_html.specs.Laws.{soft_hyphen}
 use Rattle.hyphenation_html.specs.Dictionaries.{Breaks}
-use Rattle.hyphenation_html.specs.Words.{is_sign, has_sign_after, begins_with_www, is_left_whole}
+use Rattle.addresses.specs.Addresses.{is_address}
+use Rattle.hyphenation_html.specs.Words.{has_soft_hyphen_after, is_left_whole}
 use Rattle.hyphenation_html.specs.Places.{shifted, words_places, token_places, tokens_places, text_places}
 use Rattle.hyphenation_html.specs.Private.Marked.{marked_token, marked_tokens}
 use Rattle.hyphenation_html.specs.Private.Fit.{AllAscend}
@@ -51,18 +52,14 @@ pub or_left : (a b : Bool) → a ≡ true → a || b ≡ true
 or_left true b e = refl
 or_left false b e = cc
 
-sign_is_seen : (a : ℕ) → is_sign a 0xC2 0xAD ≡ true
-unfolding is_sign
-sign_is_seen a = refl
-
-marks_seen : (a b : ℕ) (xs ys : List ℕ) → has_sign_after a b ((xs ++ soft_hyphen) ++ ys) ≡ true
-marks_seen a b [] ys =
-    or_right (is_sign a b 0xC2) (has_sign_after b 0xC2 (0xAD ∷ ys)) (or_left (is_sign b 0xC2 0xAD) (has_sign_after 0xC2 0xAD ys) (sign_is_seen b))
-marks_seen a b (x ∷ xs) ys = or_right (is_sign a b x) (has_sign_after b x ((xs ++ soft_hyphen) ++ ys)) (marks_seen b x xs ys)
+marks_seen : (before : ℕ) (xs ys : List ℕ) → has_soft_hyphen_after before ((xs ++ soft_hyphen) ++ ys) ≡ true
+marks_seen before [] ys = or_right (before == 0xC2 && 0xC2 == 0xAD) (has_soft_hyphen_after 0xC2 (0xAD ∷ ys)) refl
+marks_seen before (x ∷ xs) ys =
+    or_right (before == 0xC2 && x == 0xAD) (has_soft_hyphen_after x ((xs ++ soft_hyphen) ++ ys)) (marks_seen x xs ys)
 
 whole_by_mark : (xs ys : List ℕ) → is_left_whole ((xs ++ soft_hyphen) ++ ys) ≡ true
 unfolding is_left_whole
-whole_by_mark xs ys = or_left (has_sign_after 0 0 ((xs ++ soft_hyphen) ++ ys)) (begins_with_www ((xs ++ soft_hyphen) ++ ys)) (marks_seen 0 0 xs ys)
+whole_by_mark xs ys = or_left (has_soft_hyphen_after 0 ((xs ++ soft_hyphen) ++ ys)) (is_address ((xs ++ soft_hyphen) ++ ys)) (marks_seen 0 xs ys)
 
 no_places : (breaks : Breaks) (token places : List ℕ) → token_places breaks token ≡ places → token_places breaks (with_marks soft_hyphen token places) ≡ []
 unfolding token_places

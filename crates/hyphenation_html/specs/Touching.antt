@@ -1,12 +1,12 @@
 -- Words that go on beyond a text: over a tag within a line, or in a character reference.
 use Rattle.std.specs.Prelude.{ℕ, ◌-◌, ◌||◌, Bool, true, false, List, [], ◌∷◌, codes, length, slice_get, if◌then◌else◌}
 use Rattle.std.specs.Option.{option_map_or}
+use Rattle.addresses.specs.Addresses.{is_of_word}
 use Rattle.html_pieces.specs.Names.{name_of}
 use Rattle.html_pieces.specs.Groups.{is_one_of}
 use Rattle.html_pieces.specs.Pieces.{Piece}
 use Rattle.html_pieces.specs.declared.tokenizer.Kind.{Kind}
 use Rattle.html_pieces.specs.declared.tokenizer.Kind.TheVariants.{Text, Reference, StartTag, EmptyTag, EndTag, Other}
-use Rattle.hyphenation_html.specs.Words.{is_of_word}
 
 -- Elements that stand within a line by what they mean, so that a word may begin in one and end outside of it.
 abbrev pub phrase_names : List (List ℕ)

@@ -1,7 +1,6 @@
 -- Words that are left as they are.
-use Rattle.std.specs.Prelude.{ℕ, ◌==◌, ◌||◌, ◌&&◌, Bool, false, List, [], ◌∷◌, codes, length, chars, nat_eq, nat_le, nat_lt, if◌then◌else◌}
-use Rattle.std.specs.List.{starts_with}
-use Rattle.html_pieces.specs.Bytes.{is_alphanumeric}
+use Rattle.std.specs.Prelude.{ℕ, ◌==◌, ◌||◌, ◌&&◌, Bool, false, List, [], ◌∷◌, length, chars, nat_lt, if◌then◌else◌}
+use Rattle.addresses.specs.Addresses.{is_address}
 use Rattle.unicode.specs.Binary.{is_uppercase}
 use Rattle.hyphenation_html.specs.Dictionaries.{Breaks}
 
@@ -23,24 +22,11 @@ within_limits least skips_capitals places word = if is_passed_over least skips_c
 
 -- ---- tokens, which are the parts of a text between white space
 
--- A byte is an ASCII letter or digit, or belongs to a character beyond ASCII.
-abbrev pub is_of_word : ℕ → Bool
-is_of_word b = is_alphanumeric b || nat_le 128 b
-
--- The last two of three bytes are U+00AD, or the three are "://", or the middle one is an '@' between letters.
-unfoldable pub is_sign : ℕ → ℕ → ℕ → Bool
-is_sign a b c =
-    b == 0xC2 && c == 0xAD || a == 58 && b == 47 && c == 47 || b == 64 && is_of_word a && is_of_word c
-
--- A sign stands in a text that follows two bytes.
-abbrev pub has_sign_after : ℕ → ℕ → List ℕ → Bool
-has_sign_after a b [] = false
-has_sign_after a b (c ∷ cs) = is_sign a b c || has_sign_after b c cs
-
--- A token begins as the address of a page without its scheme does.
-abbrev pub begins_with_www : List ℕ → Bool
-begins_with_www token = starts_with nat_eq token (codes "www.")
+-- A soft hyphen, which is U+00AD, stands in a text, which this byte stands before.
+abbrev pub has_soft_hyphen_after : ℕ → List ℕ → Bool
+has_soft_hyphen_after before [] = false
+has_soft_hyphen_after before (b ∷ bs) = before == 0xC2 && b == 0xAD || has_soft_hyphen_after b bs
 
 -- A token is left whole: it has a soft hyphen of its own, or is an address.
 unfoldable pub is_left_whole : List ℕ → Bool
-is_left_whole token = has_sign_after 0 0 token || begins_with_www token
+is_left_whole token = has_soft_hyphen_after 0 token || is_address token

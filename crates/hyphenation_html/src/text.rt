@@ -60,7 +60,7 @@ fn push_token(
     ensures { OnOk result (string_bytes output.new
         ≡ string_bytes output.old ++ marked_token_by settings.now dictionary.now token.now) }
 {
-    if is_left_whole(token.as_bytes()) {
+    if is_left_whole(token) {
         return output.push_str(token);
     }
     for word in WordPieces::new(token) {

@@ -6,7 +6,7 @@ ghost use Rattle.html_pieces.specs.Pieces.{as_piece};
 ghost use Rattle.hyphenation_html.specs.Touching.{phrase_names, style_names, is_inline, goes_on_over, touched_after};
 ghost use Rattle.hyphenation_html.specs.Touching.{begins_in_word, ends_in_word, begins_touching, ends_touching, touched_before};
 
-use crate::words::is_of_word;
+use addresses::is_of_word;
 use html_pieces::bytes::is_same_name;
 use html_pieces::tokenizer::{Kind, Piece, name_of};
 

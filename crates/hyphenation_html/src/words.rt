@@ -1,10 +1,10 @@
-//! Words and addresses that are left as they are.
+//! Words that are left as they are.
 
 ghost use Rattle.std.specs.Prelude.{◌≡◌, chars, length, nat_lt};
-ghost use Rattle.hyphenation_html.specs.Words.{first_is_capital, is_passed_over, is_of_word, is_sign, has_sign_after, begins_with_www, is_left_whole};
+ghost use Rattle.hyphenation_html.specs.Words.{first_is_capital, is_passed_over, has_soft_hyphen_after, is_left_whole};
 
 use crate::settings::Settings;
-use html_pieces::bytes::is_alphanumeric;
+use addresses::is_address;
 use unicode::properties::is_uppercase;
 
 // Whether a word begins with a capital.
@@ -39,43 +39,24 @@ pub(crate) fn is_passed_over(settings: &Settings<'_>, word: &str) -> bool
     is_short(word, settings.min_word) || settings.skip_capitals && begins_with_capital(word)
 }
 
-// Whether a byte is an ASCII letter or digit, or of a character beyond ASCII.
-pub(crate) const fn is_of_word(byte: u8) -> bool
-    ensures { result ≡ is_of_word byte }
+// Whether a token has a soft hyphen.
+fn has_soft_hyphen(token: &[u8]) -> bool
+    ensures { result ≡ has_soft_hyphen_after 0 token.now }
 {
-    is_alphanumeric(byte) || byte >= 128
-}
-
-// Whether three bytes are a sign of an address, or the last two of them a soft hyphen.
-#[tactic(auto, unfolding(crate::specs::Words::is_sign))]
-const fn is_sign(first: u8, second: u8, third: u8) -> bool
-    ensures { result ≡ is_sign first second third }
-{
-    second == 0xC2 && third == 0xAD
-        || first == b':' && second == b'/' && third == b'/'
-        || second == b'@' && is_of_word(first) && is_of_word(third)
-}
-
-// Whether a token has a soft hyphen or a sign of an address.
-fn has_sign(token: &[u8]) -> bool
-    ensures { result ≡ has_sign_after 0 0 token.now }
-{
-    let mut first = 0;
-    let mut second = 0;
+    let mut before = 0;
     for byte in token {
-        if is_sign(first, second, *byte) {
+        if before == 0xC2 && *byte == 0xAD {
             return true;
         }
-        first = second;
-        second = *byte;
+        before = *byte;
     }
     false
 }
 
 // Whether a token is left whole: it has a soft hyphen of its own, or is an address.
 #[tactic(auto, unfolding(crate::specs::Words::is_left_whole))]
-pub(crate) fn is_left_whole(token: &[u8]) -> bool
+pub(crate) fn is_left_whole(token: &str) -> bool
     ensures { result ≡ is_left_whole token.now }
 {
-    has_sign(token) || token.starts_with(b"www.")
+    has_soft_hyphen(token.as_bytes()) || is_address(token)
 }

@@ -12,6 +12,7 @@ pub mod MixedParts
 pub mod FullLines
 pub mod PlainWords
 mod OnePiece
+mod WordBreaks
 mod BareParts
 mod Places
 pub mod WordLists

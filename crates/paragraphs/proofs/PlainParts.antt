@@ -3,13 +3,14 @@ use Rattle.std.proofs.Common.{◌≡◌, ℕ, zero, suc, ◌+◌, ◌<◌, true,
 use Rattle.std.specs.List.{All, flat_map}
 use Rattle.std.proofs.lemmas.List.{get_or-map, length-map}
 use Rattle.std.proofs.lemmas.List.Elements.{All-head, All-tail}
+use Rattle.addresses.specs.Addresses.{is_address}
 use Rattle.unicode_segmentation.specs.Segments.{with_offsets}
 use Rattle.unicode_segmentation.specs.Word.{word_bounds}
 use Rattle.hyphenation_breaks.specs.Break.{Break, end_of, after_of}
 use Rattle.line_division.specs.Greedy.{IsOrderly}
 use Rattle.line_division.specs.Lines.{no_stretch, stretch_at}
 use Rattle.paragraphs.specs.Settings.{Setting, no_setting, setting_at, stretch_of, columns_of}
-use Rattle.paragraphs.specs.Parts.{Style, set_off, breaks_in, word_breaks, parts_it, part_at, parts_from, word_parts, parts_of, IsPlain, ArePlain}
+use Rattle.paragraphs.specs.Parts.{Style, set_off, breaks_in, piece_breaks, word_breaks, parts_it, part_at, parts_from, word_parts, parts_of, IsPlain, ArePlain}
 
 -- Each of the breaks is plain.
 abbrev EachPlain : List Break → Type 0
@@ -23,6 +24,12 @@ plain_piece offset (b ∷ bs) rest plain others = (All-head IsPlain b bs plain, 
 plain_pieces : (breaks_of : List ℕ → List Break) (pieces : List (ℕ × List ℕ)) → ArePlain breaks_of → EachPlain (flat_map (breaks_in breaks_of) pieces)
 plain_pieces breaks_of [] plain = tt
 plain_pieces breaks_of (x ∷ xs) plain = plain_piece x.0 (breaks_of x.1) (flat_map (breaks_in breaks_of) xs) (plain x.1) (plain_pieces breaks_of xs plain)
+
+plain_word : (breaks_of : List ℕ → List Break) (word : List ℕ) → ArePlain breaks_of → EachPlain (word_breaks breaks_of word)
+plain_word breaks_of word plain = elim (is_address word) as (λ t. EachPlain (cond t [] (piece_breaks breaks_of word))) [
+  | true ↦ tt
+  | false ↦ plain_pieces breaks_of (with_offsets 0 (word_bounds word)) plain
+]
 
 -- Each of the parts has this opening.
 abbrev Opened : List ℕ → List Setting → Type 0
@@ -63,14 +70,14 @@ others_opened : (breaks_of : List ℕ → List Break) (style : Style) (words : L
 others_opened breaks_of style [] plain = tt
 others_opened breaks_of style (word ∷ words) plain =
     opened-append style.indent (word_parts breaks_of style style.indent word) (flat_map (word_parts breaks_of style style.indent) words)
-    (all_opened style word style.indent 0 (word_breaks breaks_of word) refl (plain_pieces breaks_of (with_offsets 0 (word_bounds word)) plain))
+    (all_opened style word style.indent 0 (word_breaks breaks_of word) refl (plain_word breaks_of word plain))
     (others_opened breaks_of style words plain)
 
 parts_opened : (breaks_of : List ℕ → List Break) (style : Style) (words : List (List ℕ)) → ArePlain breaks_of → OpenedAfter style.indent (parts_of breaks_of style words)
 parts_opened breaks_of style [] plain = tt
 parts_opened breaks_of style (word ∷ words) plain =
     later_opened style word style.first 0 (word_breaks breaks_of word) (flat_map (word_parts breaks_of style style.indent) words)
-    (plain_pieces breaks_of (with_offsets 0 (word_bounds word)) plain) (others_opened breaks_of style words plain)
+    (plain_word breaks_of word plain) (others_opened breaks_of style words plain)
 
 opening_at : (indent : List ℕ) (parts : List Setting) (i : ℕ) → Opened indent parts → i < length parts → (setting_at parts i).opening ≡ indent
 opening_at indent [] i opened lt = absurd (omega (arith, lt))

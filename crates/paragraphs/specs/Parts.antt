@@ -1,6 +1,7 @@
 -- The words of a paragraph, and where they may be broken.
 use Rattle.std.specs.Prelude.{◌≡◌, ℕ, ◌+◌, ◌&&◌, nat_lt, Bool, None, All, if◌then◌else◌, List, [], ◌∷◌, ◌++◌, length, map, drop, slice_range}
 use Rattle.std.specs.List.{flat_map}
+use Rattle.addresses.specs.Addresses.{is_address}
 use Rattle.unicode_segmentation.specs.Segments.{with_offsets}
 use Rattle.unicode_segmentation.specs.Word.{word_bounds}
 use Rattle.hyphenation_breaks.specs.Ascii.{space, hyphen}
@@ -15,9 +16,13 @@ set_off offset b = record { place = offset + b.place; change = b.change }
 abbrev pub breaks_in : (List ℕ → List Break) → ℕ × List ℕ → List Break
 breaks_in breaks_of piece = map (set_off piece.0) (breaks_of piece.1)
 
--- The breaks of a word: those of its pieces between word bounds.
+-- The breaks of a word's pieces between word bounds.
+abbrev pub piece_breaks : (List ℕ → List Break) → List ℕ → List Break
+piece_breaks breaks_of word = flat_map (breaks_in breaks_of) (with_offsets 0 (word_bounds word))
+
+-- The breaks of a word: those of its pieces. An address of the web or of mail has none.
 abbrev pub word_breaks : (List ℕ → List Break) → List ℕ → List Break
-word_breaks breaks_of word = flat_map (breaks_in breaks_of) (with_offsets 0 (word_bounds word))
+word_breaks breaks_of word = if is_address word then [] else piece_breaks breaks_of word
 
 -- The indent of the first line, that of the others, and the cost of a line's end at a break of a word.
 pub record Style : Type 0 where

@@ -4,7 +4,7 @@ ghost use Rattle.std.specs.Prelude.{◌≡◌, ◌+◌, ◌<◌, ◌≤◌, ◌^
 ghost use Rattle.std.specs.List.{list_all};
 ghost use Rattle.std.specs.Str.{IsCharBoundary};
 ghost use Rattle.hyphenation_breaks.specs.Break.{left_of, begin_of, end_of};
-ghost use Rattle.paragraphs.specs.Private.Open.{Passes, PassesPiece, PassesAll, AddsParts, next_then};
+ghost use Rattle.paragraphs.specs.Private.Open.{Passes, PassesPiece, PassesPieces, PassesAll, AddsParts, next_then};
 ghost use Rattle.paragraphs.specs.Private.Places.{KeepPlaces, PlacesWord, end_of_word};
 ghost use Rattle.paragraphs.specs.Private.Plain.{AreLetters};
 ghost use Rattle.paragraphs.specs.Private.Printable.{is_printable};
@@ -14,6 +14,8 @@ ghost use Rattle.word_pieces.specs.Pieces.{piece_indices_left, IsSlice};
 
 use crate::part::Part;
 use crate::style::Style;
+use addresses::is_address;
+use addresses::laws::letters_are_no_address;
 use hyphenation_breaks::breaks::Break;
 use hyphenation_hyphenator::hyphenator::Hyphenator;
 use std::alloc::{AllocError, Global};
@@ -135,7 +137,7 @@ fn pass_each_piece<'t, 'h, H: Hyphenator<'h>>(
     requires at { at + length word.now < 2 ^ 63 }
     requires plain { plain ≡ true → list_all is_printable word.now ≡ true }
     requires from { IsCharBoundary word.now current.old.from }
-    ensures goes { OnOk result (PassesAll style.now word.now (H.breaks_of dictionary.now)
+    ensures goes { OnOk result (PassesPieces style.now word.now (H.breaks_of dictionary.now)
         parts.old.items current.old parts.new.items current.new) }
     ensures from { OnOk result (IsCharBoundary word.now current.new.from) }
     ensures places { OnOk result (KeepPlaces at word.now parts.old.items parts.new.items) }
@@ -150,7 +152,8 @@ fn pass_each_piece<'t, 'h, H: Hyphenator<'h>>(
     Ok(())
 }
 
-// Passes the breaks of all pieces of a word. One of letters of ASCII alone is one piece.
+// Passes the breaks of a word: those of all its pieces, or none if it is an address. One of letters of ASCII alone is one
+// piece, and no address.
 #[inline(always)]
 fn pass_pieces<'t, 'h, H: Hyphenator<'h>>(
     alloc: Global,
@@ -175,15 +178,20 @@ fn pass_pieces<'t, 'h, H: Hyphenator<'h>>(
 {
     pieces_are_slices();
     letters_are_one_piece();
+    letters_are_no_address();
     if letters {
         pass_piece(
             alloc, dictionary, style, word, at, plain, 0, word, breaks, parts, current,
         )?;
         return Ok(());
     }
+    if is_address(word) {
+        return Ok(());
+    }
     pass_each_piece(
         alloc, dictionary, style, word, at, plain, breaks, parts, current,
-    )
+    )?;
+    Ok(())
 }
 
 // Returns where the joint of a word's last part ends in the text of the paragraph, where the word begins at such a place

@@ -63,6 +63,14 @@ const RUNS: &[Run<'static>] = &[
         "",
     ),
     (
+        "addresses are not broken, also in a plain text",
+        &["--plain", "--width", "9", "firkin.txt"],
+        b"> at http://firkins/firkins, firkins",
+        0,
+        "> at\nhttp://firkins/firkins,\nfirkins\n",
+        "",
+    ),
+    (
         "no more lines in a row with a hyphen than the ladder",
         &["--ladder", "1", "--even", "--width", "9", "firkin.txt"],
         b"of firkins firkins",

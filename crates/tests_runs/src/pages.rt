@@ -203,8 +203,8 @@ const PAGES: &[Page] = &[
     (
         "addresses are left alone",
         VISIBLE,
-        "http://firkin a@firkin www.firkin @firkin",
-        "http://firkin a@firkin www.firkin @fir-kin",
+        "http://firkin a@firkin (www.firkin). @firkin",
+        "http://firkin a@firkin (www.firkin). @fir-kin",
     ),
     (
         "words that begin with a capital are left alone where it is asked",

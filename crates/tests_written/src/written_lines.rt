@@ -309,7 +309,7 @@ const LONG: [(&str, &str, u16, &str); 8] = [
 ];
 
 // Rows of the same kind, one for each rule.
-const RULES: [(&str, &str, u16, &str); 29] = [
+const RULES: [(&str, &str, u16, &str); 31] = [
     (
         "prose is filled, and empty lines in a row are one",
         "\n\none\ntwo\n\n\nthree\n\n",
@@ -468,6 +468,18 @@ const RULES: [(&str, &str, u16, &str); 29] = [
         "> a hyphenation\n",
         9,
         "> a hy-\n> phena-\n> tion\n",
+    ),
+    (
+        "addresses are not broken in quotes, and stand alone in a line that is too short",
+        "> see http://a/hyphenation.\n> and\n",
+        20,
+        "> see\n> http://a/hyphenation.\n> and\n",
+    ),
+    (
+        "addresses are not broken in items",
+        "- to <hyphenation@a/hyphenation>, or\n",
+        20,
+        "- to\n  <hyphenation@a/hyphenation>,\n  or\n",
     ),
 ];
 

@@ -9,7 +9,7 @@ use Rattle.paragraphs.specs.Private.PartSettings.{settings_of}
 use Rattle.paragraphs.specs.Settings.{Setting}
 use Rattle.paragraphs.specs.Styles.{style_of}
 use Rattle.paragraphs.specs.declared.style.Style as code
-use Rattle.paragraphs.specs.Parts.{Style, breaks_in, word_breaks, parts_from}
+use Rattle.paragraphs.specs.Parts.{Style, breaks_in, piece_breaks, word_breaks, parts_from}
 
 -- The parts that are made, and those to come, where these breaks are to come.
 abbrev pub settings_with : Style → List ℕ → List Part → Open → List Break → List Setting
@@ -26,7 +26,12 @@ abbrev pub PassesPiece : code.Style → List ℕ → (List ℕ → List Break) �
 PassesPiece style word breaks_of piece old current new next =
     Passes style word (breaks_in breaks_of piece) old current new next
 
--- All breaks of the word are passed: with no more to come, the parts are the same.
+-- The breaks of all pieces are passed: with no more to come, the parts are the same.
+abbrev pub PassesPieces : code.Style → List ℕ → (List ℕ → List Break) → List Part → Open → List Part → Open → Type 0
+PassesPieces style word breaks_of old current new next =
+    settings_with (style_of style) word new next [] ≡ settings_with (style_of style) word old current (piece_breaks breaks_of word)
+
+-- All breaks of the word are passed, in the same sense.
 abbrev pub PassesAll : code.Style → List ℕ → (List ℕ → List Break) → List Part → Open → List Part → Open → Type 0
 PassesAll style word breaks_of old current new next =
     settings_with (style_of style) word new next [] ≡ settings_with (style_of style) word old current (word_breaks breaks_of word)

@@ -2,7 +2,7 @@ use Rattle.std.proofs.Common.{◌≡◌, length}
 use Rattle.std.specs.List.{flat_map}
 use Rattle.std.specs.Str.{IsCharBoundary}
 use Rattle.word_pieces.specs.Pieces.{piece_indices_left, AreSlices}
-use Rattle.paragraphs.specs.Parts.{breaks_in, word_breaks}
+use Rattle.paragraphs.specs.Parts.{breaks_in, piece_breaks}
 use Rattle.paragraphs.specs.Styles.{style_of}
 use Rattle.paragraphs.specs.Private.Open.{settings_with}
 use Rattle.paragraphs.specs.Private.Places.{KeepPlaces}
@@ -14,7 +14,7 @@ invariant-loop-offset g l =
     let breaks_of = g.H.Hyphenator.breaks_of l.dictionary in
     record {
       goes : settings_with (style_of l.style) l.word l.parts.items l.current (flat_map (breaks_in breaks_of) (piece_indices_left l.pieces))
-          ≡ settings_with (style_of l.style) l.word l.initial.parts.items l.initial.current (word_breaks breaks_of l.word);
+          ≡ settings_with (style_of l.style) l.word l.initial.parts.items l.initial.current (piece_breaks breaks_of l.word);
       pieces : AreSlices l.word (piece_indices_left l.pieces);
       from : IsCharBoundary l.word l.current.from;
       places : KeepPlaces l.at l.word l.initial.parts.items l.parts.items;

@@ -1,0 +1,10 @@
+//! Laws of addresses.
+//!
+//! Each function here does nothing: its contract is a law, which the check proves.
+
+ghost use Rattle.addresses.specs.Addresses.{LettersAreNoAddress};
+
+/// A text of letters of ASCII alone is no address.
+pub fn letters_are_no_address()
+    ensures { LettersAreNoAddress }
+{}
