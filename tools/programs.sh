@@ -22,7 +22,7 @@ hyphenate           standard:4+:input:3 extended:4+:input:3 score:5:-:4 fill:4:i
 hyphenate-canonical --help up-to=67108864 dictionary=1 *:0:input:- *:1:-:1
 hyphenate-convert   *:5+:-:5+
 hyphenate-explain   --plain --svg up-to=8192 dictionary=1 *:1:input:1 *:2+:-:1
-hyphenate-html      --lang=CODE=PATH --dictionaries=PATH --language=CODE --mark=MARK --class=CLASS --min-word=N *:0:input:-
+hyphenate-html      --lang=CODE=PATH --dictionaries=PATH --language=CODE --mark=MARK --class=CLASS --min-word=N --skip-capitals --output=PATH --in-place *:0:input:- *:1+:-:1+
 hyphenate-lines     --plain --even --width=N --price=P --last=N --ladder=N --indent=TEXT --first=TEXT dictionary=1 *:1:input:1 *:2+:-:1+
 hyphenate-text      --lang=CODE --mark=MARK --min-word=N --skip-capitals --output=PATH --in-place first=--lang dictionary=1 *:1:input:1 *:2+:-:1+
 LIST

@@ -1,7 +1,7 @@
 -- Lists that begin with others, and the languages of a run.
 use Rattle.std.proofs.Common.{◌≡◌, ℕ, List, [], ◌∷◌, ◌++◌, map, refl, sym, ◌∙◌, ap, append_assoc, append-nil}
 use Rattle.std.specs.Prelude.{Some}
-use Rattle.html_command.specs.Arguments.{ParsedArgs}
+use Rattle.html_command.specs.Arguments.{ParsedOptions}
 use Rattle.html_command.specs.Dictionaries.{BeginsWith, HasCodesOf}
 use Rattle.html_command.specs.Private.Requests.{parsed_dictionary}
 use Rattle.html_command.specs.declared.request.GivenDictionary.{GivenDictionary}
@@ -27,21 +27,21 @@ begins_with_parsed : (given : List GivenDictionary) (all before : List (List ℕ
 begins_with_parsed given all before loaded begins =
     (begins.0, begins.1 ∙ ap (λ codes. codes ++ begins.0) (loaded ∙ codes_of_parsed given))
 
-pub with_folder : (args : ParsedArgs) (given : List GivenDictionary) (all before : List (List ℕ)) (folder : List ℕ)
+pub with_folder : (args : ParsedOptions) (given : List GivenDictionary) (all before : List (List ℕ)) (folder : List ℕ)
     → args.given ≡ map parsed_dictionary given → args.folder ≡ Some folder → before ≡ map (λ one. one.language) given
     → BeginsWith all before → HasCodesOf args all
 with_folder args given all before folder e f loaded begins =
     let front : BeginsWith all (map (λ one. one.0) args.given) = rw e (begins_with_parsed given all before loaded begins) in
     (front, λ some none. absurd (cc (f, none)))
 
-pub without_given : (args : ParsedArgs) (given : List GivenDictionary) (all before : List (List ℕ))
+pub without_given : (args : ParsedOptions) (given : List GivenDictionary) (all before : List (List ℕ))
     → args.given ≡ map parsed_dictionary given → given ≡ [] → before ≡ map (λ one. one.language) given
     → BeginsWith all before → HasCodesOf args all
 without_given args given all before e nothing loaded begins =
     let front : BeginsWith all (map (λ one. one.0) args.given) = rw e (begins_with_parsed given all before loaded begins) in
     (front, λ some none. absurd (some (e ∙ ap (λ given. map parsed_dictionary given) nothing)))
 
-pub given_alone : (args : ParsedArgs) (given : List GivenDictionary) (all : List (List ℕ))
+pub given_alone : (args : ParsedOptions) (given : List GivenDictionary) (all : List (List ℕ))
     → args.given ≡ map parsed_dictionary given → all ≡ map (λ one. one.language) given → HasCodesOf args all
 given_alone args given all e loaded =
     let same : all ≡ map (λ one. one.0) args.given =

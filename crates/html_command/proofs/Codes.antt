@@ -4,7 +4,7 @@ use Rattle.std.specs.Option.{option_map_or}
 use Rattle.std.proofs.lemmas.List.Elements.{All-append, All-cons, All-nil}
 use Rattle.std.specs.Prelude.{Option, None, Some}
 use Rattle.hyphenation_html.specs.declared.languages.LanguageDictionary.{LanguageDictionary}
-use Rattle.html_command.specs.Arguments.{ParsedArgs}
+use Rattle.html_command.specs.Arguments.{ParsedOptions}
 use Rattle.html_command.specs.Private.Requests.{parsed_dictionary}
 use Rattle.html_command.specs.declared.request.GivenDictionary.{GivenDictionary}
 use Rattle.html_command.specs.Dictionaries.{AreDictionariesFor, AreGiven, BeginsWith, IsFoundIn, AddsFound, code_of, folders_for}
@@ -31,7 +31,7 @@ adds_more bytes_of folders before middle all (first, e, h) (more, f, k) =
     (first ++ more, f ∙ ap (λ xs. xs ++ more) e ∙ append_assoc before first more, All-append (IsFoundIn bytes_of folders) first more h k)
 
 -- The dictionaries of a run whose arguments name a folder.
-pub found_in_folder_of : (bytes_of : List ℕ → Option (Option (List ℕ))) (args : ParsedArgs) (usual : List (List ℕ)) (folder : List ℕ)
+pub found_in_folder_of : (bytes_of : List ℕ → Option (Option (List ℕ))) (args : ParsedOptions) (usual : List (List ℕ)) (folder : List ℕ)
     (given : List GivenDictionary) (before all : List LanguageDictionary) → args.given ≡ map parsed_dictionary given → args.folder ≡ Some folder
     → AreGiven bytes_of (map parsed_dictionary given) before → AddsFound bytes_of (folder ∷ []) before all → AreDictionariesFor bytes_of args usual all
 found_in_folder_of bytes_of args usual folder given before all e f h k =
@@ -41,7 +41,7 @@ found_in_folder_of bytes_of args usual folder given before all e f h k =
     (before, own, found)
 
 -- The dictionaries of a run whose arguments name no folder.
-pub found_in_usual : (bytes_of : List ℕ → Option (Option (List ℕ))) (args : ParsedArgs) (usual : List (List ℕ))
+pub found_in_usual : (bytes_of : List ℕ → Option (Option (List ℕ))) (args : ParsedOptions) (usual : List (List ℕ))
     (given : List GivenDictionary) (before all : List LanguageDictionary) → args.given ≡ map parsed_dictionary given → args.folder ≡ None
     → AreGiven bytes_of (map parsed_dictionary given) before → AddsFound bytes_of usual before all → AreDictionariesFor bytes_of args usual all
 found_in_usual bytes_of args usual given before all e f h k =
@@ -51,7 +51,7 @@ found_in_usual bytes_of args usual given before all e f h k =
     (before, own, found)
 
 -- No dictionary but the given ones.
-pub given_only : (bytes_of : List ℕ → Option (Option (List ℕ))) (args : ParsedArgs) (usual : List (List ℕ))
+pub given_only : (bytes_of : List ℕ → Option (Option (List ℕ))) (args : ParsedOptions) (usual : List (List ℕ))
     (given : List GivenDictionary) (all : List LanguageDictionary) → args.given ≡ map parsed_dictionary given
     → AreGiven bytes_of (map parsed_dictionary given) all → AreDictionariesFor bytes_of args usual all
 given_only bytes_of args usual given all e h =

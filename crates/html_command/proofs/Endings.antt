@@ -1,54 +1,80 @@
--- How the program ends where a run failed.
-use Rattle.std.proofs.Common.{◌≡◌, ℕ, List, refl, sym, subst, inl, inr, arith}
-use Rattle.std.specs.Prelude.{Option, None, Some, IfSome}
-use Rattle.html_command.specs.Arguments.{ParsedArgs}
-use Rattle.html_command.specs.Written.{EndsFor, IsRunStatus, JudgedAs}
-use Rattle.html_command.specs.Private.Statuses.{FailsOfPage}
+-- How the program ends.
+use Rattle.std.proofs.Common.{◌≡◌, ℕ, true, List, Option, Ok, Err, refl, sym, subst, inl, inr}
+use Rattle.std.specs.Borrow.{Bor}
+use Rattle.std.specs.Prelude.{◌⊎◌, IfErr, Result}
+use Rattle.command_line.specs.Dictionaries.{KnownFiles}
 use Rattle.command_line.specs.Failures.{status_of}
+use Rattle.command_line.specs.Options.{RefusedArgument, expectation}
 use Rattle.command_line.specs.declared.failure.Failure.{Failure}
 use Rattle.command_line.specs.declared.failure.Failure.TheVariants as failed
-use Rattle.command_line.specs.declared.failure.Refusal.TheVariants.{NotUtf8, LongParagraph}
+use Rattle.command_line.specs.declared.options.Expected.{Expected}
+use Rattle.command_line.specs.declared.options.OptionForm.{OptionForm}
+use Rattle.hyphenation_load.specs.Load.{AppendsTo}
+use Rattle.replaced_files.specs.Files.{WrittenFiles, WritesFiles}
+use Rattle.html_command.specs.Arguments.{ParsedArgs, IsParsed, language_words, names_of, option_names, parsed_by}
+use Rattle.html_command.specs.Written.{AreResults, EndsFor, IsFailureBefore, names_files_alone}
+use Rattle.text_results.specs.Written.{IsFailureFor, IsFailureOfWriting, WritesResults, files_of, output_of}
 
-is_status : (failure : Failure) → IsRunStatus (status_of failure)
-is_status (failed.Dictionary path cause) = inr (inl refl)
-is_status (failed.NoDictionary language) = inr (inl refl)
-is_status (failed.Refused input cause) = inr (inr (inl refl))
-is_status (failed.Reading input) = inr (inr (inr (inl refl)))
-is_status (failed.Writing output) = inr (inr (inr (inl refl)))
-is_status failed.Output = inr (inr (inr (inl refl)))
-is_status failed.Memory = inr (inr (inr (inr refl)))
+pub ends_done : {W S : Type 0} (parsed : Result ParsedArgs RefusedArgument) (args : ParsedArgs) (bytes_of : KnownFiles) (usual : List (List ℕ)) (left : Option (List ℕ))
+    (contents : W → Option (List ℕ)) (old new : W) (written : S → Option WrittenFiles) (old_files new_files : S) → parsed ≡ Ok args
+    → WritesResults (AreResults args bytes_of usual left) args.options.target args.inputs contents old new written old_files new_files
+    → EndsFor parsed bytes_of usual left 0 contents old new written old_files new_files
+ends_done parsed args bytes_of usual left contents old new written old_files new_files e writes =
+    subst (λ (p : Result ParsedArgs RefusedArgument). EndsFor p bytes_of usual left 0 contents old new written old_files new_files) (sym e) (inl (refl, writes))
 
-is_not_done : (failure : Failure) → status_of failure ≡ 0 → ⊥
-is_not_done (failed.Dictionary path cause) e = omega (arith, e)
-is_not_done (failed.NoDictionary language) e = omega (arith, e)
-is_not_done (failed.Refused input cause) e = omega (arith, e)
-is_not_done (failed.Reading input) e = omega (arith, e)
-is_not_done (failed.Writing output) e = omega (arith, e)
-is_not_done failed.Output e = omega (arith, e)
-is_not_done failed.Memory e = omega (arith, e)
+pub ends_by : {W S : Type 0} (parsed : Result ParsedArgs RefusedArgument) (args : ParsedArgs) (bytes_of : KnownFiles) (usual : List (List ℕ)) (left : Option (List ℕ))
+    (status : ℕ) (failure : Failure) (contents : W → Option (List ℕ)) (old new : W) (written : S → Option WrittenFiles) (old_files new_files : S) → parsed ≡ Ok args
+    → status ≡ status_of failure → IsFailureFor (AreResults args bytes_of usual left) (IsFailureBefore args bytes_of usual left) args.options.target args.inputs written old_files new_files failure → ((failure ≡ failed.Output) ⊎ (new ≡ old))
+    → EndsFor parsed bytes_of usual left status contents old new written old_files new_files
+ends_by parsed args bytes_of usual left status failure contents old new written old_files new_files e s fails kept =
+    subst (λ (p : Result ParsedArgs RefusedArgument). EndsFor p bytes_of usual left status contents old new written old_files new_files) (sym e) (inr (failure, s, fails, kept))
 
-is_judged : (failure : Failure) (page : List ℕ) → FailsOfPage page failure → JudgedAs (status_of failure) page
-is_judged (failed.Dictionary path cause) page h = (λ e. absurd (omega (arith, e)), λ e. absurd (omega (arith, e)))
-is_judged (failed.NoDictionary language) page h = absurd h
-is_judged (failed.Refused input (NotUtf8 valid line)) page h = (λ e. absurd (omega (arith, e)), λ e. h.0)
-is_judged (failed.Refused input LongParagraph) page h = absurd h
-is_judged (failed.Reading input) page h = (λ e. absurd (omega (arith, e)), λ e. absurd (omega (arith, e)))
-is_judged (failed.Writing output) page h = absurd h
-is_judged failed.Output page h = (λ e. absurd (omega (arith, e)), λ e. absurd (omega (arith, e)))
-is_judged failed.Memory page h = (λ e. absurd (omega (arith, e)), λ e. absurd (omega (arith, e)))
+pub ends_refused : {W S : Type 0} (parsed : Result ParsedArgs RefusedArgument) (refusal : RefusedArgument) (bytes_of : KnownFiles) (usual : List (List ℕ)) (left : Option (List ℕ))
+    (status : ℕ) (contents : W → Option (List ℕ)) (old : W) (written : S → Option WrittenFiles) (old_files : S) → parsed ≡ Err refusal → status ≡ 2
+    → EndsFor parsed bytes_of usual left status contents old old written old_files old_files
+ends_refused parsed refusal bytes_of usual left status contents old written old_files e two =
+    subst (λ (p : Result ParsedArgs RefusedArgument). EndsFor p bytes_of usual left status contents old old written old_files old_files) (sym e) (inl two, refl)
 
-judged : {W : Type 0} (args : ParsedArgs) (bytes_of : List ℕ → Option (Option (List ℕ))) (usual : List (List ℕ)) (failure : Failure) (input : Option (List ℕ))
-    (contents : W → Option (List ℕ)) (old new : W) → IfSome input (λ page. FailsOfPage page failure)
-    → EndsFor (Some args) bytes_of usual (status_of failure) input contents old new
-judged args bytes_of usual failure None contents old new h = (is_status failure, tt)
-judged args bytes_of usual failure (Some page) contents old new h =
-    (is_status failure, (is_judged failure page h, λ e. absurd (is_not_done failure e)))
+pub ends_no_memory : {W S : Type 0} (parsed : Result ParsedArgs RefusedArgument) (bytes_of : KnownFiles) (usual : List (List ℕ)) (left : Option (List ℕ))
+    (status : ℕ) (contents : W → Option (List ℕ)) (old : W) (written : S → Option WrittenFiles) (old_files : S) → status ≡ 6
+    → EndsFor parsed bytes_of usual left status contents old old written old_files old_files
+ends_no_memory (Ok args) bytes_of usual left status contents old written old_files six = inr (failed.Memory, six, inl (tt, refl), inr refl)
+ends_no_memory (Err refusal) bytes_of usual left status contents old written old_files six = (inr six, refl)
 
-pub ended_by_failure : {W : Type 0} (parsed : Option ParsedArgs) (args : ParsedArgs) (bytes_of : List ℕ → Option (Option (List ℕ))) (usual : List (List ℕ)) (failure : Failure) (status : ℕ)
-    (input : Option (List ℕ)) (contents : W → Option (List ℕ)) (old new : W) → parsed ≡ Some args
-    → status ≡ status_of failure → IfSome input (λ page. FailsOfPage page failure)
-    → EndsFor parsed bytes_of usual status input contents old new
-ended_by_failure parsed args bytes_of usual failure status input contents old new e s h =
-    subst (λ parsed. EndsFor parsed bytes_of usual status input contents old new) (sym e)
-    (subst (λ status. EndsFor (Some args) bytes_of usual status input contents old new) (sym s)
-    (judged args bytes_of usual failure input contents old new h))
+-- The options are those of the program.
+pub parsed_ends : {W S I : Type 0} (args : List (Bor (List ℕ))) (expected : Expected) (forms : List OptionForm) (bytes_of : KnownFiles) (usual : List (List ℕ)) (left : Option (List ℕ)) (before after : I)
+    (status : ℕ) (contents : W → Option (List ℕ)) (old new : W) (written : S → Option WrittenFiles) (old_files new_files : S) → expectation expected ≡ language_words → names_of forms ≡ option_names
+    → EndsFor (parsed_by expected forms args) bytes_of usual left status contents old new written old_files new_files
+    → (names_files_alone (parsed_by expected forms args) ≡ true → after ≡ before)
+    → (parsed : Result ParsedArgs RefusedArgument) × IsParsed args parsed
+    × EndsFor parsed bytes_of usual left status contents old new written old_files new_files × (names_files_alone parsed ≡ true → after ≡ before)
+parsed_ends args expected forms bytes_of usual left before after status contents old new written old_files new_files words names ends unread =
+    (parsed_by expected forms args, (expected, forms, words, names, refl), ends, unread)
+
+-- The results of a run, as they are handed on to be written.
+pub writes_so : {W S : Type 0} (args : ParsedArgs) (bytes_of : KnownFiles) (usual : List (List ℕ)) (left : Option (List ℕ))
+    (contents : W → Option (List ℕ)) (old new : W) (written : S → Option WrittenFiles) (old_files new_files : S) (names given results : List (List ℕ))
+    → names ≡ args.inputs → given ≡ results → AreResults args bytes_of usual left results
+    → AppendsTo contents old new (output_of args.options.target given)
+    → WritesFiles (written old_files) (written new_files) (files_of args.options.target names given)
+    → WritesResults (AreResults args bytes_of usual left) args.options.target args.inputs contents old new written old_files new_files
+writes_so args bytes_of usual left contents old new written old_files new_files names given results n r are output files = (
+  given,
+  subst (λ (rs : List (List ℕ)). AreResults args bytes_of usual left rs) (sym r) are,
+  output,
+  subst (λ (ns : List (List ℕ)). WritesFiles (written old_files) (written new_files) (files_of args.options.target ns given)) n files,
+)
+
+pub fails_so : {S A : Type 0} (args : ParsedArgs) (bytes_of : KnownFiles) (usual : List (List ℕ)) (left : Option (List ℕ))
+    (written : S → Option WrittenFiles) (old_files new_files : S) (names given results : List (List ℕ)) (error returned : Failure) (result : Result A Failure)
+    → names ≡ args.inputs → given ≡ results → AreResults args bytes_of usual left results
+    → IsFailureOfWriting args.options.target names given (written old_files) (written new_files) error → result ≡ Err returned → returned ≡ error
+    → IfErr result (IsFailureFor (AreResults args bytes_of usual left) (IsFailureBefore args bytes_of usual left) args.options.target args.inputs written old_files new_files)
+fails_so {S} {A} args bytes_of usual left written old_files new_files names given results error returned result n r are fails gives same =
+    let P : Failure → Type 0 = IsFailureFor (AreResults args bytes_of usual left) (IsFailureBefore args bytes_of usual left) args.options.target args.inputs written old_files new_files in
+    let so : P error = inr (
+      given,
+      subst (λ (rs : List (List ℕ)). AreResults args bytes_of usual left rs) (sym r) are,
+      subst (λ (ns : List (List ℕ)). IsFailureOfWriting args.options.target ns given (written old_files) (written new_files) error) n fails,
+    ) in
+    subst (λ (o : Result A Failure). IfErr o P) (sym gives) (subst (λ (e : Failure). P e) (sym same) so)

@@ -1,13 +1,18 @@
 -- How the program `hyphenate-html` reads its arguments.
-use Rattle.std.specs.Prelude.{ℕ, ◌+◌, ◌==◌, Bool, true, false, List, [], ◌∷◌, ◌++◌, codes, map, take, drop, if◌then◌else◌, Option, Some, None, option_map, option_and_then, position}
+use Rattle.std.specs.Prelude.{◌≡◌, ℕ, ◌+◌, ◌==◌, Bool, true, false, List, [], ◌∷◌, ◌++◌, codes, map, take, drop, if◌then◌else◌, Option, Some, None, option_and_then, position, Result, Ok, Err, unwrap_or}
 use Rattle.std.specs.Borrow.{Bor}
+use Rattle.command_line.specs.Options.{GivenOption, ReadArguments, RefusedArgument, refused, after_step, read_arguments, is_given, last_value, values_of, number_given, expectation}
+use Rattle.command_line.specs.declared.options.Expected.{Expected}
+use Rattle.command_line.specs.declared.options.OptionForm.{OptionForm}
+use Rattle.hyphenation_breaks.specs.Borrowed.{texts_now}
 use Rattle.hyphenation_breaks.specs.Language.{is_code}
-use Rattle.hyphenation_grammar.specs.Lines.{is_same, number_of}
+use Rattle.hyphenation_html.specs.Laws.{soft_hyphen}
+use Rattle.text_results.specs.Targets.{Target, target_of, names_for}
 
--- Arguments: the codes of languages with the paths of their dictionaries; the folder in which others are searched, if one
+-- The options: the codes of languages with the paths of their dictionaries; the folder in which others are searched, if one
 -- is given; the language of text for which the page names none; the mark; the class of elements that are left alone; the
--- least number of characters of a word; whether words with a first capital are left alone.
-pub record ParsedArgs : Type 0 where
+-- least number of characters of a word; whether words with a first capital are left alone; where results go.
+pub record ParsedOptions : Type 0 where
   pub given : List (List ℕ × List ℕ)
   pub folder : Option (List ℕ)
   pub language : List ℕ
@@ -15,18 +20,12 @@ pub record ParsedArgs : Type 0 where
   pub class : List ℕ
   pub min_word : ℕ
   pub skip_capitals : Bool
+  pub target : Target
 
--- Without any option: the soft hyphen, and no word is too short.
-abbrev pub no_options : ParsedArgs
-no_options = record {
-  given = [];
-  folder = None;
-  language = [];
-  mark = 0xC2 ∷ 0xAD ∷ [];
-  class = codes "donthyphenate";
-  min_word = 0;
-  skip_capitals = false;
-}
+-- Arguments: the options, and the names of the pages.
+pub record ParsedArgs : Type 0 where
+  pub options : ParsedOptions
+  pub inputs : List (List ℕ)
 
 -- The code and the path of `CODE=PATH`, which is cut at its first `=`; none where there is no such sign, or no code.
 abbrev pub code_and_path : List ℕ → Option (List ℕ × List ℕ)
@@ -34,37 +33,77 @@ code_and_path text = option_and_then
     (λ at. if is_code (take at text) then Some (take at text, drop (at + 1) text) else None)
     (position (λ b. b == 61) text)
 
--- Arguments with one more dictionary; none where the text is not of the form `CODE=PATH`.
-abbrev pub with_dictionary : ParsedArgs → List ℕ → Option ParsedArgs
-with_dictionary args text = option_map (λ one. record args { given = args.given ++ one ∷ [] }) (code_and_path text)
+-- A dictionary, or the refusal of the value of `--lang` that gives none, with the expectation that it does not meet.
+abbrev pub dictionary_or_refused : Expected → List ℕ → Option (List ℕ × List ℕ) → Result (List ℕ × List ℕ) RefusedArgument
+dictionary_or_refused expected value (Some one) = Ok one
+dictionary_or_refused expected value None = Err (refused (codes "--lang") (Some value) expected)
 
--- Arguments with that least number of characters of a word; none where the text is no number.
-abbrev pub with_min_word : ParsedArgs → List ℕ → Option ParsedArgs
-with_min_word args text = option_map (λ least. record args { min_word = least }) (number_of text)
+-- Dictionaries after some others, by values of `--lang`. The first that is refused decides.
+abbrev pub dictionaries_after : Expected → List (List ℕ × List ℕ) → List (List ℕ) → Result (List (List ℕ × List ℕ)) RefusedArgument
+dictionaries_after expected so_far [] = Ok so_far
+dictionaries_after expected so_far (value ∷ values) =
+    after_step (λ one. dictionaries_after expected (so_far ++ one ∷ []) values)
+    (dictionary_or_refused expected value (code_and_path value))
 
--- Arguments with one more option, which has a value; none where there is no such option, or the value is none for it.
--- Dictionaries come one after the other. The last value of any other option counts.
-unfoldable pub with_option : ParsedArgs → List ℕ → List ℕ → Option ParsedArgs
-with_option args option value =
-    if is_same option (codes "--lang") then with_dictionary args value
-    else (if is_same option (codes "--dictionaries") then Some (record args { folder = Some value })
-    else (if is_same option (codes "--language") then Some (record args { language = value })
-    else (if is_same option (codes "--mark") then Some (record args { mark = value })
-    else (if is_same option (codes "--class") then Some (record args { class = value })
-    else (if is_same option (codes "--min-word") then with_min_word args value
-    else None)))))
+-- The dictionaries that values of `--lang` give, in their order.
+abbrev pub dictionaries_of : Expected → List (List ℕ) → Result (List (List ℕ × List ℕ)) RefusedArgument
+dictionaries_of expected values = dictionaries_after expected [] values
 
--- Arguments with those of a command line, in their order: `--skip-capitals` stands alone, and any other option has the
--- next one as its value. An option may wait for that.
-abbrev pub with_args : ParsedArgs → Option (List ℕ) → List (List ℕ) → Option ParsedArgs
-with_args args None [] = Some args
-with_args args (Some option) [] = None
-with_args args None (option ∷ rest) =
-    if is_same option (codes "--skip-capitals") then with_args (record args { skip_capitals = true }) None rest
-    else with_args args (Some option) rest
-with_args args (Some option) (value ∷ rest) =
-    option_and_then (λ args. with_args args None rest) (with_option args option value)
+-- The options with these dictionaries, by those that are given. The last of those of one name counts. The first that is
+-- refused decides, in this order.
+abbrev pub options_with : List (List ℕ × List ℕ) → List GivenOption → Result ParsedOptions RefusedArgument
+options_with dictionaries given =
+    after_step (λ min_word. after_step (λ target. Ok (record {
+      given = dictionaries;
+      folder = last_value (codes "--dictionaries") given;
+      language = unwrap_or (last_value (codes "--language") given) [];
+      mark = unwrap_or (last_value (codes "--mark") given) soft_hyphen;
+      class = unwrap_or (last_value (codes "--class") given) (codes "donthyphenate");
+      min_word = min_word;
+      skip_capitals = is_given (codes "--skip-capitals") given;
+      target = target;
+    }))
+    (target_of given))
+    (number_given (codes "--min-word") 0 65535 0 given)
 
--- All arguments. None if they have no such form.
-abbrev pub parsed_args : List (Bor (List ℕ)) → Option ParsedArgs
-parsed_args args = with_args no_options None (map (λ arg. arg.now) args)
+-- The dictionaries that options give, each by a `--lang`.
+abbrev pub dictionaries_given : Expected → List GivenOption → Result (List (List ℕ × List ℕ)) RefusedArgument
+dictionaries_given expected given = dictionaries_of expected (values_of (codes "--lang") given)
+
+-- The options by those that are given.
+abbrev pub options_of : Expected → List GivenOption → Result ParsedOptions RefusedArgument
+options_of expected given =
+    after_step (λ dictionaries. options_with dictionaries given) (dictionaries_given expected given)
+
+-- The arguments of options and the names of pages.
+abbrev pub args_of : ParsedOptions → List (List ℕ) → Result ParsedArgs RefusedArgument
+args_of options names =
+    after_step (λ inputs. Ok (record { options = options; inputs = inputs })) (names_for options.target names)
+
+-- Arguments that are read. Each operand names a page.
+abbrev pub args_as_read : Expected → ReadArguments → Result ParsedArgs RefusedArgument
+args_as_read expected read = after_step (λ options. args_of options read.operands) (options_of expected read.given)
+
+-- All arguments by the forms of options, or the first that is refused.
+abbrev pub parsed_by : Expected → List OptionForm → List (Bor (List ℕ)) → Result ParsedArgs RefusedArgument
+parsed_by expected forms args = after_step (args_as_read expected) (read_arguments forms (texts_now args))
+
+-- The names of options, each with whether it takes a value.
+abbrev pub names_of : List OptionForm → List (List ℕ × Bool)
+names_of forms = map (λ form. (form.name.now, form.takes_value)) forms
+
+-- The options of the program.
+abbrev pub option_names : List (List ℕ × Bool)
+option_names =
+    (codes "--lang", true) ∷ (codes "--dictionaries", true) ∷ (codes "--language", true) ∷ (codes "--mark", true)
+    ∷ (codes "--class", true) ∷ (codes "--min-word", true) ∷ (codes "--skip-capitals", false) ∷ (codes "--output", true)
+    ∷ (codes "--in-place", false) ∷ []
+
+-- The expectation that a value of `--lang` does not meet, by its words.
+abbrev pub language_words : List ℕ
+language_words = codes "not of the form CODE=PATH"
+
+-- Arguments are parsed so, by the options of the program: as these arguments, or as the first one that is refused.
+abbrev pub IsParsed : List (Bor (List ℕ)) → Result ParsedArgs RefusedArgument → Type 0
+IsParsed args parsed = (expected : Expected) × (forms : List OptionForm) × (expectation expected ≡ language_words)
+    × (names_of forms ≡ option_names) × (parsed ≡ parsed_by expected forms args)

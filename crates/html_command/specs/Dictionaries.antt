@@ -1,13 +1,15 @@
 -- The dictionaries of a run.
-use Rattle.std.specs.Prelude.{◌≡◌, ◌≢◌, ℕ, List, [], ◌∷◌, ◌++◌, map, None, Some}
+use Rattle.std.specs.Prelude.{◌≡◌, ◌≢◌, ◌⊎◌, ℕ, List, [], ◌∷◌, ◌++◌, map, Contains, None, Some, ⊤}
 use Rattle.std.specs.List.{All, AllZip}
 use Rattle.std.specs.Option.{option_map_or}
 use Rattle.std.specs.String.{string_bytes}
-use Rattle.command_line.specs.Dictionaries.{KnownFiles, IsOfFile, IsOfFirst}
+use Rattle.command_line.specs.Dictionaries.{KnownFiles, IsOfFile, IsOfFirst, IsRefusedFile}
+use Rattle.command_line.specs.declared.failure.Failure.{Failure}
+use Rattle.command_line.specs.declared.failure.Failure.TheVariants as failed
 use Rattle.hyphenation_breaks.specs.Language.{IsCode}
 use Rattle.hyphenation_html.specs.declared.languages.LanguageDictionary.{LanguageDictionary}
 use Rattle.language_search.specs.Paths.{paths_of_code}
-use Rattle.html_command.specs.Arguments.{ParsedArgs}
+use Rattle.html_command.specs.Arguments.{ParsedOptions}
 
 -- The code of the language that a dictionary serves.
 abbrev pub code_of : LanguageDictionary → List ℕ
@@ -18,10 +20,10 @@ abbrev pub BeginsWith : List (List ℕ) → List (List ℕ) → Type 0
 BeginsWith all front = (rest : List (List ℕ)) × (all ≡ front ++ rest)
 
 -- The languages of a run begin with those that the arguments give. If they give one and no folder, there are no others.
-abbrev pub HasCodesOf : ParsedArgs → List (List ℕ) → Type 0
-HasCodesOf args codes =
-    BeginsWith codes (map (λ one. one.0) args.given)
-    × (args.given ≢ [] → args.folder ≡ None → codes ≡ map (λ one. one.0) args.given)
+abbrev pub HasCodesOf : ParsedOptions → List (List ℕ) → Type 0
+HasCodesOf options codes =
+    BeginsWith codes (map (λ one. one.0) options.given)
+    × (options.given ≢ [] → options.folder ≡ None → codes ≡ map (λ one. one.0) options.given)
 
 -- The dictionaries are those of the paths that the arguments give, in their order.
 abbrev pub AreGiven : KnownFiles → List (List ℕ × List ℕ) → List LanguageDictionary → Type 0
@@ -41,12 +43,24 @@ AddsFound bytes_of folders before all =
     (rest : List LanguageDictionary) × (all ≡ before ++ rest) × All (IsFoundIn bytes_of folders) rest
 
 -- The folders in which dictionaries are searched: that of the arguments, or else the usual ones.
-abbrev pub folders_for : ParsedArgs → List (List ℕ) → List (List ℕ)
-folders_for args usual = option_map_or (λ folder. folder ∷ []) args.folder usual
+abbrev pub folders_for : ParsedOptions → List (List ℕ) → List (List ℕ)
+folders_for options usual = option_map_or (λ folder. folder ∷ []) options.folder usual
 
 -- The dictionaries of a run: those of the paths that the arguments give, and then those that the folders have.
-abbrev pub AreDictionariesFor : KnownFiles → ParsedArgs → List (List ℕ) → List LanguageDictionary
+abbrev pub AreDictionariesFor : KnownFiles → ParsedOptions → List (List ℕ) → List LanguageDictionary
     → Type 0
-AreDictionariesFor bytes_of args usual all =
-    (given : List LanguageDictionary) × AreGiven bytes_of args.given given
-    × AddsFound bytes_of (folders_for args usual) given all
+AreDictionariesFor bytes_of options usual all =
+    (given : List LanguageDictionary) × AreGiven bytes_of options.given given
+    × AddsFound bytes_of (folders_for options usual) given all
+
+-- A dictionary is looked for at this path: the arguments give it, or it is one that folders have for the code of a
+-- language.
+abbrev pub IsPathFor : List (List ℕ × List ℕ) → List (List ℕ) → List ℕ → Type 0
+IsPathFor given folders path = Contains (map (λ one. one.1) given) path
+    ⊎ ((code : List ℕ) × IsCode code × Contains (paths_of_code folders code) path)
+
+-- The dictionaries of a run fail so: one is refused that is looked for at such a path, or memory was refused.
+abbrev pub IsRefusedFor : KnownFiles → ParsedOptions → List (List ℕ) → Failure → Type 0
+IsRefusedFor bytes_of options usual failed.Memory = ⊤
+IsRefusedFor bytes_of options usual failure = (path : List ℕ)
+    × IsPathFor options.given (folders_for options usual) path × IsRefusedFile (bytes_of path) path failure

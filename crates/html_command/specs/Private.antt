@@ -1,3 +1,3 @@
 -- Definitions for private functions and proofs. No contract of a public call cites them, so they are not for signing.
 pub mod Requests
-pub mod Statuses
+pub mod Runs

@@ -1,66 +1,94 @@
--- The output and the statuses of the program `hyphenate-html`.
-use Rattle.std.specs.Prelude.{◌≡◌, ◌⊎◌, ℕ, List, map, Option, None, Some, IfSome, IsUtf8}
+-- The results and the statuses of the program `hyphenate-html`.
+use Rattle.std.specs.Prelude.{◌≡◌, ℕ, Bool, not, true, List, map, Option, None, Result, Ok, Err, ⊤}
 use Rattle.std.specs.Borrow.{Bor}
+use Rattle.std.specs.List.{AllZip, list_any}
 use Rattle.command_line.specs.About.{help_or_version}
+use Rattle.command_line.specs.Dictionaries.{KnownFiles}
+use Rattle.command_line.specs.Inputs.{is_standard_input, AreTextsOf}
+use Rattle.command_line.specs.Options.{RefusedArgument}
 use Rattle.command_line.specs.declared.TheConstants.{VERSION}
-use Rattle.hyphenation_load.specs.Load.{AppendsTo}
+use Rattle.command_line.specs.declared.failure.Failure.{Failure}
+use Rattle.command_line.specs.declared.failure.Failure.TheVariants as failed
 use Rattle.hyphenation_html.specs.Laws.{IsPageWithMarks, soft_hyphen}
 use Rattle.hyphenation_html.specs.Places.{marked_page, IsDone}
 use Rattle.hyphenation_html.specs.declared.languages.LanguageDictionary.{LanguageDictionary}
 use Rattle.hyphenation_html.specs.declared.settings.Settings.{Settings}
+use Rattle.replaced_files.specs.Files.{WrittenFiles}
+use Rattle.text_results.specs.Texts.{IsFailureAmong}
+use Rattle.text_results.specs.Written.{Ends, EndsRefused}
 use Rattle.html_command.specs.declared.TheConstants.{NAME, USAGE}
-use Rattle.html_command.specs.Arguments.{ParsedArgs, parsed_args}
-use Rattle.html_command.specs.Dictionaries.{code_of, AreDictionariesFor, HasCodesOf}
+use Rattle.html_command.specs.Arguments.{ParsedArgs, ParsedOptions, IsParsed}
+use Rattle.html_command.specs.Dictionaries.{code_of, AreDictionariesFor, HasCodesOf, IsRefusedFor}
 
 -- The text that the arguments ask for by `--help` or `--version`, if they do.
 abbrev pub asked_text : List (Bor (List ℕ)) → Option (List ℕ)
 asked_text args = help_or_version NAME.now VERSION.now USAGE.now args
 
--- The settings are those of the arguments.
-abbrev pub HasSettingsOf : ParsedArgs → Settings → Type 0
-HasSettingsOf args settings = (settings.mark.now ≡ args.mark) × (settings.class.now ≡ args.class)
-    × (settings.min_word ≡ args.min_word) × (settings.skip_capitals ≡ args.skip_capitals)
+-- ---- results
+
+-- The settings are those of the options.
+abbrev pub HasSettingsOf : ParsedOptions → Settings → Type 0
+HasSettingsOf options settings = (settings.mark.now ≡ options.mark) × (settings.class.now ≡ options.class)
+    × (settings.min_word ≡ options.min_word) × (settings.skip_capitals ≡ options.skip_capitals)
 
 -- A text is the page with the mark at each break of its words, by some dictionaries. Their languages begin with those of
 -- the arguments. They are those of the paths that the arguments give, and then those that the folders have for codes of
 -- languages. Without the marks it is the page, byte for byte. With soft hyphens it is done: read in the form of the
 -- page, no place is left.
-pub record IsHyphenatedPage (args : ParsedArgs) (bytes_of : List ℕ → Option (Option (List ℕ))) (usual : List (List ℕ)) (page text : List ℕ) : Type 0 where
+pub record IsHyphenatedPage (options : ParsedOptions) (bytes_of : KnownFiles) (usual : List (List ℕ)) (page text : List ℕ) : Type 0 where
   pub settings : Settings
   pub dictionaries : List LanguageDictionary
-  pub of_args : HasSettingsOf args settings
-  pub codes : HasCodesOf args (map code_of dictionaries)
-  pub files : AreDictionariesFor bytes_of args usual dictionaries
-  pub marked : text ≡ marked_page settings dictionaries args.language page
-  pub kept : IsPageWithMarks args.mark page text
-  pub twice : args.mark ≡ soft_hyphen → IsDone settings dictionaries args.language page text
+  pub of_options : HasSettingsOf options settings
+  pub codes : HasCodesOf options (map code_of dictionaries)
+  pub files : AreDictionariesFor bytes_of options usual dictionaries
+  pub marked : text ≡ marked_page settings dictionaries options.language page
+  pub kept : IsPageWithMarks options.mark page text
+  pub twice : options.mark ≡ soft_hyphen → IsDone settings dictionaries options.language page text
 
--- Such a text was appended.
-abbrev pub WritesPage : {W : Type 0} → ParsedArgs → (List ℕ → Option (Option (List ℕ))) → List (List ℕ) → List ℕ
-    → (W → Option (List ℕ)) → W → W → Type 0
-WritesPage args bytes_of usual page contents old new =
-    (text : List ℕ) × IsHyphenatedPage args bytes_of usual page text × AppendsTo contents old new text
+-- Each of some pages has its result.
+abbrev pub AreHyphenated : ParsedOptions → KnownFiles → List (List ℕ) → List (List ℕ) → List (List ℕ) → Type 0
+AreHyphenated options bytes_of usual pages results = AllZip (IsHyphenatedPage options bytes_of usual) pages results
 
--- The statuses of a run.
--- 0: done. 3: a dictionary can't be opened, read or accepted. 4: the page is not UTF-8. 5: the page can't be read, or the
--- result can't be written. 6: memory was refused.
-abbrev pub IsRunStatus : ℕ → Type 0
-IsRunStatus status = (status ≡ 0) ⊎ (status ≡ 3) ⊎ (status ≡ 4) ⊎ (status ≡ 5) ⊎ (status ≡ 6)
+-- Results of arguments: those of the pages that they name, in their order, each by its own dictionaries.
+abbrev pub AreResults : ParsedArgs → KnownFiles → List (List ℕ) → Option (List ℕ) → List (List ℕ) → Type 0
+AreResults args bytes_of usual left results = (pages : List (List ℕ))
+    × AreTextsOf bytes_of left args.inputs pages × AreHyphenated args.options bytes_of usual pages results
 
--- A run is done only with a page that is UTF-8, and a page is refused as not UTF-8 only if it is not.
-abbrev pub JudgedAs : ℕ → List ℕ → Type 0
-JudgedAs status page = (status ≡ 0 → IsUtf8 page) × (status ≡ 4 → ¬ (IsUtf8 page))
+-- ---- failures
 
--- How the program ends. Without arguments of the usage the status is 2, or memory was refused. Else it is that of a run.
--- If the bytes of the page are known, it is judged so, and with status 0 it was written with its marks.
-abbrev pub EndsFor : {W : Type 0} → Option ParsedArgs → (List ℕ → Option (Option (List ℕ))) → List (List ℕ) → ℕ
-    → Option (List ℕ) → (W → Option (List ℕ)) → W → W → Type 0
-EndsFor None bytes_of usual status input contents old new = (status ≡ 2) ⊎ (status ≡ 6)
-EndsFor (Some args) bytes_of usual status input contents old new = IsRunStatus status
-    × IfSome input (λ page. JudgedAs status page × (status ≡ 0 → WritesPage args bytes_of usual page contents old new))
+-- The program fails so before it writes: a page is not read; or all are, and a dictionary is refused; or memory was refused.
+abbrev pub IsFailureBefore : ParsedArgs → KnownFiles → List (List ℕ) → Option (List ℕ) → Failure → Type 0
+IsFailureBefore args bytes_of usual left (failed.Refused input cause) =
+    IsFailureAmong bytes_of left args.inputs (failed.Refused input cause)
+IsFailureBefore args bytes_of usual left (failed.Reading input) =
+    IsFailureAmong bytes_of left args.inputs (failed.Reading input)
+IsFailureBefore args bytes_of usual left (failed.Dictionary path cause) =
+    ((pages : List (List ℕ)) × AreTextsOf bytes_of left args.inputs pages)
+    × IsRefusedFor bytes_of args.options usual (failed.Dictionary path cause)
+IsFailureBefore args bytes_of usual left failed.Memory = ⊤
+IsFailureBefore args bytes_of usual left _ = ⊥
 
--- If no help was asked for, the program ends so for its arguments.
-abbrev pub EndsUnlessAsked : {W : Type 0} → List (Bor (List ℕ)) → (List ℕ → Option (Option (List ℕ))) → List (List ℕ) → ℕ
-    → Option (List ℕ) → (W → Option (List ℕ)) → W → W → Type 0
-EndsUnlessAsked args bytes_of usual status input contents old new =
-    asked_text args ≡ None → EndsFor (parsed_args args) bytes_of usual status input contents old new
+-- ---- how the program ends
+
+-- How the program ends for its arguments: one is refused, or the results of its pages are written or fail.
+abbrev pub EndsFor : {W S : Type 0} → Result ParsedArgs RefusedArgument → KnownFiles → List (List ℕ) → Option (List ℕ) → ℕ
+    → (W → Option (List ℕ)) → W → W → (S → Option WrittenFiles) → S → S → Type 0
+EndsFor (Err refused) bytes_of usual left status contents old new written old_files new_files =
+    EndsRefused status old_files new_files
+EndsFor (Ok args) bytes_of usual left status contents old new written old_files new_files =
+    Ends (AreResults args bytes_of usual left) (IsFailureBefore args bytes_of usual left) args.options.target args.inputs
+    status contents old new written old_files new_files
+
+-- Standard input is none of the pages of arguments, or one of the arguments is refused.
+abbrev pub names_files_alone : Result ParsedArgs RefusedArgument → Bool
+names_files_alone (Ok args) = not (list_any is_standard_input args.inputs)
+names_files_alone (Err refused) = true
+
+-- If no help was asked for, the program ends so for its arguments. Standard input is then as it was if it is none of the
+-- pages.
+abbrev pub EndsUnlessAsked : {W S I : Type 0} → List (Bor (List ℕ)) → KnownFiles → List (List ℕ) → (I → Option (List ℕ)) → I → I
+    → ℕ → (W → Option (List ℕ)) → W → W → (S → Option WrittenFiles) → S → S → Type 0
+EndsUnlessAsked args bytes_of usual remaining before after status contents old new written old_files new_files =
+    asked_text args ≡ None → (parsed : Result ParsedArgs RefusedArgument) × IsParsed args parsed
+    × EndsFor parsed bytes_of usual (remaining before) status contents old new written old_files new_files
+    × (names_files_alone parsed ≡ true → after ≡ before)

@@ -4,11 +4,12 @@ ghost use Rattle.std.specs.Prelude.{◌≡◌, ◌∷◌, ◌++◌, [], Contains
 ghost use Rattle.hyphenation_breaks.specs.Borrowed.{texts_now};
 ghost use Rattle.language_search.specs.Tags.{codes_of};
 ghost use Rattle.html_command.specs.Dictionaries.{code_of, BeginsWith, HasCodesOf, AreGiven, AddsFound, AreDictionariesFor, IsFoundIn};
-ghost use Rattle.html_command.specs.Private.Requests.{parsed_dictionary, parsed_request};
-ghost use Rattle.html_command.specs.Private.Statuses.{IsDictionaryFailure};
+ghost use Rattle.html_command.specs.Private.Requests.{parsed_dictionary, parsed_options};
+ghost use Rattle.html_command.specs.Private.Runs.{FailsOver, IsRefusedFound};
+ghost use Rattle.command_line.specs.Dictionaries.{IsRefusedAmong};
 
 use crate::languages::languages_of;
-use crate::request::{GivenDictionary, Request};
+use crate::request::{GivenDictionary, Options};
 use any_dictionary::AnyDictionary;
 use command_line::dictionaries::{load_file, load_first};
 use command_line::{Failure, NamedFiles};
@@ -40,7 +41,7 @@ fn push(all: &mut Vec<LanguageDictionary>, language: LanguageDictionary) -> Resu
 }
 
 // The dictionaries that the arguments give, in their order.
-#[tactic(auto, using(crate::proofs::Given::codes_of_given, crate::proofs::Refused::file_is_refused))]
+#[tactic(auto, using(crate::proofs::Given::codes_of_given, crate::proofs::Refused::given_is_refused))]
 fn load_given<F: NamedFiles>(
     files: &F,
     alloc: Global,
@@ -48,7 +49,8 @@ fn load_given<F: NamedFiles>(
 ) -> Result<Vec<LanguageDictionary>, Failure>
     ensures codes { IfOk result (λ all. map code_of all.items ≡ map (λ one. one.language) given.now) }
     ensures given { IfOk result (λ all. AreGiven (F.bytes files.now) (map parsed_dictionary given.now) all.items) }
-    ensures failure { IfErr result IsDictionaryFailure }
+    ensures failure { IfErr result
+        (IsRefusedAmong (F.bytes files.now) (map (λ one. one.path.now) given.now)) }
 {
     let mut all = Vec::new(alloc);
     for one in given {
@@ -65,7 +67,7 @@ fn has_code(all: &[LanguageDictionary], code: &str) -> bool {
 }
 
 // The dictionary of a code, from the folders.
-#[tactic(auto, using(crate::proofs::Refused::one_is_refused))]
+#[tactic(auto, using(crate::proofs::Refused::found_is_refused))]
 fn find_code<F: NamedFiles>(
     files: &F,
     alloc: Global,
@@ -74,7 +76,7 @@ fn find_code<F: NamedFiles>(
 ) -> Result<Option<LanguageDictionary>, Failure>
     ensures found { IfOk result (λ found. IfSome found (IsFoundIn (F.bytes files.now) (texts_now folders.now))) }
     ensures code { IfOk result (λ found. IfSome found (λ one. code_of one ≡ language.now)) }
-    ensures failure { IfErr result IsDictionaryFailure }
+    ensures failure { IfErr result (IsRefusedFound (F.bytes files.now) (texts_now folders.now)) }
 {
     language.invariant();
     let paths = paths_of_code(alloc, folders, language)?;
@@ -95,7 +97,7 @@ fn find_language<F: NamedFiles>(
 ) -> Result<Option<LanguageDictionary>, Failure>
     ensures found { IfOk result (λ found. IfSome found (IsFoundIn (F.bytes files.now) (texts_now folders.now))) }
     ensures code { IfOk result (λ found. IfSome found (λ language. Contains (codes_of tag.now) (code_of language))) }
-    ensures failure { IfErr result IsDictionaryFailure }
+    ensures failure { IfErr result (IsRefusedFound (F.bytes files.now) (texts_now folders.now)) }
 {
     let languages = codes_of(alloc, tag)?;
     for language in &languages {
@@ -120,7 +122,7 @@ fn add_found<F: NamedFiles>(
 ) -> Result<(), Failure>
     ensures added { OnOk result (BeginsWith (map code_of all.new.items) (map code_of all.old.items)) }
     ensures found { OnOk result (AddsFound (F.bytes files.now) (texts_now folders.now) all.old.items all.new.items) }
-    ensures failure { IfErr result IsDictionaryFailure }
+    ensures failure { IfErr result (IsRefusedFound (F.bytes files.now) (texts_now folders.now)) }
 {
     let Some(language) = find_language(files, alloc, folders, tag, all)? else {
         return Ok(());
@@ -141,7 +143,7 @@ fn add_named<F: NamedFiles>(
 ) -> Result<(), Failure>
     ensures added { OnOk result (BeginsWith (map code_of all.new.items) (map code_of all.old.items)) }
     ensures found { OnOk result (AddsFound (F.bytes files.now) (texts_now folders.now) all.old.items all.new.items) }
-    ensures failure { IfErr result IsDictionaryFailure }
+    ensures failure { IfErr result (IsRefusedFound (F.bytes files.now) (texts_now folders.now)) }
 {
     add_found(files, alloc, folders, language, all)?;
     let languages = languages_of(alloc, page)?;
@@ -155,26 +157,26 @@ fn add_named<F: NamedFiles>(
 ///
 /// These are searched in the folder that the arguments name, or else in these folders if no dictionary is given. Each is
 /// of a language that the page may name, or of the one that the arguments name for it.
-#[tactic(auto, using(crate::proofs::Beginnings::without_given, crate::proofs::Codes::found_in_usual))]
+#[tactic(auto, using(crate::proofs::Beginnings::without_given, crate::proofs::Codes::found_in_usual, crate::proofs::Refused::of_given, crate::proofs::Refused::of_found))]
 pub(crate) fn load_for_page<F: NamedFiles>(
     files: &F,
     alloc: Global,
-    request: &Request<'_>,
+    options: &Options<'_>,
     folders: &[&str],
     page: &str,
 ) -> Result<Vec<LanguageDictionary>, Failure>
-    ensures codes { IfOk result (λ all. HasCodesOf (parsed_request request.now) (map code_of all.items)) }
-    ensures dictionaries { IfOk result (λ all. AreDictionariesFor (F.bytes files.now) (parsed_request request.now)
+    ensures codes { IfOk result (λ all. HasCodesOf (parsed_options options.now) (map code_of all.items)) }
+    ensures dictionaries { IfOk result (λ all. AreDictionariesFor (F.bytes files.now) (parsed_options options.now)
         (texts_now folders.now) all.items) }
-    ensures failure { IfErr result IsDictionaryFailure }
+    ensures failure { IfErr result (FailsOver options.now (F.bytes files.now) folders.now) }
 {
-    let mut all = load_given(files, alloc, &request.given)?;
-    if let Some(folder) = request.folder {
-        add_named(files, alloc, &[folder], request.language, page, &mut all)?;
+    let mut all = load_given(files, alloc, &options.given)?;
+    if let Some(folder) = options.folder {
+        add_named(files, alloc, &[folder], options.language, page, &mut all)?;
         return Ok(all);
     }
-    if request.given.is_empty() {
-        add_named(files, alloc, folders, request.language, page, &mut all)?;
+    if options.given.is_empty() {
+        add_named(files, alloc, folders, options.language, page, &mut all)?;
         return Ok(all);
     }
     Ok(all)

@@ -1,13 +1,69 @@
 //! Parses the arguments of the program.
 
-ghost use Rattle.std.specs.Prelude.{◌≡◌, ◌==◌, IfOk, option_map, position};
-ghost use Rattle.html_command.specs.Arguments.{no_options, code_and_path, with_dictionary, with_min_word, with_option, parsed_args};
-ghost use Rattle.html_command.specs.Private.Requests.{parsed_dictionary, parsed_request, IsTaken};
+ghost use Rattle.std.specs.Prelude.{◌≡◌, ◌==◌, IfErr, IfOk, Ok, map, option_map, position};
+ghost use Rattle.hyphenation_breaks.specs.Borrowed.{texts_now};
+ghost use Rattle.command_line.specs.Options.{expectation};
+ghost use Rattle.command_line.specs.Reading.{as_read, given_options, IsReadError};
+ghost use Rattle.html_command.specs.Arguments.{names_of, option_names, code_and_path, dictionaries_of, dictionaries_given, language_words};
+ghost use Rattle.html_command.specs.Arguments.{options_with, options_of, args_of, args_as_read, parsed_by};
+ghost use Rattle.html_command.specs.Private.Requests.{parsed_dictionary, parsed_options, parsed_request, AreAsWanted};
 
+use command_line::options::{Arguments, BadArgument, Expected, OptionForm, ReadError, read};
 use hyphenation_breaks::language::Language;
-use hyphenation_grammar::number_of;
 use hyphenation_html::Settings;
-use std::alloc::{AllocError, Global};
+use std::alloc::Global;
+use text_results::targets::{Target, names_for, target_of};
+
+/// Returns the options of the program.
+pub fn option_forms() -> [OptionForm; 9]
+    ensures { names_of result ≡ option_names }
+{
+    [
+        OptionForm {
+            name: "--lang",
+            takes_value: true,
+        },
+        OptionForm {
+            name: "--dictionaries",
+            takes_value: true,
+        },
+        OptionForm {
+            name: "--language",
+            takes_value: true,
+        },
+        OptionForm {
+            name: "--mark",
+            takes_value: true,
+        },
+        OptionForm {
+            name: "--class",
+            takes_value: true,
+        },
+        OptionForm {
+            name: "--min-word",
+            takes_value: true,
+        },
+        OptionForm {
+            name: "--skip-capitals",
+            takes_value: false,
+        },
+        OptionForm {
+            name: "--output",
+            takes_value: true,
+        },
+        OptionForm {
+            name: "--in-place",
+            takes_value: false,
+        },
+    ]
+}
+
+/// Returns the expectation of a value of `--lang`.
+pub fn language_form() -> Expected
+    ensures { expectation result ≡ language_words }
+{
+    Expected::Form("CODE=PATH")
+}
 
 /// A dictionary that the arguments give.
 #[derive(Clone, Copy)]
@@ -18,9 +74,9 @@ pub struct GivenDictionary<'w> {
     pub path: &'w str,
 }
 
-/// The arguments as parsed.
+/// The options as parsed.
 #[derive(Drop)]
-pub struct Request<'w> {
+pub struct Options<'w> {
     /// The dictionaries that are given.
     pub given: Vec<GivenDictionary<'w>>,
     /// The folder in which others are searched, if one is given.
@@ -29,6 +85,17 @@ pub struct Request<'w> {
     pub language: &'w str,
     /// The mark, and which words are left alone.
     pub settings: Settings<'w>,
+    /// The place to which results go.
+    pub target: Target<'w>,
+}
+
+/// The arguments as parsed.
+#[derive(Drop)]
+pub struct Request<'w> {
+    /// The options.
+    pub options: Options<'w>,
+    /// The names of the pages.
+    pub inputs: Vec<&'w str>,
 }
 
 // The place of the first `=`.
@@ -39,7 +106,7 @@ fn first_equals_sign(text: &[u8]) -> Option<usize>
 }
 
 // The dictionary of `CODE=PATH`.
-#[tactic(auto, using(crate::proofs::Options::begins_at_sign, crate::proofs::Options::begins_after_sign))]
+#[tactic(auto, using(crate::proofs::EqualsSign::begins_at_sign, crate::proofs::EqualsSign::begins_after_sign))]
 fn given_dictionary(text: &str) -> Option<GivenDictionary<'_>>
     ensures { option_map parsed_dictionary result ≡ code_and_path text.now }
 {
@@ -50,91 +117,126 @@ fn given_dictionary(text: &str) -> Option<GivenDictionary<'_>>
     })
 }
 
-impl<'w> Request<'w> {
-    // The request without any option.
-    fn new(alloc: Global) -> Request<'w>
-        ensures { parsed_request result ≡ no_options }
-    {
-        Request {
-            given: Vec::new(alloc),
-            folder: None,
-            language: "",
-            settings: Settings::new(),
-        }
-    }
-
-    // Adds a dictionary. Returns whether the value has the form `CODE=PATH`.
-    fn add_dictionary(&mut self, value: &'w str) -> Result<bool, AllocError>
-        ensures { IfOk result (λ taken. IsTaken taken (with_dictionary (parsed_request self.old) value.now)
-            (parsed_request self.new)) }
-    {
-        let Some(given) = given_dictionary(value) else {
-            return Ok(false);
+// Returns the dictionaries that values of `--lang` give.
+fn dictionaries_of<'w>(
+    alloc: Global,
+    expected: &Expected,
+    values: &[&'w str],
+) -> Result<Vec<GivenDictionary<'w>>, ReadError<'w>>
+    ensures given { IfOk result (λ given.
+        dictionaries_of expected.now (texts_now values.now) ≡ Ok (map parsed_dictionary given.items)) }
+    ensures refused { IfErr result (IsReadError (dictionaries_of expected.now (texts_now values.now))) }
+{
+    let mut given = Vec::new(alloc);
+    for value in values {
+        let Some(one) = given_dictionary(*value) else {
+            return Err(ReadError::Bad(BadArgument {
+                argument: "--lang",
+                value: Some(*value),
+                expected: *expected,
+            }));
         };
-        if self.given.push(given).is_err() {
-            return Err(AllocError);
-        }
-        Ok(true)
-    }
-
-    // Takes the least number of characters of a word. Returns whether the value is a number.
-    fn set_min_word(&mut self, value: &str) -> bool
-        ensures { IsTaken result (with_min_word (parsed_request self.old) value.now) (parsed_request self.new) }
-    {
-        match number_of(value.as_bytes()) {
-            Some(least) => {
-                self.settings.min_word = least;
-                true
-            }
-            None => false,
+        if given.push(one).is_err() {
+            return Err(ReadError::Memory);
         }
     }
+    Ok(given)
+}
 
-    // Takes an option with its value. Returns whether there is such an option, and the value is one for it.
-    #[tactic(auto, unfolding(crate::specs::Arguments::with_option))]
-    fn set(&mut self, option: &str, value: &'w str) -> Result<bool, AllocError>
-        ensures { IfOk result (λ taken. IsTaken taken (with_option (parsed_request self.old) option.now value.now)
-            (parsed_request self.new)) }
-    {
-        match option {
-            "--lang" => return self.add_dictionary(value),
-            "--dictionaries" => self.folder = Some(value),
-            "--language" => self.language = value,
-            "--mark" => self.settings.mark = value,
-            "--class" => self.settings.class = value,
-            "--min-word" => return Ok(self.set_min_word(value)),
-            _ => return Ok(false),
-        }
-        Ok(true)
+// Returns the dictionaries that arguments give.
+fn dictionaries_given<'w>(
+    alloc: Global,
+    expected: &Expected,
+    arguments: &Arguments<'w>,
+) -> Result<Vec<GivenDictionary<'w>>, ReadError<'w>>
+    ensures given { IfOk result (λ given. dictionaries_given expected.now (given_options arguments.now)
+        ≡ Ok (map parsed_dictionary given.items)) }
+    ensures refused { IfErr result (IsReadError (dictionaries_given expected.now (given_options arguments.now))) }
+{
+    let values = arguments.all(alloc, "--lang")?;
+    dictionaries_of(alloc, expected, &values)
+}
+
+// Returns the options with these dictionaries, by those that are given.
+fn options_with<'w>(
+    given: Vec<GivenDictionary<'w>>,
+    arguments: &Arguments<'w>,
+) -> Result<Options<'w>, BadArgument<'w>>
+    ensures { AreAsWanted result (options_with (map parsed_dictionary given.entry.items) (given_options arguments.now)) }
+{
+    let min_word = arguments.number("--min-word", 0, 65535, 0)?;
+    let target = target_of(arguments)?;
+    let usual = Settings::new();
+    Ok(Options {
+        given,
+        folder: arguments.last("--dictionaries"),
+        language: arguments.last("--language").unwrap_or(""),
+        settings: Settings {
+            mark: arguments.last("--mark").unwrap_or(usual.mark),
+            class: arguments.last("--class").unwrap_or(usual.class),
+            min_word,
+            skip_capitals: arguments.has("--skip-capitals"),
+        },
+        target,
+    })
+}
+
+// Returns the options of arguments.
+fn options_of<'w>(
+    alloc: Global,
+    expected: &Expected,
+    arguments: &Arguments<'w>,
+) -> Result<Options<'w>, ReadError<'w>>
+    ensures parsed { IfOk result (λ options. options_of expected.now (given_options arguments.now) ≡ Ok (parsed_options options)) }
+    ensures refused { IfErr result (IsReadError (options_of expected.now (given_options arguments.now))) }
+{
+    let given = dictionaries_given(alloc, expected, arguments)?;
+    match options_with(given, arguments) {
+        Ok(options) => Ok(options),
+        Err(bad) => Err(ReadError::Bad(bad)),
     }
+}
 
-    /// Parses the arguments. `None` if they have no form of the usage. The error says that memory was refused.
-    pub fn from_args(alloc: Global, args: &'w [&'w str]) -> Result<Option<Request<'w>>, AllocError>
-        ensures { IfOk result (λ found. option_map parsed_request found ≡ parsed_args args.now) }
+// Returns the request of options and the names of pages.
+fn with_names<'w>(
+    alloc: Global,
+    options: Options<'w>,
+    names: &[&'w str],
+) -> Result<Request<'w>, ReadError<'w>>
+    ensures parsed { IfOk result (λ request.
+        args_of (parsed_options options.entry) (texts_now names.now) ≡ Ok (parsed_request request)) }
+    ensures refused { IfErr result (IsReadError (args_of (parsed_options options.entry) (texts_now names.now))) }
+{
+    let inputs = names_for(alloc, options.target, names)?;
+    Ok(Request { options, inputs })
+}
+
+// Returns the request of arguments that are read.
+fn of_arguments<'w>(
+    alloc: Global,
+    expected: &Expected,
+    arguments: &Arguments<'w>,
+) -> Result<Request<'w>, ReadError<'w>>
+    ensures parsed { IfOk result (λ request. args_as_read expected.now (as_read arguments.now) ≡ Ok (parsed_request request)) }
+    ensures refused { IfErr result (IsReadError (args_as_read expected.now (as_read arguments.now))) }
+{
+    let options = options_of(alloc, expected, arguments)?;
+    with_names(alloc, options, &arguments.operands)
+}
+
+impl<'w> Request<'w> {
+    /// Parses arguments `[OPTION..] [FILE..]`, by the expectation of a value of `--lang` and the forms of the options. The
+    /// error is the first that is refused, or says that memory was refused.
+    pub fn from_args(
+        alloc: Global,
+        expected: &Expected,
+        forms: &[OptionForm],
+        args: &'w [&'w str],
+    ) -> Result<Request<'w>, ReadError<'w>>
+        ensures parsed { IfOk result (λ request. parsed_by expected.now forms.now args.now ≡ Ok (parsed_request request)) }
+        ensures refused { IfErr result (IsReadError (parsed_by expected.now forms.now args.now)) }
     {
-        let mut request = Request::new(alloc);
-        // an option that waits for its value
-        let mut waiting: Option<&str> = None;
-        for arg in args {
-            match waiting {
-                None => {
-                    if *arg == "--skip-capitals" {
-                        request.settings.skip_capitals = true;
-                    } else {
-                        waiting = Some(arg);
-                    }
-                }
-                Some(option) => {
-                    if !request.set(option, arg)? {
-                        return Ok(None);
-                    }
-                    waiting = None;
-                }
-            }
-        }
-        match waiting {
-            None => Ok(Some(request)),
-            Some(_) => Ok(None),
-        }
+        let arguments = read(alloc, forms, args)?;
+        of_arguments(alloc, expected, &arguments)
     }
 }

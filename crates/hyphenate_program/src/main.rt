@@ -71,6 +71,7 @@ fn run(rt: &HostRuntime, program: Program, args: &[&str], folders: &[&str]) -> u
     let input = &mut rt.stdin();
     let output = &mut rt.stdout();
     let errors = &mut rt.stderr();
+    let store = &mut &*rt;
     let alloc = rt.alloc();
     match program {
         Program::Hyphenate => hyphenate_command::answer(rt, alloc, args, input, output, errors),
@@ -81,11 +82,12 @@ fn run(rt: &HostRuntime, program: Program, args: &[&str], folders: &[&str]) -> u
         Program::Explain => {
             explain_command::answer(rt, alloc, args, folders, input, output, errors)
         }
-        Program::Html => html_command::answer(rt, alloc, args, folders, input, output, errors),
+        Program::Html => {
+            html_command::answer(rt, store, alloc, args, folders, input, output, errors)
+        }
         Program::Lines => lines_command::answer(rt, alloc, args, folders, input, output, errors),
         Program::Text => {
-            let mut store = rt;
-            text_command::answer(rt, &mut store, alloc, args, folders, input, output, errors)
+            text_command::answer(rt, store, alloc, args, folders, input, output, errors)
         }
     }
 }

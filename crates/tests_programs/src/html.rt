@@ -1,15 +1,17 @@
-//! `hyphenate-html`: which dictionaries it finds for a page, its notes, messages and statuses.
+//! `hyphenate-html`: which dictionaries it finds for a page, the files that get results, its notes, messages and statuses.
 
 use crate::faults::{Fault, PERMISSION_DENIED};
 use crate::harness::{FailingRun, FileList, Program, Run, expect_failing_runs, expect_runs};
-use html_command::answer;
+use crate::text::show;
+use html_command::{Recorded, answer};
 use std::alloc::Global;
 use std::fs::Files;
 use std::io::{Read, Write};
 use std::test::Fail;
 use test_support::io_errors::{CONNECTION_RESET, OUT_OF_MEMORY};
 
-/// The program, with the folders in which it searches dictionaries.
+/// The program, with the folders in which it searches dictionaries. It shows each file that it writes in brackets after its
+/// output.
 #[derive(Clone, Copy)]
 pub(crate) struct Html<'f> {
     pub(crate) folders: &'f [&'f str],
@@ -25,7 +27,21 @@ impl Program for Html<'_> {
         output: &mut O,
         messages: &mut E,
     ) -> u8 {
-        answer(files, alloc, args, self.folders, input, output, messages)
+        let mut written = Recorded {
+            files: Vec::new(alloc),
+        };
+        let status = answer(
+            files,
+            &mut written,
+            alloc,
+            args,
+            self.folders,
+            input,
+            output,
+            messages,
+        );
+        show(&written, output);
+        status
     }
 }
 
@@ -89,6 +105,11 @@ const FILES: FileList<'static> = &[
         b"hyphenation 1 standard\nlanguage sr-cyrl\nminima 2 2\ne firkin 3 4\n",
     ),
     ("variants/sr-latn.txt", OTHER_VARIANT),
+    ("old.html", b"<p lang=de>firkin\n"),
+    ("new.html", b"<p lang=en-gb>firkin\n"),
+    ("bare.html", b"<p>firkin\n"),
+    ("latin1.html", b"<p>\n\xe4"),
+    ("french.html", b"<p lang=fr>firkin\n"),
 ];
 
 // A page: what it shows, the arguments, the page, and what is written.
@@ -288,6 +309,111 @@ fn a_page_without_a_dictionary_stays_as_it_is(rt: HostRuntime) -> Result<(), Fai
         }
     }
     Ok(())
+}
+
+const FILE_RUNS: &[Run<'static>] = &[
+    (
+        "pages one after the other, each by its own dictionary",
+        &["--mark=-", "old.html", "new.html"],
+        b"<p lang=de>firkin",
+        0,
+        "<p lang=de>fi-rk-in\n<p lang=en-gb>fir-kin\n",
+        "",
+    ),
+    (
+        "standard input among pages, and options between them",
+        &["old.html", "--mark", "-", "-", "--", "new.html"],
+        b"<p lang=en-gb>firkin\n",
+        0,
+        "<p lang=de>fi-rk-in\n<p lang=en-gb>fir-kin\n<p lang=en-gb>fir-kin\n",
+        "",
+    ),
+    (
+        "each page is replaced",
+        &["--in-place", "--mark=-", "old.html", "new.html"],
+        b"<p lang=de>firkin",
+        0,
+        "[old.html:<p lang=de>fi-rk-in\n][new.html:<p lang=en-gb>fir-kin\n]",
+        "",
+    ),
+    (
+        "all results go into one file, of two outputs the last one",
+        &[
+            "--output=other.html",
+            "--output=all.html",
+            "--mark=-",
+            "old.html",
+            "new.html",
+        ],
+        b"<p lang=de>firkin",
+        0,
+        "[all.html:<p lang=de>fi-rk-in\n<p lang=en-gb>fir-kin\n]",
+        "",
+    ),
+    (
+        "the result of standard input goes into a file",
+        &["--output", "all.html", "--mark=-"],
+        b"<p lang=de>firkin",
+        0,
+        "[all.html:<p lang=de>fi-rk-in]",
+        "",
+    ),
+    (
+        "a note names its page",
+        &["--mark=-", "bare.html", "old.html", "-"],
+        b"<p lang=nl>firkin\n",
+        0,
+        "<p>firkin\n<p lang=de>fi-rk-in\n<p lang=nl>firkin\n",
+        "hyphenate-html: note: bare.html: the page names no language, so nothing is changed; --language names it\n\
+         hyphenate-html: note: no dictionary for a language that the page names, so nothing is changed\n",
+    ),
+    (
+        "words of fewer characters and with a capital are left alone",
+        &[
+            "--mark=-",
+            "--min-word=7",
+            "--skip-capitals",
+            "--language",
+            "de",
+            "old.html",
+        ],
+        b"",
+        0,
+        "<p lang=de>firkin\n",
+        "",
+    ),
+    (
+        "nothing is written where a page is not UTF-8",
+        &["--in-place", "old.html", "latin1.html"],
+        b"",
+        4,
+        "",
+        "hyphenate-html: latin1.html: not UTF-8: line 2, after 4 bytes\n",
+    ),
+    (
+        "nothing is written where a page is not there",
+        &["--output=all.html", "old.html", "/no/such.html"],
+        b"",
+        5,
+        "",
+        "hyphenate-html: /no/such.html: can't be read\n",
+    ),
+    (
+        "nothing is written where a dictionary of a later page is refused",
+        &["--in-place", "old.html", "french.html"],
+        b"",
+        3,
+        "",
+        "hyphenate-html: found/fr.txt: line 3: not a minima line\n",
+    ),
+];
+
+#[test]
+fn pages_of_files_get_their_results(rt: HostRuntime) -> Result<(), Fail> {
+    let program = Html {
+        folders: &["found"],
+    };
+    expect_runs(rt.alloc(), &program, FILES, FILE_RUNS)
 }
 
 const REFUSALS: &[Run<'static>] = &[

@@ -35,12 +35,17 @@ impl Program for Text {
             output,
             messages,
         );
-        for (path, bytes) in &written.files {
-            let _ = write!(output, "[{path}:");
-            let _ = output.write_all(bytes);
-            let _ = output.write_all(b"]");
-        }
+        show(&written, output);
         status
+    }
+}
+
+/// Writes each file that was written in brackets: the path, a colon and the bytes.
+pub(crate) fn show<O: Write>(written: &Recorded, output: &mut O) {
+    for (path, bytes) in &written.files {
+        let _ = write!(output, "[{path}:");
+        let _ = output.write_all(bytes);
+        let _ = output.write_all(b"]");
     }
 }
 

@@ -53,19 +53,22 @@ they give, and the fact that decides.
 ";
 
 const HTML: &str = "\
-usage: hyphenate-html [OPTION..] < PAGE
+usage: hyphenate-html [OPTION..] [FILE..]
        hyphenate-html --help
        hyphenate-html --version
-Writes an HTML or XHTML page with soft hyphens in the words of its text.
+Writes HTML or XHTML pages with soft hyphens in the words of their text.
+  FILE                   a page; standard input for -, or without FILE
   --lang CODE=PATH       the dictionary of a language, once for each. Without it,
-                         those that languages/make made
+                         those that hyphenate-languages made
   --dictionaries FOLDER  the folder in which these are
-  --language CODE        the language of text for which the page names none
+  --language CODE        the language of text for which a page names none
   --mark MARK            in place of the soft hyphen
   --class CLASS          elements of this class are left alone, in place of
                          those of the class donthyphenate
   --min-word N           shorter words are left alone; N counts characters
   --skip-capitals        words that begin with a capital are left alone
+  --output FILE          the results go into this file, which is replaced
+  --in-place             each FILE is replaced by its result
 Of an extended dictionary the breaks that change no letter are used.
 ";
 
@@ -91,7 +94,7 @@ items and heads of mails keep their form.
 // Arguments, and what they show.
 type Args<'a> = (&'a str, &'a [&'a str]);
 
-// Arguments that are refused, what they show, and the message.
+// Arguments that are refused, what they show, and the message or its first line without the program's name.
 type Refused<'a> = (&'a str, &'a [&'a str], &'a str);
 
 const FOR_HYPHENATE: &[Args<'static>] = &[
@@ -226,23 +229,73 @@ const FOR_EXPLAIN: &[Refused<'static>] = &[
     ),
 ];
 
-const FOR_HTML: &[Args<'static>] = &[
-    ("an option without its value", &["--lang"]),
-    ("a language without a path", &["--lang", "de"]),
-    ("a language with capitals", &["--lang", "DE=de.txt"]),
-    ("an empty language", &["--lang", "=de.txt"]),
-    ("no number", &["--min-word", "6x"]),
+// Arguments that `hyphenate-html` refuses, and the first line of its message.
+const FOR_HTML: &[Refused<'static>] = &[
+    (
+        "an option without its value",
+        &["--lang"],
+        "--lang: a value is missing",
+    ),
+    (
+        "a language without a path",
+        &["--lang", "de"],
+        "--lang=de: not of the form CODE=PATH",
+    ),
+    (
+        "a language with capitals",
+        &["--lang", "DE=de.txt"],
+        "--lang=DE=de.txt: not of the form CODE=PATH",
+    ),
+    (
+        "an empty language",
+        &["--lang", "=de.txt"],
+        "--lang==de.txt: not of the form CODE=PATH",
+    ),
+    (
+        "a second language without a path",
+        &["--lang=de=de.txt", "--lang=nl"],
+        "--lang=nl: not of the form CODE=PATH",
+    ),
+    (
+        "no number",
+        &["--min-word", "6x"],
+        "--min-word=6x: not a number from 0 to 65535",
+    ),
     (
         "an option without its value after another",
         &["--skip-capitals", "--mark"],
+        "--mark: a value is missing",
     ),
-    ("a path after an option", &["--mark", "-", "page.html"]),
-    ("a path", &["page.html"]),
-    ("--help with another argument", &["--help", "--version"]),
+    (
+        "an option that is none",
+        &["--marks", "-", "page.html"],
+        "--marks: no such option",
+    ),
+    (
+        "a value of an option that takes none",
+        &["--in-place=1", "page.html"],
+        "--in-place=1: takes no value",
+    ),
+    ("no page to replace", &["--in-place"], "FILE: is missing"),
+    (
+        "standard input can't be replaced",
+        &["--in-place", "page.html", "-"],
+        "-: one argument too many",
+    ),
+    (
+        "a file for the output, and pages that are replaced",
+        &["--in-place", "--output=new.html", "page.html"],
+        "--in-place: one argument too many",
+    ),
+    (
+        "--help with another argument",
+        &["--help", "--version"],
+        "--help: no such option",
+    ),
 ];
 
 // Arguments that `hyphenate-lines` refuses, and the first line of its message.
-const FOR_LINES: &[(&str, &[&str], &str)] = &[
+const FOR_LINES: &[Refused<'static>] = &[
     ("no dictionary", &[], "DICTIONARY: is missing"),
     (
         "no dictionary after an option",
@@ -350,29 +403,30 @@ fn bad_arguments_are_named(rt: HostRuntime) -> Result<(), Fail> {
 fn bad_arguments_get_the_usage(rt: HostRuntime) -> Result<(), Fail> {
     let alloc = rt.alloc();
     expect_usage(alloc, &Hyphenate, HYPHENATE, FOR_HYPHENATE)?;
-    expect_usage(alloc, &Convert, CONVERT, FOR_CONVERT)?;
-    expect_usage(alloc, &Html { folders: &[] }, HTML, FOR_HTML)
+    expect_usage(alloc, &Convert, CONVERT, FOR_CONVERT)
+}
+
+// Fails unless the program of this name refuses each of these arguments for its reason.
+fn expect_reasons<P: Program>(
+    alloc: Global,
+    program: &P,
+    name: &str,
+    all: &[Refused<'_>],
+) -> Result<(), Fail> {
+    for (shows, args, reason) in all {
+        let message = format!(in alloc; "{name}: {reason}\nTry '{name} --help'.\n")?;
+        expect_unread(alloc, program, (shows, args), 2, "", &message)?;
+    }
+    Ok(())
 }
 
 #[test]
-fn lines_name_the_argument_that_is_refused(rt: HostRuntime) -> Result<(), Fail> {
+fn the_argument_that_is_refused_is_named(rt: HostRuntime) -> Result<(), Fail> {
     let alloc = rt.alloc();
-    for (shows, args, reason) in FOR_LINES {
-        let message = format!(in alloc;
-            "hyphenate-lines: {reason}
-Try 'hyphenate-lines --help'.
-"
-        )?;
-        expect_unread(
-            alloc,
-            &Lines { folders: &[] },
-            (shows, args),
-            2,
-            "",
-            &message,
-        )?;
-    }
-    Ok(())
+    let html = Html { folders: &[] };
+    expect_reasons(alloc, &html, "hyphenate-html", FOR_HTML)?;
+    let lines = Lines { folders: &[] };
+    expect_reasons(alloc, &lines, "hyphenate-lines", FOR_LINES)
 }
 
 // Fails unless the program writes this usage for `--help`, and its version for `--version`.

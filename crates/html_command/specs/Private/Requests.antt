@@ -1,33 +1,37 @@
 -- How a request in code stands for parsed arguments.
-use Rattle.std.specs.Prelude.{◌≡◌, ℕ, Bool, true, false, List, map, Option, None, Some, IfSome, option_map}
-use Rattle.html_command.specs.Arguments.{ParsedArgs}
-use Rattle.html_command.specs.Written.{WritesPage}
+use Rattle.std.specs.Prelude.{◌≡◌, ℕ, List, map, option_copied, Result, Ok, Err}
+use Rattle.hyphenation_breaks.specs.Borrowed.{texts_now}
+use Rattle.command_line.specs.Options.{RefusedArgument}
+use Rattle.command_line.specs.Reading.{as_refused}
+use Rattle.command_line.specs.declared.options.BadArgument.{BadArgument}
+use Rattle.text_results.specs.Reading.{as_target}
+use Rattle.html_command.specs.Arguments.{ParsedArgs, ParsedOptions}
 use Rattle.html_command.specs.declared.request.GivenDictionary.{GivenDictionary}
+use Rattle.html_command.specs.declared.request.Options.{Options}
 use Rattle.html_command.specs.declared.request.Request.{Request}
 
 -- The code and the path of a dictionary that is given.
 abbrev pub parsed_dictionary : GivenDictionary → List ℕ × List ℕ
 parsed_dictionary given = (given.language, given.path.now)
 
--- The parsed arguments of a request.
-abbrev pub parsed_request : Request → ParsedArgs
-parsed_request request = record {
-  given = map parsed_dictionary request.given.items;
-  folder = option_map (λ folder. folder.now) request.folder;
-  language = request.language.now;
-  mark = request.settings.mark.now;
-  class = request.settings.class.now;
-  min_word = request.settings.min_word;
-  skip_capitals = request.settings.skip_capitals;
+-- The parsed options.
+abbrev pub parsed_options : Options → ParsedOptions
+parsed_options options = record {
+  given = map parsed_dictionary options.given.items;
+  folder = option_copied options.folder;
+  language = options.language.now;
+  mark = options.settings.mark.now;
+  class = options.settings.class.now;
+  min_word = options.settings.min_word;
+  skip_capitals = options.settings.skip_capitals;
+  target = as_target options.target;
 }
 
--- A value was taken, and the arguments are then the wanted ones; or it was not, and there are none.
-abbrev pub IsTaken : Bool → Option ParsedArgs → ParsedArgs → Type 0
-IsTaken true wanted found = wanted ≡ Some found
-IsTaken false wanted found = wanted ≡ None
+-- The parsed arguments of a request.
+abbrev pub parsed_request : Request → ParsedArgs
+parsed_request request = record { options = parsed_options request.options; inputs = texts_now request.inputs.items }
 
--- If the bytes of the page are known, it was appended with its marks, as a request asks for it.
-abbrev pub WritesPageOf : {W : Type 0} → Request → (List ℕ → Option (Option (List ℕ))) → List (List ℕ) → Option (List ℕ)
-    → (W → Option (List ℕ)) → W → W → Type 0
-WritesPageOf request bytes_of usual input contents old new =
-    IfSome input (λ page. WritesPage (parsed_request request) bytes_of usual page contents old new)
+-- Options are as wanted, or the wanted refusal.
+abbrev pub AreAsWanted : Result Options BadArgument → Result ParsedOptions RefusedArgument → Type 0
+AreAsWanted (Ok options) wanted = wanted ≡ Ok (parsed_options options)
+AreAsWanted (Err bad) wanted = wanted ≡ Err (as_refused bad)

@@ -1,0 +1,11 @@
+use Rattle.std.proofs.Common.{ap}
+use Rattle.hyphenation_breaks.specs.Borrowed.{texts_now}
+use Rattle.command_line.specs.Reading.{as_read}
+use Rattle.html_command.specs.Private.Requests.{parsed_options}
+use Rattle.html_command.proofs.Requests.{refused_as}
+use Rattle.html_command.proofs.request.of_arguments.Goals as goal
+
+pub returns-clause-refused : goal.returns-clause-refused
+returns-clause-refused c =
+    refused_as c.args.expected.now (as_read c.args.arguments.now) (parsed_options c.in_ok-options.options) (texts_now c.deref.result.now) c.with_names.result
+    c.in_ok-options.ensures.parsed (ap texts_now c.deref.ensures.value) c.with_names.ensures.refused

@@ -1,0 +1,157 @@
+//! A run of the program: from pages to results that are written.
+
+ghost use Rattle.std.specs.Prelude.{◌≡◌, ◌⊎◌, false, IfErr, IfOk, OnOk};
+ghost use Rattle.std.specs.List.{list_any};
+ghost use Rattle.std.specs.String.{string_bytes};
+ghost use Rattle.command_line.specs.Inputs.{is_standard_input};
+ghost use Rattle.hyphenation_breaks.specs.Borrowed.{texts_now};
+ghost use Rattle.html_command.specs.Private.Runs.{AreResultsBy, FailsBefore, FailsOver, HasResults, IsResultBy};
+ghost use Rattle.html_command.specs.Private.Runs.{IsFailureOfRequest, WritesRequest};
+
+use crate::dictionaries::load_for_page;
+use crate::notes::{Note, note_of};
+use crate::request::{Options, Request};
+use command_line::{Failure, NamedFiles};
+use hyphenation_html::{LanguageDictionary, hyphenate_html};
+use replaced_files::ReplaceFiles;
+use std::alloc::{AllocError, Global};
+use std::io::{Read, Write};
+use text_results::results::write_results;
+use text_results::texts::{push, read_texts};
+
+// Makes the tables of dictionaries that pay for a page of so many bytes. The only error is out of memory.
+fn make_tables(
+    alloc: Global,
+    dictionaries: &mut [LanguageDictionary],
+    bytes: usize,
+) -> Result<(), AllocError>
+    ensures { dictionaries.new ≡ dictionaries.old }
+{
+    for at in 0..dictionaries.len() {
+        let _made = dictionaries[at].dictionary.make_table_for(alloc, bytes)?;
+    }
+    Ok(())
+}
+
+// A page with its marks, and a note if no dictionary served it.
+#[derive(Drop)]
+struct Marked {
+    text: String,
+    note: Option<Note>,
+}
+
+// Pages with their marks, and a note on each that no dictionary served.
+#[derive(Drop)]
+struct Results {
+    texts: Vec<String>,
+    notes: Vec<Option<Note>>,
+}
+
+// Appends a note.
+fn push_note(notes: &mut Vec<Option<Note>>, note: Option<Note>) -> Result<(), AllocError> {
+    notes.push(note)?;
+    Ok(())
+}
+
+// Returns the result of a page.
+fn result_of<F: NamedFiles>(
+    files: &F,
+    alloc: Global,
+    options: &Options<'_>,
+    folders: &[&str],
+    page: &str,
+) -> Result<Marked, Failure>
+    ensures result { IfOk result (λ marked.
+        IsResultBy options.now (F.bytes files.now) folders.now page.now marked.text) }
+    ensures failure { IfErr result (FailsOver options.now (F.bytes files.now) folders.now) }
+{
+    let mut dictionaries = load_for_page(files, alloc, options, folders, page)?;
+    make_tables(alloc, &mut dictionaries, page.len())?;
+    let text = hyphenate_html(
+        alloc,
+        &dictionaries,
+        options.language,
+        &options.settings,
+        page,
+    )?;
+    let note = note_of(alloc, dictionaries.len(), options.language, page)?;
+    Ok(Marked { text, note })
+}
+
+// Returns the results of pages.
+fn results_of_pages<F: NamedFiles>(
+    files: &F,
+    alloc: Global,
+    options: &Options<'_>,
+    folders: &[&str],
+    pages: &[String],
+) -> Result<Results, Failure>
+    ensures results { IfOk result (λ results.
+        AreResultsBy options.now (F.bytes files.now) folders.now pages.now results.texts.items) }
+    ensures failure { IfErr result (FailsOver options.now (F.bytes files.now) folders.now) }
+{
+    let mut texts = Vec::new(alloc);
+    let mut notes = Vec::new(alloc);
+    for page in pages {
+        let one = result_of(files, alloc, options, folders, page)?;
+        push(&mut texts, one.text)?;
+        push_note(&mut notes, one.note)?;
+    }
+    Ok(Results { texts, notes })
+}
+
+// Returns the results of a request.
+#[tactic(auto, using(crate::proofs::Runs::page_fails, crate::proofs::Runs::dictionary_fails))]
+fn results_of<F: NamedFiles, I: Read>(
+    files: &F,
+    alloc: Global,
+    request: &Request<'_>,
+    folders: &[&str],
+    input: &mut I,
+) -> Result<Results, Failure>
+    ensures results { IfOk result (λ results. HasResults request.now (F.bytes files.now) folders.now
+        (I.remaining input.old) results.texts.items) }
+    ensures failure { IfErr result
+        (FailsBefore request.now (F.bytes files.now) folders.now (I.remaining input.old)) }
+    ensures unread { list_any is_standard_input (texts_now request.now.inputs.items) ≡ false → input.new ≡ input.old }
+{
+    match read_texts(files, alloc, &request.inputs, input) {
+        Ok(pages) => results_of_pages(files, alloc, &request.options, folders, &pages),
+        Err(failure) => Err(failure),
+    }
+}
+
+/// Writes the results of all pages of a request, once all of them are made. Returns a note on each page that no dictionary
+/// served.
+///
+/// The pages are read in their order, and then the dictionaries of each are loaded. The first step that fails gives the
+/// failure. After [`Failure::Output`] a beginning may be written. After [`Failure::Writing`] the files before that one are
+/// replaced, and those from it on are as they were. After any other failure but [`Failure::Memory`] nothing is written.
+#[tactic(auto, using(crate::proofs::Runs::fails_before))]
+pub fn run<F: NamedFiles, S: ReplaceFiles, I: Read, O: Write>(
+    files: &F,
+    store: &mut S,
+    alloc: Global,
+    request: &Request<'_>,
+    folders: &[&str],
+    input: &mut I,
+    output: &mut O,
+) -> Result<Vec<Option<Note>>, Failure>
+    ensures written { OnOk result (WritesRequest request.now (F.bytes files.now) folders.now (I.remaining input.old)
+        O.contents output.old output.new S.written store.old store.new) }
+    ensures failure { IfErr result (IsFailureOfRequest request.now (F.bytes files.now) folders.now
+        (I.remaining input.old) S.written store.old store.new) }
+    ensures unread { list_any is_standard_input (texts_now request.now.inputs.items) ≡ false → input.new ≡ input.old }
+    ensures untouched { IfErr result (λ failure. (failure ≡ Failure.Output) ⊎ (output.new ≡ output.old)) }
+{
+    let results = results_of(files, alloc, request, folders, input)?;
+    write_results(
+        store,
+        alloc,
+        request.options.target,
+        &request.inputs,
+        &results.texts,
+        output,
+    )?;
+    Ok(results.notes)
+}
