@@ -1,13 +1,15 @@
 //! Dictionaries whose kind is known only from their texts: loaded, refused, edited, written, and the breaks of words.
 
-use any_dictionary::{AnyDictionary, kind_of};
+use any_dictionary::{AnyDictionary, FromBreaks, kind_of};
+use hyphenation_breaks::breaks::Break;
 use hyphenation_breaks::language::Language;
 use hyphenation_grammar::form::Kind;
 use hyphenation_load::{Error, Load};
+use hyphenation_segments::Word;
 use std::alloc::{AllocError, Global};
 use std::test::Fail;
 use test_dictionaries::loading_outcome;
-use test_support::{CallError, expect_equal_in, expect_text_in};
+use test_support::{CallError, expect_equal, expect_equal_in, expect_text_in};
 
 const STANDARD: &[u8] = b"hyphenation 1 standard\nlanguage en-us\nminima 2 3\np y1p\ne other 2\n";
 
@@ -209,6 +211,101 @@ fn a_break_that_changes_letters_is_no_plain_one(rt: HostRuntime) -> Result<(), F
     for (shows, text, word, wanted) in &rows {
         let found = broken(rt.alloc(), text, word)?;
         expect_equal_in(shows, &found.as_str(), wanted)?;
+    }
+    Ok(())
+}
+
+// The number of a word's breaks.
+#[derive(Drop)]
+struct NumberOfBreaks(usize);
+
+impl FromBreaks for NumberOfBreaks {
+    ghost use Rattle.std.specs.Prelude.{◌≡◌, length};
+
+    ghost is_of = { λ number breaks. number.0 ≡ length breaks };
+
+    fn from_breaks<B: Break>(
+        _alloc: Global,
+        word: &Word<'_, B>,
+    ) -> Result<NumberOfBreaks, AllocError> {
+        Ok(NumberOfBreaks(word.breaks.len()))
+    }
+}
+
+// The minima of a text's dictionary, the places and the number of a word's breaks, the values of its places, and the word
+// with a mark at each break.
+fn found(alloc: Global, kind: Kind, text: &[u8], word: &str) -> Result<String, Fail> {
+    let dictionary = AnyDictionary::read(alloc, kind, text)
+        .ok()
+        .ok_or("a dictionary")?;
+    let (left, right) = dictionary.minima();
+    let mut places = Vec::new(alloc);
+    dictionary.places_into(alloc, word, &mut places)?;
+    let number: NumberOfBreaks = dictionary.collect_breaks(alloc, word)?;
+    let values = dictionary.values(alloc, word)?;
+    let marked = dictionary.marked(alloc, word, "=")?;
+    Ok(format!(in alloc;
+        "{left} {right} {places:?} {} {values:?} {marked}",
+        number.0
+    )?)
+}
+
+#[test]
+fn a_dictionary_of_either_kind_finds_the_breaks_and_the_values_of_a_word(
+    rt: HostRuntime,
+) -> Result<(), Fail> {
+    let rows = [
+        (
+            "a pattern of a standard one",
+            Kind::Standard,
+            STANDARD,
+            "typing",
+            "2 3 [2] 1 [0, 1, 0, 0, 0] ty=ping",
+        ),
+        (
+            "an exception has breaks and no values",
+            Kind::Standard,
+            STANDARD,
+            "other",
+            "2 3 [2] 1 [0, 0, 0, 0] ot=her",
+        ),
+        (
+            "breaks that change letters",
+            Kind::Extended,
+            EXTENDED,
+            "asszonnyal",
+            "2 2 [2, 6] 2 [0, 0, 0, 0, 0, 0, 0, 0, 0] asz=szony=nyal",
+        ),
+    ];
+    for (shows, kind, text, word, wanted) in &rows {
+        let found = found(rt.alloc(), *kind, text, word)?;
+        expect_equal_in(shows, &found.as_str(), wanted)?;
+    }
+    Ok(())
+}
+
+#[test]
+fn a_list_of_places_keeps_none_of_the_word_before(rt: HostRuntime) -> Result<(), Fail> {
+    let dictionary = known(rt.alloc(), EXTENDED)?;
+    let mut places = Vec::new(rt.alloc());
+    dictionary.places_into(rt.alloc(), "asszonnyal", &mut places)?;
+    dictionary.places_into(rt.alloc(), "other", &mut places)?;
+    let found = format!(in rt.alloc(); "{places:?}")?;
+    expect_equal(&found.as_str(), &"[2]")
+}
+
+// Whether a dictionary has a table, whether one is made, and whether it has one then.
+fn tables(alloc: Global, text: &[u8]) -> Result<(bool, bool, bool), Fail> {
+    let mut dictionary = known(alloc, text)?;
+    let before = dictionary.has_table();
+    let made = dictionary.make_table(alloc)?;
+    Ok((before, made, dictionary.has_table()))
+}
+
+#[test]
+fn a_dictionary_of_either_kind_has_a_table_once_it_is_made(rt: HostRuntime) -> Result<(), Fail> {
+    for text in &[STANDARD, EXTENDED] {
+        expect_equal(&tables(rt.alloc(), text)?, &(false, true, true))?;
     }
     Ok(())
 }
