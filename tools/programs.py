@@ -13,9 +13,12 @@ def program(name):
 
 
 def built(name):
-    """The file of a program that is proved: in the folder HYPHENATE_BIN, else a link to it, which goes by its name."""
+    """The file of a program that is proved: in the folder HYPHENATE_BIN, else in out/ of its crate. All users' programs are
+    one file, and that is called by a link of the program's name."""
     if os.environ.get("HYPHENATE_BIN"):
         return program(name)
+    if not name.startswith("hyphenate"):
+        return os.path.join(ROOT, "crates", name, "out", name)
     link = os.path.join(ROOT, ".programs", name)
     if not os.path.lexists(link):
         os.makedirs(os.path.dirname(link), exist_ok=True)
