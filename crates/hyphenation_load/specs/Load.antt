@@ -52,6 +52,11 @@ abbrev pub IsNotThere : {D : Type 0} → Result D Error → Type 0
 IsNotThere (Err (IO e)) = error_kind e ≡ NotFound
 IsNotThere _ = ⊥
 
+-- The result is not the error that there is no such file.
+abbrev pub IsNotMissing : {D : Type 0} → Result D Error → Type 0
+IsNotMissing (Err (IO e)) = error_kind e ≢ NotFound
+IsNotMissing _ = ⊤
+
 -- Loading the file at a path, of which this is known: its bytes, that there is no such file, or nothing.
 abbrev pub LoadsFile : {D : Type 0} → (List ℕ → Option (ℕ × Cause)) → (List ℕ → D) → (D → List ℕ) → List ℕ
     → Option (Option (List ℕ)) → Result D Error → Type 0

@@ -8,7 +8,7 @@ ghost use Rattle.std.specs.Prelude.{◌≡◌, ◌≢◌, ◌↔◌, Ok, Err, No
 ghost use Rattle.std.specs.Io.KnownBytes.{IsAtEnd};
 ghost use Rattle.std.specs.IoError.{error_kind};
 ghost use Rattle.hyphenation_grammar.specs.declared.Cause.{Cause};
-ghost use Rattle.hyphenation_load.specs.Load.{Loads, LoadsIn, LoadsFile, LoadsSomeFile, IsNotThere, RespectsLanguage, HasNoMismatch};
+ghost use Rattle.hyphenation_load.specs.Load.{Loads, LoadsIn, LoadsFile, LoadsSomeFile, IsNotMissing, IsNotThere, RespectsLanguage, HasNoMismatch};
 ghost use Rattle.named_files.specs.Files.{known_bytes};
 ghost use Rattle.hyphenation_load.specs.Load.{IsNotIo, IsNotOutOfMemory, AppendsTo, IfMemory, IsReadError, IsWriteError};
 ghost use Rattle.hyphenation_load.specs.Private.Load.{error_of, ChecksLanguage};
@@ -207,6 +207,7 @@ pub fn open_dictionary<F: NamedFiles>(rt: &F, path: &str) -> Result<F::File>
     ensures bytes { IfOk result (λ file. IfSome (known_bytes (F.bytes rt.now path.now)) (λ known.
         F.File.remaining file ≡ Some known)) }
     ensures absent { F.bytes rt.now path.now ≡ Some None → IsNotThere result }
+    ensures present { IfSome (known_bytes (F.bytes rt.now path.now)) (λ _. IsNotMissing result) }
     ensures read_error { IfErr result IsReadError }
 {
     rt.open(path).map_err(error_of_reading)
