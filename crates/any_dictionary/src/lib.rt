@@ -265,6 +265,7 @@ impl AnyDictionary {
     /// let mut places = Vec::new(alloc);
     /// dictionary.places_into(alloc, "Hyphenation", &mut places)?;      // 2, 6, 7
     /// ```
+    #[inline(always)]
     pub fn places_into(
         &self,
         alloc: Global,
