@@ -309,7 +309,7 @@ const LONG: [(&str, &str, u16, &str); 8] = [
 ];
 
 // Rows of the same kind, one for each rule.
-const RULES: [(&str, &str, u16, &str); 31] = [
+const RULES: [(&str, &str, u16, &str); 37] = [
     (
         "prose is filled, and empty lines in a row are one",
         "\n\none\ntwo\n\n\nthree\n\n",
@@ -422,10 +422,46 @@ const RULES: [(&str, &str, u16, &str); 31] = [
         "SUBJECT: a\nNote: b\n\tc\nd e\n",
     ),
     (
-        "a head is at the beginning alone",
-        "one\n\nTo: a\nCc: b\n",
+        "a head stands after an empty line, too, as that of a mail that was forwarded",
+        "one\n\nTo: a\nCc: b\nfrom: c\n\ntwo\nthree\n",
         40,
-        "one\n\nTo: a Cc: b\n",
+        "one\n\nTo: a\nCc: b\nfrom: c\n\ntwo three\n",
+    ),
+    (
+        "no head begins within a paragraph",
+        "one\nTo: a\nCc: b\n",
+        40,
+        "one To: a Cc: b\n",
+    ),
+    (
+        "a text may begin with a field whose name has two words",
+        "MIME-Version: 1.0\nX: a\n b\n\none\ntwo\n",
+        40,
+        "MIME-Version: 1.0\nX: a\n b\n\none two\n",
+    ),
+    (
+        "a field of two words begins no head later, nor does one without a capital letter or with a hyphen in its value",
+        "a-b: 1\nc\n\nA-b: 2\nc\n\nAb: c-d\ne\n",
+        40,
+        "a-b: 1 c\n\nA-b: 2 c\n\nAb: c-d e\n",
+    ),
+    (
+        "a value with a hyphen makes no name of two words",
+        "Note: well-known\nthings\n",
+        40,
+        "Note: well-known things\n",
+    ),
+    (
+        "tildes are fences, too, and end with tildes",
+        "~~~\na  b\n```\nc\n~~~\nd\ne\n",
+        20,
+        "~~~\na  b\n```\nc\n~~~\nd e\n",
+    ),
+    (
+        "backquotes end with backquotes",
+        "```\na\n~~~\nb\n```\nd\ne\n",
+        20,
+        "```\na\n~~~\nb\n```\nd e\n",
     ),
     (
         "a word after a fence is filled again",

@@ -4,3 +4,4 @@ pub mod Steps
 pub mod PageRows
 pub mod Seen
 pub mod Prose
+pub mod KeptPrefixes

@@ -1,6 +1,6 @@
 -- Texts without signs.
-use Rattle.std.proofs.Common.{◌≡◌, ℕ, ◌+◌, ◌<◌, ◌==◌, ◌&&◌, Bool, true, false, not, cond, nat_lt, List, [], ◌∷◌, ◌++◌, length, map, take, drop, chars, Option, Some, None, sym, ap, subst, refl, ◌∙◌, arith, inl, inr, append_assoc, append-nil, length-append}
-use Rattle.std.specs.List.{All, flat_map, list_all, slice_split}
+use Rattle.std.proofs.Common.{◌≡◌, ℕ, ◌<◌, ◌==◌, ◌&&◌, Bool, true, false, not, cond, nat_lt, List, [], ◌∷◌, ◌++◌, length, map, take, drop, Option, Some, None, sym, ap, subst, refl, ◌∙◌, arith, inl, inr, append-nil, length-append}
+use Rattle.std.specs.List.{All, flat_map, list_all}
 use Rattle.std.specs.Str.{encode_utf8_all}
 use Rattle.std.specs.Str.Lines.{lines_of_parts, strip_carriage_return}
 use Rattle.std.proofs.lemmas.Bool.{and_right, cond_both, eqb-true, ne_eqb}
@@ -9,16 +9,16 @@ use Rattle.std.proofs.lemmas.List.Elements.{All-nil, All-cons, All-head, All-tai
 use Rattle.std.proofs.lemmas.Str.{chars-nil}
 use Rattle.hyphenation_breaks.specs.Break.{Break}
 use Rattle.paragraphs.specs.Pages.{IsFilled, AreFilled, apart, page, IsPage}
-use Rattle.paragraphs.specs.Paragraphs.{ended, gather, is_blank, lines_of, paragraphs}
+use Rattle.paragraphs.specs.Paragraphs.{ended, gather, is_blank, lines_of}
 use Rattle.paragraphs.specs.Parts.{Style}
 use Rattle.paragraphs.specs.Words.{is_gap, if_any}
 use Rattle.paragraphs.specs.declared.setting.Aim.{Aim}
-use Rattle.written_texts.specs.Prefixes.{Prefix, prefix_of, written_prefix, blank_prefix, spread_char, quote_of, lead_of, rest_of, unquoted, quote_length, lead_length, indent_length, mark_length, bare, is_item, signs_in}
-use Rattle.written_texts.specs.Kept.{is_white, is_from_line, is_code, is_usual_field, is_empty_line, is_fenced, place_in_body, place_of_words}
-use Rattle.written_texts.specs.Blocks.{Paragraph, Block, Line, Filled, State, Step, begun, with_line, is_open, joined, completed, step, step_empty, step_prose, step_worded, blocks_from, start, blocks}
+use Rattle.written_texts.specs.Prefixes.{Prefix, prefix_of, written_prefix, blank_prefix, spread_char, quote_of, lead_of, rest_of, unquoted, lead_length, mark_length, bare, is_item, signs_in}
+use Rattle.written_texts.specs.Kept.{is_white, begins_head, is_code, is_first_field, is_empty_line, is_fenced, place_in_body, place_of_words}
+use Rattle.written_texts.specs.Blocks.{Paragraph, Block, Line, Filled, State, Step, begun, with_line, is_open, joined, completed, step, step_empty, step_worded, blocks_from, start}
 use Rattle.written_texts.specs.declared.place.Place.{Place}
-use Rattle.written_texts.specs.declared.place.Place.TheVariants.{Beginning, Head, Body}
-use Rattle.written_texts.specs.Written.{style_for, set_line, IsBlockSet, AreSet, together, IsWritten}
+use Rattle.written_texts.specs.declared.place.Place.TheVariants.{Head, Body}
+use Rattle.written_texts.specs.Written.{style_for, IsBlockSet, AreSet, together, IsWritten}
 use Rattle.written_texts.specs.Laws.{IsProse, IsProseLine}
 
 -- ---- lines of prose
@@ -59,10 +59,10 @@ filled_within false true x is = cc
 filled_within false false x is = is
 
 in_body : (line : List ℕ) → IsProse line → place_in_body false line ≡ None
-in_body line p = filled_in_body (is_usual_field line) (place_in_body false line) p.filled
+in_body line p = filled_in_body (is_first_field line) (place_in_body false line) p.filled
 
 within : (line : List ℕ) → IsProse line → place_in_body true line ≡ None
-within line p = filled_within (is_from_line line) (is_code line) (place_in_body true line) (in_body line p)
+within line p = filled_within (begins_head line) (is_code line) (place_in_body true line) (in_body line p)
 
 blank_none : is_blank [] ≡ true
 blank_none = ap (list_all is_gap) chars-nil

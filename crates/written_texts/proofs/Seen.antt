@@ -11,7 +11,7 @@ use Rattle.written_texts.specs.Prefixes.{is_sign, is_indent, is_deep, signs_leng
 use Rattle.written_texts.specs.Kept.{is_white, is_empty_line, place_of_words}
 use Rattle.written_texts.specs.Blocks.{Paragraph, Line, Filled, State, Step, begun, with_line, is_open, joined, block_if_any, gap_if_any, completed, shorter, gap_after_empty, step, step_empty, step_prose, step_worded, blocks_from, start, blocks}
 use Rattle.written_texts.specs.declared.place.Place.{Place}
-use Rattle.written_texts.specs.declared.place.Place.TheVariants.{Beginning, Head, Body, Fence, Signature}
+use Rattle.written_texts.specs.declared.place.Place.TheVariants.{Beginning, Head, Body, Fence, Tildes, Signature}
 use Rattle.written_texts.specs.Laws.{is_seen, seen, seen_in}
 
 seen-append : (xs ys : List ℕ) → seen (xs ++ ys) ≡ seen xs ++ seen ys
@@ -125,6 +125,7 @@ gap_unseen Beginning gap line unseen = tt
 gap_unseen Head gap line unseen = shorter_unseen gap line unseen
 gap_unseen Body gap line unseen = shorter_unseen gap line unseen
 gap_unseen Fence gap line unseen = shorter_unseen gap line unseen
+gap_unseen Tildes gap line unseen = shorter_unseen gap line unseen
 gap_unseen Signature gap line unseen = shorter_unseen gap line unseen
 
 gap_adds_none : (gap : Option (List ℕ)) → IsUnseen gap → flat_map seen_in (gap_if_any gap) ≡ []

@@ -5,7 +5,7 @@ use Rattle.paragraphs.specs.Paragraphs.{ended}
 use Rattle.written_texts.specs.Prefixes.{Prefix, prefix_of, quote_of, rest_of, signs_in, is_item}
 use Rattle.written_texts.specs.Kept.{place_of_words, is_empty_line}
 use Rattle.written_texts.specs.declared.place.Place.{Place}
-use Rattle.written_texts.specs.declared.place.Place.TheVariants.{Beginning, Head, Body, Fence, Signature}
+use Rattle.written_texts.specs.declared.place.Place.TheVariants.{Beginning, Head, Body, Fence, Tildes, Signature}
 
 -- A paragraph: the prefix of its first line, that of its other lines, whether that is settled, and its text. It is settled by
 -- the mark of an item, and by a second line.
@@ -75,6 +75,7 @@ place_after_empty Beginning = Beginning
 place_after_empty Head = Body
 place_after_empty Body = Body
 place_after_empty Fence = Body
+place_after_empty Tildes = Body
 place_after_empty Signature = Body
 
 -- The empty line that is to come, after one with these quote signs. At the beginning of a text there is none.
@@ -83,6 +84,7 @@ gap_after_empty Beginning gap quote = None
 gap_after_empty Head gap quote = Some (shorter gap quote)
 gap_after_empty Body gap quote = Some (shorter gap quote)
 gap_after_empty Fence gap quote = Some (shorter gap quote)
+gap_after_empty Tildes gap quote = Some (shorter gap quote)
 gap_after_empty Signature gap quote = Some (shorter gap quote)
 
 -- An empty line ends a paragraph.

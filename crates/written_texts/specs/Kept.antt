@@ -1,15 +1,15 @@
 -- Lines that stay as they are.
 use Rattle.std.specs.Prelude.{ℕ, ◌-◌, ◌==◌, ◌&&◌, ◌||◌, nat_eq, nat_lt, Bool, true, false, not, if◌then◌else◌, List, [], ◌∷◌, length, map, drop, codes, chars, Option, Some, None}
-use Rattle.std.specs.Char.{is_ascii_digit, is_ascii_graphic, to_ascii_lowercase}
+use Rattle.std.specs.Char.{is_ascii_digit, is_ascii_graphic, is_ascii_uppercase, to_ascii_lowercase}
 use Rattle.std.specs.Char.Unicode.Alphabetic.{is_alphabetic}
 use Rattle.std.specs.Char.Unicode.Numeric.{is_numeric}
 use Rattle.std.specs.Cmp.Lexicographic.{pointwise}
 use Rattle.std.specs.Int.{is_in_range}
 use Rattle.std.specs.List.{list_all, list_any, prefix_len, take_while}
-use Rattle.hyphenation_breaks.specs.Ascii.{hash, space}
+use Rattle.hyphenation_breaks.specs.Ascii.{hash, hyphen, space}
 use Rattle.written_texts.specs.Prefixes.{begins, is_deep, unquoted, bare, rest_of}
 use Rattle.written_texts.specs.declared.place.Place.{Place}
-use Rattle.written_texts.specs.declared.place.Place.TheVariants.{Beginning, Head, Body, Fence, Signature}
+use Rattle.written_texts.specs.declared.place.Place.TheVariants.{Beginning, Head, Body, Fence, Tildes, Signature}
 
 -- ---- the head of a mail
 
@@ -39,6 +39,23 @@ usual_names =
 abbrev pub is_usual_field : List ℕ → Bool
 is_usual_field line = is_field line && list_any (is_same_name (name_of line)) usual_names
 
+-- A text begins with a capital letter of ASCII.
+abbrev pub is_capitalized : List ℕ → Bool
+is_capitalized [] = false
+is_capitalized (b ∷ bs) = is_ascii_uppercase b
+
+-- A byte is a hyphen.
+abbrev pub is_hyphen : ℕ → Bool
+is_hyphen b = b == hyphen
+
+-- A name has two words, as MIME-Version has: it begins with a capital letter, and has a hyphen.
+abbrev pub has_two_words : List ℕ → Bool
+has_two_words name = is_capitalized name && list_any is_hyphen name
+
+-- A line that a text begins with is a field of a head: its name is a usual one, or has two words.
+abbrev pub is_first_field : List ℕ → Bool
+is_first_field line = is_usual_field line || is_field line && has_two_words (name_of line)
+
 -- A line goes on with the field before it.
 abbrev pub goes_on : List ℕ → Bool
 goes_on line = begins line (codes " ") || begins line (9 ∷ [])
@@ -52,6 +69,10 @@ is_from_line line = begins line (codes "From ") && list_all is_ascii_digit (drop
 -- A line begins or ends lines of code: it has three backquotes.
 abbrev pub is_fence : List ℕ → Bool
 is_fence line = begins (bare line) (codes "```")
+
+-- The same with three tildes.
+abbrev pub is_tildes : List ℕ → Bool
+is_tildes line = begins (bare line) (codes "~~~")
 
 -- A line is the mark of a signature.
 abbrev pub is_signature_mark : List ℕ → Bool
@@ -84,22 +105,28 @@ is_code line = is_deep line || is_deep (unquoted line)
 
 -- ---- where a line stands
 
--- The place after a line that stays as it is; none if it does not stay. No head, and no code, is in the middle of a paragraph,
--- which goes on where `joins` is true.
+-- A line begins the head of a mail: it parts the mails of a mailbox, or is a usual field.
+abbrev pub begins_head : List ℕ → Bool
+begins_head line = is_from_line line || is_usual_field line
+
+-- The place after a line that stays as it is; none if it does not stay. No head, and no code, begins in the middle of a
+-- paragraph, which goes on where `joins` is true.
 abbrev pub place_in_body : Bool → List ℕ → Option Place
 place_in_body joins line =
-    if not joins && is_from_line line then Some Head
+    if not joins && begins_head line then Some Head
     else if not joins && is_code line then Some Body
     else if is_fence line then Some Fence
+    else if is_tildes line then Some Tildes
     else if is_signature_mark line then Some Signature
     else if is_no_prose line then Some Body else None
 
 -- The same for a line with a word, at any place outside of fences.
 abbrev pub place_of_words : Place → Bool → List ℕ → Option Place
-place_of_words Beginning joins line = if is_usual_field line then Some Head else place_in_body joins line
+place_of_words Beginning joins line = if is_first_field line then Some Head else place_in_body joins line
 place_of_words Head joins line = if is_field line || goes_on line then Some Head else place_in_body joins line
 place_of_words Body joins line = place_in_body joins line
 place_of_words Fence joins line = if is_fence line then Some Body else Some Fence
+place_of_words Tildes joins line = if is_tildes line then Some Body else Some Tildes
 place_of_words Signature joins line = Some Signature
 
 -- A place is within fences.
@@ -108,6 +135,7 @@ is_fenced Beginning = false
 is_fenced Head = false
 is_fenced Body = false
 is_fenced Fence = true
+is_fenced Tildes = true
 is_fenced Signature = false
 
 -- A byte is white space.

@@ -1,5 +1,5 @@
 -- Statements that are true of all texts.
-use Rattle.std.specs.Prelude.{◌≡◌, ◌⊎◌, ℕ, ◌||◌, Bool, true, false, not, List, [], ◌++◌, filter, None}
+use Rattle.std.specs.Prelude.{◌≡◌, ◌⊎◌, ℕ, ◌||◌, Bool, false, not, List, [], ◌∷◌, ◌++◌, filter, None, ⊤}
 use Rattle.std.specs.List.{All, flat_map, list_all}
 use Rattle.std.specs.Str.Lines.{strip_carriage_return}
 use Rattle.hyphenation_breaks.specs.Break.{Break}
@@ -7,10 +7,10 @@ use Rattle.paragraphs.specs.Pages.{IsPage}
 use Rattle.paragraphs.specs.Paragraphs.{is_blank, lines_of}
 use Rattle.paragraphs.specs.Parts.{Style}
 use Rattle.paragraphs.specs.declared.setting.Aim.{Aim}
-use Rattle.written_texts.specs.Prefixes.{is_sign, quote_length, lead_length}
+use Rattle.written_texts.specs.Prefixes.{is_sign, quote_length, lead_length, written_prefix, blank_prefix}
 use Rattle.written_texts.specs.Kept.{is_white, place_of_words}
-use Rattle.written_texts.specs.Blocks.{Block, Line, Filled, blocks}
-use Rattle.written_texts.specs.Written.{IsWritten}
+use Rattle.written_texts.specs.Blocks.{Paragraph, Block, Line, Filled, blocks}
+use Rattle.written_texts.specs.Written.{IsBlockSet, IsWritten}
 use Rattle.written_texts.specs.declared.place.Place.TheVariants.{Beginning}
 
 -- A byte is no white space and no quote sign.
@@ -53,3 +53,21 @@ ProseIsFilledAlike =
     (aim : Aim) (breaks_of : List ℕ → List Break) (style : Style) (columns : ℕ) (text : List ℕ) (lines : List (List ℕ))
     → All IsProseLine (lines_of text) → IsWritten aim breaks_of style columns text lines
     → IsPage aim breaks_of style columns text lines
+
+-- A text begins with another one.
+pub record Begins (with text : List ℕ) : Type 0 where
+  pub rest : List ℕ
+  pub whole : text ≡ with ++ rest
+
+-- The first line begins with a text, and each other line with another one.
+abbrev pub LinesBegin : List ℕ → List ℕ → List (List ℕ) → Type 0
+LinesBegin first others [] = ⊤
+LinesBegin first others (line ∷ lines) = Begins first line × All (Begins others) lines
+
+-- The lines of a paragraph have its prefixes, after the text that is asked for before lines: the first line has that of the
+-- paragraph's first line, and each other one that of the other lines, where spaces stand in place of indent and mark.
+abbrev pub LinesKeepPrefixes : Type 0
+LinesKeepPrefixes =
+    (aim : Aim) (breaks_of : List ℕ → List Break) (style : Style) (columns : ℕ) (p : Paragraph) (lines : List (List ℕ))
+    → IsBlockSet aim breaks_of style columns (Filled p) lines
+    → LinesBegin (style.first ++ written_prefix p.first) (style.indent ++ blank_prefix p.others) lines

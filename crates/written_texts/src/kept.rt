@@ -3,8 +3,8 @@
 ghost use Rattle.std.specs.Prelude.{◌≡◌, ◌≤◌, length};
 ghost use Rattle.std.specs.Char.{is_ascii_digit};
 ghost use Rattle.std.specs.List.{list_all, list_any};
-ghost use Rattle.written_texts.specs.Kept.{goes_on, hashes, has_letters, is_code, is_empty_line, is_fence, is_fenced, is_field};
-ghost use Rattle.written_texts.specs.Kept.{is_from_line, is_heading, is_no_prose, is_same_name};
+ghost use Rattle.written_texts.specs.Kept.{begins_head, goes_on, hashes, has_letters, has_two_words, is_capitalized, is_code, is_empty_line, is_fence};
+ghost use Rattle.written_texts.specs.Kept.{is_fenced, is_field, is_first_field, is_from_line, is_heading, is_hyphen, is_no_prose, is_same_name, is_tildes};
 ghost use Rattle.written_texts.specs.Kept.{is_signature_mark, is_usual_field, is_white, name_of, place_in_body, place_of_words, usual_names};
 
 use crate::place::Place;
@@ -62,6 +62,37 @@ fn is_usual_field(line: &[u8]) -> bool
     is_field(line) && is_usual_name(name_of(line))
 }
 
+// Tests whether a text begins with a capital letter.
+fn is_capitalized(text: &[u8]) -> bool
+    ensures { result ≡ is_capitalized text.now }
+{
+    match text.first() {
+        Some(byte) => byte.is_ascii_uppercase(),
+        None => false,
+    }
+}
+
+// Tests whether a text has a hyphen.
+fn has_hyphen(text: &[u8]) -> bool
+    ensures { result ≡ list_any is_hyphen text.now }
+{
+    text.iter().any(|byte| *byte == b'-')
+}
+
+// Tests whether a name has two words.
+fn has_two_words(name: &[u8]) -> bool
+    ensures { result ≡ has_two_words name.now }
+{
+    is_capitalized(name) && has_hyphen(name)
+}
+
+// Tests whether a line that a text begins with is a field of a head.
+fn is_first_field(line: &[u8]) -> bool
+    ensures { result ≡ is_first_field line.now }
+{
+    is_usual_field(line) || (is_field(line) && has_two_words(name_of(line)))
+}
+
 // Tests whether a line goes on with the field before it.
 fn goes_on(line: &[u8]) -> bool
     ensures { result ≡ goes_on line.now }
@@ -88,6 +119,13 @@ fn is_fence(line: &Parted<'_>) -> bool
     ensures { result ≡ is_fence line.now.text.now }
 {
     line.bare.as_bytes().starts_with(b"```")
+}
+
+// Tests whether a line begins or ends lines of code between tildes.
+fn is_tildes(line: &Parted<'_>) -> bool
+    ensures { result ≡ is_tildes line.now.text.now }
+{
+    line.bare.as_bytes().starts_with(b"~~~")
 }
 
 // Tests whether a line is the mark of a signature.
@@ -140,16 +178,25 @@ fn is_code(line: &Parted<'_>) -> bool
     is_deep(line.text.as_bytes()) || is_deep(line.unquoted.as_bytes())
 }
 
+// Tests whether a line begins the head of a mail.
+fn begins_head(line: &[u8]) -> bool
+    ensures { result ≡ begins_head line.now }
+{
+    is_from_line(line) || is_usual_field(line)
+}
+
 // Returns the place after a line that stays.
 fn place_in_body(joins: bool, line: &Parted<'_>) -> Option<Place>
     ensures { result ≡ place_in_body joins line.now.text.now }
 {
-    if !joins && is_from_line(line.text.as_bytes()) {
+    if !joins && begins_head(line.text.as_bytes()) {
         Some(Place::Head)
     } else if !joins && is_code(line) {
         Some(Place::Body)
     } else if is_fence(line) {
         Some(Place::Fence)
+    } else if is_tildes(line) {
+        Some(Place::Tildes)
     } else if is_signature_mark(line) {
         Some(Place::Signature)
     } else if is_no_prose(line) {
@@ -165,10 +212,12 @@ pub(crate) fn place_of_words(place: Place, joins: bool, line: &Parted<'_>) -> Op
 {
     let bytes = line.text.as_bytes();
     match place {
-        Place::Beginning if is_usual_field(bytes) => Some(Place::Head),
+        Place::Beginning if is_first_field(bytes) => Some(Place::Head),
         Place::Head if is_field(bytes) || goes_on(bytes) => Some(Place::Head),
         Place::Fence if is_fence(line) => Some(Place::Body),
         Place::Fence => Some(Place::Fence),
+        Place::Tildes if is_tildes(line) => Some(Place::Body),
+        Place::Tildes => Some(Place::Tildes),
         Place::Signature => Some(Place::Signature),
         _ => place_in_body(joins, line),
     }
@@ -192,7 +241,7 @@ fn are_white(text: &[u8]) -> bool
 fn is_fenced(place: Place) -> bool
     ensures { result ≡ is_fenced place }
 {
-    matches!(place, Place::Fence)
+    matches!(place, Place::Fence | Place::Tildes)
 }
 
 // Tests whether a line has nothing beside quote signs and white space, where it stands at this place.

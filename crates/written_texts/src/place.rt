@@ -9,8 +9,10 @@ pub enum Place {
     Head,
     /// Among paragraphs.
     Body,
-    /// Within fences of code.
+    /// Within lines of code between three backquotes.
     Fence,
+    /// Within lines of code between three tildes.
+    Tildes,
     /// In a signature.
     Signature,
 }
