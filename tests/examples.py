@@ -1,11 +1,11 @@
 """Runs the commands and examples of pages and man pages, and compares what they print with what is shown.
 
-A command is a line of a block `sh`, or one after `$ ` in a block or in an example of a man page, where the lines after it are
-what it prints, on standard error if nothing is on standard output. `# prints TEXT` at the end of a line is the same. In the list
-of programs of the README it is what is between backticks and has an argument. All commands of a page run in one folder, in
-their order; it has the examples of the repository and small files by the names that the pages use. A command whose output
-is not shown has to end with status 0. Where a page says /users/me, it is the home of that folder, and spaces in rows count
-as two. Blocks of C, Rust and Python in the README are those of bindings/README.md, which tests/bindings runs.
+A command is a line of a block `sh`, or one after `$ ` in another block or in an example of a man page. There the lines after
+it are what it prints, on standard error if nothing is on standard output. `# prints TEXT` at the end of a line is the same. In
+the list of programs of the README it is what is between backticks and has an argument. All commands of a page run in one
+folder, in their order; it has the examples of the repository and small files by the names that the pages use. A command
+whose output is not shown has to end with status 0. Where a page says /users/me, it is the home of that folder, and spaces
+in rows count as two. Blocks of C, Rust and Python in the README are those of bindings/README.md, which tests/bindings runs.
 
 A command that is not run is named in NOT_RUN with the reason, and one that needs files of Debian in NEEDS. An entry that no
 command matches is wrong, and so is a program whose man page shows no output that was compared.
@@ -241,6 +241,28 @@ def check_blocks(scratch):
     check(ran.returncode == 0, f"docs/CALLING.md: the function of Python: {ran.stderr.strip()[-300:]}")
 
 
+# The dictionaries of the words at the top of the README: the kind, the code, and the file that hyphenate-languages makes.
+OF_WORDS = [("standard", "en-us", "en-us.txt"), ("standard", "de-1996", "de-1996.txt"), ("extended", "hu", "hu.extended.txt")]
+
+
+def check_words(scratch):
+    """The words at the top of the README break as they are shown there. It returns why they are left out, or None."""
+    for path in (TEX, "/usr/share/hyphen/hyph_hu_HU.dic"):
+        if not list(pathlib.Path("/").glob(path[1:])):
+            return f"{path} is not there"
+    made = [str(ROOT / "hyphenate-languages"), "--into", str(scratch / "texts"), *(code for _, code, _ in OF_WORDS)]
+    environment = {**os.environ, "HYPHENATE_BIN": str(scratch / "bin"), "PYTHONDONTWRITEBYTECODE": "1"}
+    ran = subprocess.run(made, env=environment, text=True, capture_output=True, check=False)
+    check(ran.returncode == 0, f"README.md: the dictionaries of its words: {ran.stderr.strip()[-300:]}")
+    words = re.findall(r"^(\w+) +→ +(\S+) ", (ROOT / "README.md").read_text(), re.M)
+    check(len(words) == len(OF_WORDS), f"README.md: {len(words)} words with their breaks, and not {len(OF_WORDS)}")
+    for (word, shown), (kind, code, text) in zip(words, OF_WORDS):
+        command = [str(scratch / "bin/hyphenate"), kind, code, str(scratch / "texts" / text), "-"]
+        has = subprocess.run(command, input=word, text=True, capture_output=True, check=False).stdout
+        check(has == shown, f"README.md: {word} is {has}, and the page shows {shown}")
+    return None
+
+
 def doc_examples():
     """The examples in the doc comments of public items: the file and the line of each."""
     for path in sorted(ROOT.glob("crates/*/src/**/*.rt")):
@@ -288,6 +310,8 @@ def main(words):
         shows = any(command.page == f"man/{path.name}" for command in compared)
         check(shows or path.suffix == ".7", f"man/{path.name}: no output of an example was compared")
     check_blocks(scratch)
+    reason = check_words(scratch)
+    left_out += [("README.md: the words at its top", reason)] if reason else []
     check_itself(scratch)
     examples = list(doc_examples())
     if lists:
