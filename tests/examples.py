@@ -33,7 +33,7 @@ NOT_RUN = [
      "it needs the library for C; tests/bindings and tests/install make and link it"),
     (r".*: tests/", "it is a script of tests/"),
     (r".*: bench/", "it measures"),
-    (r".*: packaging/", "it makes packages; tests/packages and packaging/try run it"),
+    (r".*: packaging/|packaging/README.md: hyphenate-", "it makes packages or needs them; tests/packages and packaging/try do so"),
     (r"languages/README.md: (mkdir tex|for package)", "it downloads packages"),
     (r".*: languages/(make|libreoffice|table) ", "it goes through all languages; tests/languages runs what it does over a few"),
     (r".*: DICPATH=", "it starts LibreOffice; tests/libreoffice does so"),
