@@ -14,8 +14,12 @@ struct own {
   hyphenation text;
   size_t left, right; /* the minima of the text */
   bool is_text;
+  unsigned words; /* the words that the .dic was asked for, up to those before its tables */
   pthread_mutex_t lock;
 };
+
+/* The words before the tables of a .dic are made. A process with few words does without them. */
+enum { WORDS_BEFORE_TABLES = 8192 };
 
 /* The lists of changes, which are the caller's. */
 struct lists {
@@ -123,6 +127,9 @@ static bool by_levels(struct own *own, bool given, const hyphenation_levels_mini
   bool made;
   for (;;) {
     pthread_mutex_lock(&own->lock);
+    /* Where memory is short, words go on without the tables. */
+    if (own->words < WORDS_BEFORE_TABLES && ++own->words == WORDS_BEFORE_TABLES)
+      hyphenation_levels_make_tables(&own->levels);
     status = hyphenation_levels_word(&own->levels, given, minima, text, length, size, (uint8_t *)hyphens, size, &count,
                                      changes, changes_room, &changes_count, texts, texts_room, &texts_count, &made);
     pthread_mutex_unlock(&own->lock);

@@ -15,7 +15,7 @@ ghost use Rattle.c_calls.specs.Statuses.{WritesMarkedText, WritesLines, WritesCa
 ghost use Rattle.c_calls.specs.TexFiles.{LoadsPatterns, PlacesFault};
 ghost use Rattle.level_calls.specs.Levels.{holds as holds_levels, Loads as LoadsLevels, minima_given, answer_by};
 ghost use Rattle.level_calls.specs.Levels.{HasStatus, FillsOne, OneIsShort, Says, WritesText, WritesDigits};
-ghost use Rattle.level_calls.specs.Levels.{digits_in, changes_in, texts_in, made_in};
+ghost use Rattle.level_calls.specs.Levels.{digits_in, changes_in, texts_in, made_in, MakesTables};
 
 use c_calls::changes::BreakChange;
 use c_calls::handle::Handle;
@@ -312,6 +312,15 @@ pub extern "C" fn hyphenation_levels_free(alloc: Global, handle: &mut LevelsHand
     ensures empty { holds_levels handle.new ≡ None }
 {
     level_calls::free(alloc, handle);
+}
+
+/// Makes the tables by which such a dictionary breaks words faster, for the levels that have none yet and can have one.
+#[unsafe(no_mangle)]
+pub extern "C" fn hyphenation_levels_make_tables(alloc: Global, handle: &mut LevelsHandle) -> u32
+    ensures unchanged { handle.new.slot.kept ≡ handle.old.slot.kept }
+    ensures status { MakesTables (holds_levels handle.old) result }
+{
+    level_calls::make_tables(alloc, handle)
 }
 
 /// Writes the digits of a word's characters, the changes of their places, and the texts of the changes, each to the front

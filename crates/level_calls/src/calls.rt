@@ -1,7 +1,7 @@
 //! The calls, for a dictionary that is loaded.
 
 ghost use Rattle.std.specs.Prelude.{◌≡◌, ◌⊎◌, ◌≤◌, ◌<◌, [], false, IfOk, length};
-ghost use Rattle.c_calls.specs.Statuses.{into};
+ghost use Rattle.c_calls.specs.Statuses.{into, IsDoneOrRefused};
 ghost use Rattle.libhyphen_files.specs.Files.{rules_of};
 ghost use Rattle.libhyphen_rule.specs.Calls.{answer_of, Answer};
 ghost use Rattle.libhyphen_rule.specs.Found.{answer_view};
@@ -28,6 +28,18 @@ pub fn load(alloc: Global, bytes: &[u8]) -> Result<Box<Loaded>, AllocError>
     match Box::new(alloc, Loaded { dictionary }) {
         Ok(boxed) => Ok(boxed),
         Err(_) => Err(AllocError),
+    }
+}
+
+/// Makes the tables by which words are broken faster, for the levels that have none yet and can have one. The result is the
+/// status.
+pub fn make_tables(loaded: &mut Loaded, alloc: Global) -> u32
+    ensures unchanged { loaded.new ≡ loaded.old }
+    ensures status { IsDoneOrRefused result }
+{
+    match loaded.dictionary.make_tables(alloc) {
+        Ok(()) => DONE,
+        Err(_) => OUT_OF_MEMORY,
     }
 }
 

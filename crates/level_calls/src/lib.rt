@@ -9,7 +9,7 @@
 ghost use Rattle.std.specs.Prelude.{◌≡◌, ◌<◌, None, length};
 ghost use Rattle.c_calls.specs.Statuses.{into};
 ghost use Rattle.level_calls.specs.Levels.{holds, Loads, minima_given, answer_by, HasStatus, FillsOne, OneIsShort, Says};
-ghost use Rattle.level_calls.specs.Levels.{digits_in, changes_in, texts_in, made_in, WritesText, WritesDigits};
+ghost use Rattle.level_calls.specs.Levels.{digits_in, changes_in, texts_in, made_in, MakesTables, WritesText, WritesDigits};
 
 pub mod buffers;
 pub mod calls;
@@ -45,6 +45,20 @@ pub fn free(alloc: Global, handle: &mut Handle)
     ensures empty { holds handle.new ≡ None }
 {
     drop(handle.take(alloc));
+}
+
+/// Makes the tables by which words are broken faster, for the levels that have none yet and can have one. The dictionary is
+/// unchanged.
+pub fn make_tables(alloc: Global, handle: &mut Handle) -> u32
+    ensures unchanged { handle.new.slot.kept ≡ handle.old.slot.kept }
+    ensures status { MakesTables (holds handle.old) result }
+{
+    let Some(mut loaded) = handle.take(alloc) else {
+        return NO_DICTIONARY;
+    };
+    let status = calls::make_tables(&mut loaded, alloc);
+    *handle = Handle::of(loaded);
+    status
 }
 
 /// Writes the digits of a word's characters, the changes of their places, and the texts of the changes, each to the front

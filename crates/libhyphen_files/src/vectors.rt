@@ -55,7 +55,7 @@ pub struct NodeVectors {
     pub numbers: Vec<u32>,
     /// The vectors.
     pub vectors: Vec<[u8; 16]>,
-    /// The steps from node to node, with these numbers, if they fit into a table.
+    /// The steps from node to node, with these numbers, if their table is made.
     pub steps: Option<Steps>,
 }
 
@@ -235,7 +235,11 @@ fn numbered_vectors(
     Ok(Numbered { numbers, vectors })
 }
 
-// Returns the vectors of all nodes. The only error is out of memory.
+// A level with so many nodes gets its table of steps when it is loaded. A smaller one is loaded in about two thirds of the time
+// without it.
+const MANY_NODES: usize = 1 << 16;
+
+// Returns the vectors of all nodes. A level with few nodes has no table of steps yet. The only error is out of memory.
 pub(crate) fn vectors_of(
     alloc: Global,
     patterns: &Automaton<StoredPattern>,
@@ -243,12 +247,30 @@ pub(crate) fn vectors_of(
     ensures { IfOk result (λ vectors. AreVectors patterns.now vectors) }
 {
     let Numbered { numbers, vectors } = numbered_vectors(alloc, patterns)?;
-    let steps = make_steps(alloc, patterns, &numbers)?;
-    Ok(NodeVectors {
+    let mut made = NodeVectors {
         numbers,
         vectors,
-        steps,
-    })
+        steps: None,
+    };
+    if patterns.nodes() >= MANY_NODES {
+        add_steps(alloc, patterns, &mut made)?;
+    }
+    Ok(made)
+}
+
+// Makes the table of steps, if there is none yet and the steps fit into one. The only error is out of memory.
+pub(crate) fn add_steps(
+    alloc: Global,
+    patterns: &Automaton<StoredPattern>,
+    vectors: &mut NodeVectors,
+) -> Result<(), AllocError>
+    requires { AreVectors patterns.now vectors.old }
+    ensures vectors { AreVectors patterns.now vectors.new }
+{
+    if vectors.steps.is_none() {
+        vectors.steps = make_steps(alloc, patterns, &vectors.numbers)?;
+    }
+    Ok(())
 }
 
 // Tests whether a node's text begins with a byte. Only then may a key.

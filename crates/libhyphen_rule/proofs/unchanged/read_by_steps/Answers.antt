@@ -1,4 +1,4 @@
-use Rattle.std.proofs.Common.{◌≡◌, ◌+◌, length, refl, ap, ◌∙◌, arith}
+use Rattle.std.proofs.Common.{◌≡◌, ◌+◌, length, refl, ap, ◌∙◌, arith, []}
 use Rattle.std.proofs.lemmas.List.{get_or-replicate}
 use Rattle.libhyphen_rule.specs.Counting.{framed}
 use Rattle.libhyphen_rule.specs.Private.Lanes.{AtRow}
@@ -40,3 +40,6 @@ pub returns-clause-read : goal.returns-clause-read
 returns-clause-read c =
     read_whole (AtRow c.args.patterns.now c.args.vectors.now c.args.steps.now) c.args.patterns.now c.args.word.now c.loop-at.at c.loop-at.pass c.passed_by_steps.result c.loop-at.list c.passed_by_steps.new.list
     c.requires.word (omega arith) c.loop-at.invariant.passed c.passed_by_steps.ensures.passed
+
+pub passed_by_steps-pass-requires-clause-row : goal.passed_by_steps-pass-requires-clause-row
+passed_by_steps-pass-requires-clause-row c = ([], c.first_row.ensures c.args.vectors.now.numbers.items c.requires.steps)
