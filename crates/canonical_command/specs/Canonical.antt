@@ -6,7 +6,7 @@ use Rattle.any_dictionary.specs.Dictionaries.{canonical_text, contents_of, refus
 use Rattle.any_dictionary.specs.declared.AnyDictionary.{AnyDictionary}
 use Rattle.command_line.specs.About.{help_or_version}
 use Rattle.command_line.specs.Dictionaries.{KnownFiles, IsOfArgument, IsFailureOf}
-use Rattle.command_line.specs.Failures.{status_of}
+use Rattle.command_line.specs.Endings.{End, Done, Refuses, Fails}
 use Rattle.command_line.specs.Options.{ReadArguments, RefusedArgument, refused, after_step, read_arguments}
 use Rattle.command_line.specs.declared.TheConstants.{VERSION}
 use Rattle.command_line.specs.declared.failure.Failure.{Failure}
@@ -74,25 +74,26 @@ abbrev pub Writes : {W : Type 0} → Option (List ℕ) → KnownFiles → List (
 Writes named bytes_of folders left contents old new = (dictionary : AnyDictionary)
     × IsAsked named bytes_of folders left dictionary × AppendsTo contents old new (canonical_text dictionary)
 
--- The program ends with the status of a failure. The output is as it was, unless it is the output that failed.
-abbrev pub EndsBy : {W : Type 0} → Option (List ℕ) → KnownFiles → List (Bor (List ℕ)) → Option (List ℕ) → ℕ → W → W → Type 0
-EndsBy named bytes_of folders left status old new = (failure : Failure) × (status ≡ status_of failure)
+-- The program ends for a failure. The output is as it was, unless it is the output that failed.
+abbrev pub EndsFailed : {W : Type 0} → Option (List ℕ) → KnownFiles → List (Bor (List ℕ)) → Option (List ℕ)
+    → (End → Type 0) → W → W → Type 0
+EndsFailed named bytes_of folders left EndsSo old new = (failure : Failure) × EndsSo (Fails failure)
     × IsFailureFor named bytes_of folders left failure × ((failure ≡ failed.Output) ⊎ (new ≡ old))
 
--- How the program ends for its arguments. If one is refused, the status is 2, or memory was refused. Else the status is 0,
--- and the text was written, or it is that of a failure.
+-- How the program ends for its arguments. If one is refused, it says which, or memory was refused. Else it is done, and the
+-- text was written, or it fails.
 abbrev pub EndsFor : {W : Type 0} → Result (Option (List ℕ)) RefusedArgument → KnownFiles → List (Bor (List ℕ)) → Option (List ℕ)
-    → ℕ → (W → Option (List ℕ)) → W → W → Type 0
-EndsFor (Err refused) bytes_of folders left status contents old new = (status ≡ 2) ⊎ (status ≡ 6)
-EndsFor (Ok named) bytes_of folders left status contents old new =
-    ((status ≡ 0) × Writes named bytes_of folders left contents old new)
-    ⊎ EndsBy named bytes_of folders left status old new
+    → (End → Type 0) → (W → Option (List ℕ)) → W → W → Type 0
+EndsFor (Err refused) bytes_of folders left EndsSo contents old new = EndsSo (Refuses refused) ⊎ EndsSo (Fails failed.Memory)
+EndsFor (Ok named) bytes_of folders left EndsSo contents old new =
+    (EndsSo (Done []) × Writes named bytes_of folders left contents old new)
+    ⊎ EndsFailed named bytes_of folders left EndsSo old new
 
 -- If no help was asked for, the program ends so for its arguments.
 abbrev pub EndsUnlessAsked : {W : Type 0} → List (Bor (List ℕ)) → KnownFiles → List (Bor (List ℕ)) → Option (List ℕ)
-    → ℕ → (W → Option (List ℕ)) → W → W → Type 0
-EndsUnlessAsked args bytes_of folders left status contents old new =
-    asked_text args ≡ None → EndsFor (parsed_args args) bytes_of folders left status contents old new
+    → (End → Type 0) → (W → Option (List ℕ)) → W → W → Type 0
+EndsUnlessAsked args bytes_of folders left EndsSo contents old new =
+    asked_text args ≡ None → EndsFor (parsed_args args) bytes_of folders left EndsSo contents old new
 
 -- Arguments name a dictionary, or one of them is refused. So standard input is not asked for.
 abbrev pub asks_no_input : Result (Option (List ℕ)) RefusedArgument → Bool

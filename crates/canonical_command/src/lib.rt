@@ -5,17 +5,18 @@
 
 ghost use Rattle.std.specs.Prelude.{◌≡◌, ◌⊎◌, true, is_some, Ok, Some, option_copied, OnOk, IfErr, IfOk};
 ghost use Rattle.command_line.specs.About.{WritesHelp};
+ghost use Rattle.command_line.specs.Endings.{EndsBy, Tells};
 ghost use Rattle.command_line.specs.Reading.{IsReadError};
 ghost use Rattle.command_line.specs.Statuses.{BeforeOutput};
 ghost use Rattle.hyphenation_breaks.specs.Borrowed.{texts_now};
-ghost use Rattle.canonical_command.specs.Canonical.{asks_no_input, named_by, parsed_args};
+ghost use Rattle.canonical_command.specs.Canonical.{asked_text, asks_no_input, named_by, parsed_args};
 ghost use Rattle.canonical_command.specs.Canonical.{EndsUnlessAsked, IsAsked, IsFailureFor, IsFailureOfLoading, Writes};
 ghost use Rattle.canonical_command.specs.Private.Refusals.{IsRefusalOf};
 
 use any_dictionary::AnyDictionary;
 use command_line::dictionaries::load_dictionary;
 use command_line::options::{BadArgument, Expected, ReadError, read, report_bad_argument};
-use command_line::{Failure, NamedFiles, VERSION, report, write_help_or_version};
+use command_line::{Failure, Messages, NamedFiles, VERSION, done, report, write_help_or_version};
 use hyphenation_load::{Error, Load};
 use std::alloc::Global;
 use std::io::{Read, Write};
@@ -135,12 +136,12 @@ fn put_in_order<F: NamedFiles, I: Read, O: Write>(
 /// | 5 | standard input can't be read, or the result can't be written |
 /// | 6 | memory was refused |
 ///
-/// A message for any status but 0 is written to `errors`, except if the text of `--help` or `--version` can't be
-/// written. The output is as it was unless the status is 0, or the output can't be written. Standard input is read only
+/// With any status but 0 exactly its message is written to `errors`, except if the text of `--help` or `--version` can't
+/// be written. The output is as it was unless the status is 0, or the output can't be written. Standard input is read only
 /// if no dictionary is named.
 ///
 /// ```text
-/// answer(&rt, rt.alloc(), &["en-us.txt"], &[], &mut rt.stdin(), &mut rt.stdout(), &mut rt.stderr())
+/// answer(&rt, rt.alloc(), &["en-us.txt"], &[], &mut rt.stdin(), &mut rt.stdout(), &mut errors)
 /// ```
 pub fn answer<F: NamedFiles, I: Read, O: Write, E: Write>(
     files: &F,
@@ -149,11 +150,12 @@ pub fn answer<F: NamedFiles, I: Read, O: Write, E: Write>(
     folders: &[&str],
     input: &mut I,
     output: &mut O,
-    errors: &mut E,
+    errors: &mut Messages<E>,
 ) -> u8
     ensures help { WritesHelp NAME.now VERSION.now USAGE.now args.now (Some result) O.contents output.old output.new }
-    ensures ended { EndsUnlessAsked args.now (F.bytes files.now) folders.now (I.remaining input.old) result
-        O.contents output.old output.new }
+    ensures ended { EndsUnlessAsked args.now (F.bytes files.now) folders.now (I.remaining input.old)
+        (EndsBy NAME.now result (Tells E.contents errors.old errors.new)) O.contents output.old output.new }
+    ensures quiet { is_some (asked_text args.now) ≡ true → errors.new ≡ errors.old }
     ensures unread { asks_no_input (parsed_args args.now) ≡ true → input.new ≡ input.old }
     ensures untouched { BeforeOutput result (output.new ≡ output.old) }
 {
@@ -166,7 +168,7 @@ pub fn answer<F: NamedFiles, I: Read, O: Write, E: Write>(
         Err(ReadError::Memory) => return report(alloc, NAME, &Failure::Memory, errors),
     };
     match put_in_order(files, alloc, folders, named, input, output) {
-        Ok(()) => 0,
+        Ok(()) => done(errors),
         Err(failure) => report(alloc, NAME, &failure, errors),
     }
 }

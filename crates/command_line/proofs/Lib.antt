@@ -2,3 +2,4 @@ pub mod EqualsSign
 pub mod OptionTexts
 pub mod OptionsRead
 pub mod Files
+pub mod Telling

@@ -2,8 +2,10 @@ pub mod Private
 pub mod About
 pub mod OptionLaws
 pub mod Options
+pub mod Usage
 pub mod Reading
 pub mod Failures
+pub mod Endings
 pub mod Dictionaries
 pub mod Inputs
 pub mod Statuses

@@ -1,15 +1,13 @@
 //! Why a program wrote nothing, or not all: one type for all programs, with its status and its message.
 
-ghost use Rattle.std.specs.Prelude.{◌≡◌, IfSome, OnOk};
-ghost use Rattle.hyphenation_load.specs.Load.{AppendsTo};
-ghost use Rattle.command_line.specs.Failures.{failure_line, status_of};
+ghost use Rattle.command_line.specs.Endings.{EndsBy, Fails, Tells};
 
-use crate::write_whole;
+use crate::messages::Messages;
 use hyphenation_load::Error;
 use std::alloc::{AllocError, Global};
+use std::fmt;
 use std::fmt::{Display, Formatter};
 use std::io::Write;
-use std::{fmt, io};
 
 /// Why an input is refused.
 #[derive(Clone, Copy)]
@@ -91,28 +89,9 @@ impl Display for Failure {
     }
 }
 
-/// Writes why a run of the program of this name failed, in a line.
+/// Writes why a run of the program of this name failed, in a line, and returns its status.
 ///
-/// It is one write, or, if memory for that is refused, some. The error is that of the writer.
-///
-/// ```text
-/// write_failure(alloc, "hyphenate-lines", &Failure::Memory, &mut rt.stderr())?      // hyphenate-lines: no memory
-/// ```
-pub fn write_failure<W: Write>(
-    alloc: Global,
-    name: &str,
-    failure: &Failure,
-    output: &mut W,
-) -> io::Result<()>
-    ensures { OnOk result
-        (IfSome (failure_line name.now failure.now) (AppendsTo W.contents output.old output.new)) }
-{
-    write_whole(alloc, &format_args!("{name}: {failure}\n"), output)
-}
-
-/// Writes why a run of the program of this name failed, as `write_failure` does, and returns its status.
-///
-/// An error of writing changes nothing.
+/// An error of writing changes nothing of the status.
 ///
 /// | Status | When |
 /// |---|---|
@@ -122,12 +101,17 @@ pub fn write_failure<W: Write>(
 /// | 6 | memory was refused |
 ///
 /// ```text
-/// report(alloc, "hyphenate-lines", &Failure::Memory, &mut rt.stderr())      // hyphenate-lines: no memory
+/// report(alloc, "hyphenate-lines", &Failure::Memory, &mut errors)      // hyphenate-lines: no memory
 /// ```
-pub fn report<E: Write>(alloc: Global, name: &str, failure: &Failure, errors: &mut E) -> u8
-    ensures { result ≡ status_of failure.now }
+pub fn report<E: Write>(
+    alloc: Global,
+    name: &str,
+    failure: &Failure,
+    errors: &mut Messages<E>,
+) -> u8
+    ensures { EndsBy name.now result (Tells E.contents errors.old errors.new) (Fails failure.now) }
 {
-    let _ = write_failure(alloc, name, failure, errors);
+    errors.write(alloc, &format_args!("{name}: {failure}\n"));
     match failure {
         Failure::Dictionary { .. } | Failure::NoDictionary { .. } => 3,
         Failure::Refused { .. } => 4,

@@ -4,17 +4,20 @@
 ghost use Rattle.std.specs.Prelude.{◌≡◌, ◌≢◌, IfSome, OnOk};
 ghost use Rattle.std.specs.IoError.{error_kind};
 ghost use Rattle.hyphenation_load.specs.Load.{AppendsTo};
+ghost use Rattle.command_line.specs.Endings.{Tells};
 
 mod about;
 pub mod dictionaries;
 mod failure;
 pub mod folders;
 pub mod inputs;
+mod messages;
 pub mod options;
 
 pub use about::write_help_or_version;
-pub use failure::{Failure, Refusal, report, write_failure};
+pub use failure::{Failure, Refusal, report};
 use hyphenation_load::is_out_of_memory;
+pub use messages::{Messages, done};
 pub use named_files::{Listed, NamedFiles};
 use std::alloc::Global;
 use std::env::Env;
@@ -40,21 +43,24 @@ pub fn with_words<R: Env + Alloc, T, F: FnOnce(&[&str]) -> T>(rt: &R, call: F) -
 /// Writes why the arguments could not be had, and returns the status to end with.
 ///
 /// If memory was refused, it writes `no_memory`, a whole line, and returns 6; else it writes the usage and returns 2.
-/// An error of writing changes nothing.
+/// An error of writing changes neither.
 pub fn report_bad_args<W: Write>(
+    alloc: Global,
     usage: &str,
     no_memory: &str,
     error: &io::Error,
-    output: &mut W,
+    errors: &mut Messages<W>,
 ) -> u8
-    ensures out_of_memory { error_kind error.now ≡ ErrorKind.OutOfMemory → result ≡ 6 }
-    ensures other { error_kind error.now ≢ ErrorKind.OutOfMemory → result ≡ 2 }
+    ensures out_of_memory { error_kind error.now ≡ ErrorKind.OutOfMemory →
+        (result ≡ 6) × Tells W.contents errors.old errors.new no_memory.now }
+    ensures other { error_kind error.now ≢ ErrorKind.OutOfMemory →
+        (result ≡ 2) × Tells W.contents errors.old errors.new usage.now }
 {
     if is_out_of_memory(error) {
-        let _ = output.write_all(no_memory.as_bytes());
+        errors.write(alloc, &no_memory);
         return 6;
     }
-    let _ = output.write_all(usage.as_bytes());
+    errors.write(alloc, &usage);
     2
 }
 
@@ -74,9 +80,4 @@ pub fn write_whole<D: Display, W: Write>(
         Ok(text) => output.write_all(text.as_bytes()),
         Err(_) => write!(output, "{message}"),
     }
-}
-
-/// Writes a message as [`write_whole`] does. An error of writing changes nothing.
-pub fn write_message<D: Display, W: Write>(alloc: Global, message: &D, output: &mut W) {
-    let _ = write_whole(alloc, message, output);
 }

@@ -2,20 +2,20 @@
 
 ghost use Rattle.std.specs.Prelude.{◌≡◌, ◌==◌, ◌++◌, IfErr, IfOk, MatchResult, OnOk, map, option_copied, position};
 ghost use Rattle.std.specs.Option.{option_to_list};
-ghost use Rattle.hyphenation_load.specs.Load.{AppendsTo};
+ghost use Rattle.command_line.specs.Endings.{EndsBy, Refuses, Tells};
 ghost use Rattle.command_line.specs.Options.{Any, no_arguments, with_given, with_operand, is_operand, name_in, value_in, form_of};
 ghost use Rattle.command_line.specs.Options.{with_option, with_option_if_known, with_argument, ended, read_arguments};
-ghost use Rattle.command_line.specs.Options.{is_given, values_of, last_value, number_within, number_given, refusal_message};
+ghost use Rattle.command_line.specs.Options.{is_given, values_of, last_value, number_within, number_given};
 ghost use Rattle.command_line.specs.OptionLaws.{ValuesJoin, OperandsFollowDashes, OperandsAreRead, OptionsMove, OperandsAreKept};
 ghost use Rattle.command_line.specs.Reading.{given_options, as_read, as_refused, IsAsWanted, IsReadError};
 ghost use Rattle.command_line.specs.Private.Readers.{as_next, IsReader, IsStep};
 
-use crate::write_whole;
+use crate::messages::Messages;
 use hyphenation_grammar::lines::{number_of, starts_with};
 use std::alloc::{AllocError, Global};
+use std::fmt;
 use std::fmt::Display;
 use std::io::Write;
-use std::{fmt, io};
 
 /// An option that a program has.
 #[derive(Clone, Copy)]
@@ -428,42 +428,25 @@ impl<'w> Display for BadArgument<'w> {
     }
 }
 
-/// Writes the message of a program of that name that it refuses an argument: a line that says why, and one that points
-/// to `--help`.
+/// Writes the message of a program of that name that it refuses an argument, and returns the status to end with, which
+/// is 2. One line says why, and one points to `--help`. An error of writing changes nothing of the status.
 ///
 /// ```text
 /// hyphenate-lines: --width=4o: not a number from 1 to 65535
 /// Try 'hyphenate-lines --help'.
 /// ```
-///
-/// It is one write, or, if memory for that is refused, some.
-pub fn write_bad_argument<W: Write>(
-    alloc: Global,
-    name: &str,
-    bad: &BadArgument<'_>,
-    output: &mut W,
-) -> io::Result<()>
-    ensures { OnOk result
-        (AppendsTo W.contents output.old output.new (refusal_message name.now (as_refused bad.now))) }
-{
-    write_whole(
-        alloc,
-        &format_args!("{name}: {bad}\nTry '{name} --help'.\n"),
-        output,
-    )
-}
-
-/// Writes why an argument is refused, as `write_bad_argument` does, and returns the status to end with, which is 2. An
-/// error of writing changes nothing.
 pub fn report_bad_argument<W: Write>(
     alloc: Global,
     name: &str,
     bad: &BadArgument<'_>,
-    output: &mut W,
+    errors: &mut Messages<W>,
 ) -> u8
-    ensures { result ≡ 2 }
+    ensures { EndsBy name.now result (Tells W.contents errors.old errors.new) (Refuses (as_refused bad.now)) }
 {
-    let _ = write_bad_argument(alloc, name, bad, output);
+    errors.write(
+        alloc,
+        &format_args!("{name}: {bad}\nTry '{name} --help'.\n"),
+    );
     2
 }
 

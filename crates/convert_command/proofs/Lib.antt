@@ -4,3 +4,5 @@ pub mod Writing
 pub mod Reading
 pub mod Made
 pub mod Endings
+pub mod Failing
+pub mod Telling

@@ -4,7 +4,7 @@ use Rattle.std.specs.Prelude.{Option, None, Some, MatchOption, IsCharBoundary}
 use Rattle.std.specs.Str.Pattern.{RFindsChar}
 use Rattle.std.proofs.lemmas.Bool.Decides.{nat_tests}
 use Rattle.std.proofs.lemmas.Str.Pattern.{rfind_char}
-use Rattle.convert_command.specs.Private.Tags.{has_slash, name_in}
+use Rattle.convert_command.specs.Tags.{has_slash, name_in}
 
 slash_at : (path : List ℕ) (k : ℕ) → k < length path → get_or path k 0 ≡ 47 → has_slash path ≡ true
 slash_at [] k lt e = absurd (omega arith)

@@ -1,6 +1,4 @@
 -- Definitions for private functions and proofs. No contract of a public call cites them, so they are not for signing.
 pub mod Requests
 pub mod Statuses
-pub mod Tags
-pub mod Rejections
 pub mod Failures

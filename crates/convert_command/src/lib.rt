@@ -3,19 +3,25 @@
 //! It makes a dictionary text from files of hyphenation patterns.
 #![tactic(auto)]
 
-ghost use Rattle.std.specs.Prelude.{◌≡◌, ◌≢◌, ◌⊎◌, ◌∷◌, ◌++◌, [], false, None, Some, OnOk, IfOk, IfErr, length, map, slice_index_or};
+ghost use Rattle.std.specs.Prelude.{◌≡◌, ◌≢◌, ◌⊎◌, ◌∷◌, ◌++◌, [], false, None, Some, OnOk, IfOk, IfErr, is_some, length, map, slice_index_or, true};
 ghost use Rattle.command_line.specs.About.{WritesHelp};
+ghost use Rattle.command_line.specs.Endings.{Tells, TellsMore};
 ghost use Rattle.command_line.specs.Statuses.{BeforeOutput};
 ghost use Rattle.hyphenation_load.specs.Load.{AppendsTo};
 ghost use Rattle.convert_command.specs.Arguments.{asked_text, known_form, path_at};
 ghost use Rattle.convert_command.specs.Written.{IsFor, AreBytesOf, AreBytesAt, AreFilesAt, WritesParsed, WritesFor, IsExitStatus};
 ghost use Rattle.convert_command.specs.Private.Failures.{IsReadingOf, IsFailureOf, failure_of_writing};
 ghost use Rattle.convert_command.specs.Private.Requests.{parsed_request, is_dic, IsMadeFor};
-ghost use Rattle.convert_command.specs.Private.Statuses.{IsStatusOf, MissesMinima};
+ghost use Rattle.convert_command.specs.Private.Statuses.{MissesMinima};
+ghost use Rattle.convert_command.specs.Failures.{IsOutside};
+ghost use Rattle.convert_command.specs.Endings.{IsFailureFor, IsStatusOf, EndsUnlessAsked};
+ghost use Rattle.convert_command.specs.Messages.{TellsFailure, note_line, notes_text, files_in, rejection_message, rejection_of};
+ghost use Rattle.hyphenation_breaks.specs.Borrowed.{texts_now};
+ghost use Rattle.std.specs.IoError.{error_kind};
 
 mod request;
 
-use command_line::{NamedFiles, VERSION, write_help_or_version, write_message};
+use command_line::{Messages, NamedFiles, VERSION, write_help_or_version};
 use hyphenation_breaks::entry::{Listing, Payload};
 use hyphenation_breaks::extended::Subregion;
 use hyphenation_grammar::form::Kind;
@@ -27,7 +33,7 @@ use pattern_results::notes::Note;
 use request::{BadArgs, Input, Request, form_of};
 use std::alloc::{AllocError, Global};
 use std::io;
-use std::io::Write;
+use std::io::{ErrorKind, Write};
 use tex_files::convert::convert_with_notes;
 use tex_files::group::{File, Form};
 use tex_files::head_minima::minima_for;
@@ -98,6 +104,7 @@ fn read_file<F: NamedFiles>(
         AreBytesOf (F.bytes files.now (path_at (map (λ path. path.now) paths.now) index)) bytes.items) }
     ensures failure { IfErr result (IsReadingOf index) }
     ensures not_minima { IfErr result (λ failure. failure ≢ Failure.Minima) }
+    ensures outside { IfErr result IsOutside }
 {
     match read_path(files, alloc, path_at(paths, index)) {
         Ok(bytes) => Ok(bytes),
@@ -122,6 +129,7 @@ fn read_files<F: NamedFiles>(
     ensures of_paths { IfOk result (λ all. AreBytesAt (F.bytes files.now) (map (λ path. path.now) paths.now)
         (map (λ bytes. bytes.items) all.items)) }
     ensures not_minima { IfErr result (λ failure. failure ≢ Failure.Minima) }
+    ensures outside { IfErr result IsOutside }
 {
     let mut all = Vec::new(alloc);
     for (index, _path) in paths.iter().enumerate() {
@@ -223,7 +231,8 @@ fn convert_files<C: Payload, B: Listing>(
 
 // The failure of an error of writing.
 fn failure_of_writing(error: Error) -> Failure
-    ensures { result ≡ failure_of_writing error }
+    ensures failure { result ≡ failure_of_writing error }
+    ensures outside { IsOutside result }
 {
     match error {
         Error::Memory(_) => Failure::Memory,
@@ -240,6 +249,7 @@ fn write_text<D: Load, O: Write>(
     ensures written { OnOk result (AppendsTo O.contents output.old output.new (D.canonical dictionary.now)) }
     ensures untouched { IfErr result (λ failure. (failure ≡ Failure.Writing) ⊎ (output.new ≡ output.old)) }
     ensures not_minima { IfErr result (λ failure. failure ≢ Failure.Minima) }
+    ensures outside { IfErr result IsOutside }
 {
     match dictionary.to_writer(alloc, output) {
         Ok(()) => Ok(()),
@@ -248,7 +258,7 @@ fn write_text<D: Load, O: Write>(
 }
 
 // Reads the files, makes a dictionary of them and writes it. Returns the notes on it.
-#[tactic(auto, using(crate::proofs::Writing::standard_written, crate::proofs::Writing::extended_written, crate::proofs::Reading::as_many))]
+#[tactic(auto, using(crate::proofs::Writing::standard_written, crate::proofs::Writing::extended_written, crate::proofs::Reading::as_many, crate::proofs::Failing::outside_fails, crate::proofs::Failing::bytes_fail))]
 fn run<F: NamedFiles, O: Write>(
     files: &F,
     alloc: Global,
@@ -259,6 +269,8 @@ fn run<F: NamedFiles, O: Write>(
         (F.bytes files.now) O.contents output.old output.new) }
     ensures untouched { IfErr result (λ failure. (failure ≡ Failure.Writing) ⊎ (output.new ≡ output.old)) }
     ensures misses_minima { IfErr result (MissesMinima request.now.left request.now.right) }
+    ensures failure { IfErr result
+        (IsFailureFor (parsed_request request.now) (is_dic request.now.input) (F.bytes files.now)) }
 {
     let bytes = read_files(files, alloc, request.paths)?;
     match request.kind {
@@ -291,68 +303,140 @@ fn path_at<'p>(paths: &[&'p str], index: usize) -> &'p str
     }
 }
 
-// Writes the notes. An error of writing changes nothing.
-fn report_notes<E: Write>(alloc: Global, paths: &[&str], notes: &[Note], errors: &mut E) {
+// Writes a remark, in a line.
+fn report_note<E: Write>(alloc: Global, paths: &[&str], note: &Note, errors: &mut Messages<E>)
+    ensures { TellsMore E.contents errors.old errors.new (note_line (texts_now paths.now) note.now) }
+{
+    let path = path_at(paths, note.first.file);
+    let line = note.first.line;
+    let kind = note.kind;
+    let times = note.times;
+    errors.write(
+        alloc,
+        &format_args!("hyphenate-convert: {path}:{line}: note: {kind} ({times})\n"),
+    );
+}
+
+// Writes all remarks.
+fn report_notes<E: Write>(alloc: Global, paths: &[&str], notes: &[Note], errors: &mut Messages<E>)
+    ensures { Tells E.contents errors.old errors.new (notes_text (texts_now paths.now) notes.now) }
+{
     for note in notes {
-        let path = paths.get(note.first.file).copied().unwrap_or("");
-        let line = note.first.line;
-        let kind = note.kind;
-        let times = note.times;
-        write_message(
-            alloc,
-            &format_args!("hyphenate-convert: {path}:{line}: note: {kind} ({times})\n"),
-            errors,
-        );
+        report_note(alloc, paths, note, errors);
     }
 }
 
 // Writes that memory was refused, and returns the status.
-fn report_memory<E: Write>(errors: &mut E) -> u8
-    ensures { result ≡ 6 }
+fn report_memory<E: Write>(alloc: Global, errors: &mut Messages<E>) -> u8
+    ensures status { result ≡ 6 }
+    ensures told { Tells E.contents errors.old errors.new NO_MEMORY.now }
 {
-    let _ = errors.write_all(NO_MEMORY.as_bytes());
+    errors.write(alloc, &NO_MEMORY);
     6
 }
 
-// Writes why a conversion failed, and returns the status.
-fn report<E: Write>(alloc: Global, paths: &[&str], failure: &Failure, errors: &mut E) -> u8
-    ensures { IsStatusOf failure.now result }
+// Writes that the file of a number can't be opened or read, and returns the status.
+fn report_unread<E: Write>(
+    alloc: Global,
+    paths: &[&str],
+    index: usize,
+    e: &io::Error,
+    errors: &mut Messages<E>,
+) -> u8
+    ensures out_of_memory { error_kind e.now ≡ ErrorKind.OutOfMemory →
+        (result ≡ 6) × Tells E.contents errors.old errors.new NO_MEMORY.now }
+    ensures other { error_kind e.now ≢ ErrorKind.OutOfMemory → result ≡ 3 }
 {
-    match failure {
-        Failure::Reading(index, e) => {
-            let path = paths.get(*index).copied().unwrap_or("");
-            if is_out_of_memory(e) {
-                return report_memory(errors);
-            }
-            write_message(
-                alloc,
-                &format_args!("hyphenate-convert: {path}: {e}\n"),
-                errors,
-            );
-            3
-        }
-        Failure::Refused(ConvertError::Fault { file, line, cause }) => {
-            let path = paths.get(*file).copied().unwrap_or("");
-            write_message(
+    if is_out_of_memory(e) {
+        return report_memory(alloc, errors);
+    }
+    let path = path_at(paths, index);
+    errors.write(alloc, &format_args!("hyphenate-convert: {path}: {e}\n"));
+    3
+}
+
+// Writes why a file is refused, and returns the status.
+fn report_refused<E: Write>(
+    alloc: Global,
+    paths: &[&str],
+    error: &ConvertError,
+    errors: &mut Messages<E>,
+) -> u8
+    ensures status { IsStatusOf (Failure.Refused error.now) result }
+    ensures told { TellsFailure (texts_now paths.now) (Failure.Refused error.now) (Tells E.contents errors.old errors.new) }
+{
+    match error {
+        ConvertError::Fault { file, line, cause } => {
+            let path = path_at(paths, *file);
+            errors.write(
                 alloc,
                 &format_args!("hyphenate-convert: {path}:{line}: {cause}\n"),
-                errors,
             );
             3
         }
+        ConvertError::Memory => report_memory(alloc, errors),
+    }
+}
+
+// Writes why a conversion failed, and returns the status.
+fn report<E: Write>(
+    alloc: Global,
+    paths: &[&str],
+    failure: &Failure,
+    errors: &mut Messages<E>,
+) -> u8
+    ensures status { IsStatusOf failure.now result }
+    ensures told { TellsFailure (texts_now paths.now) failure.now (Tells E.contents errors.old errors.new) }
+{
+    match failure {
+        Failure::Reading(index, e) => report_unread(alloc, paths, *index, e, errors),
+        Failure::Refused(error) => report_refused(alloc, paths, error, errors),
         Failure::Minima => {
-            let _ = errors.write_all(
-                b"hyphenate-convert: no file says the minima: give LEFT and RIGHT\n",
+            errors.write(
+                alloc,
+                &"hyphenate-convert: no file says the minima: give LEFT and RIGHT\n",
             );
             2
         }
         Failure::Writing => {
-            let _ = errors.write_all(b"hyphenate-convert: the result can't be written\n");
+            errors.write(alloc, &"hyphenate-convert: the result can't be written\n");
             5
         }
-        Failure::Refused(ConvertError::Memory) => report_memory(errors),
-        Failure::Memory => report_memory(errors),
+        Failure::Memory => report_memory(alloc, errors),
     }
+}
+
+// Returns the files of arguments, which come after four others.
+fn files_in<'w, 'a>(args: &'a [&'w str]) -> &'a [&'w str]
+    ensures { texts_now result.now ≡ files_in (texts_now args.now) }
+{
+    match args {
+        [_, _, _, _, files @ ..] => files,
+        _ => &[],
+    }
+}
+
+// Returns the file of a number in arguments.
+fn file_at<'w>(args: &[&'w str], index: usize) -> &'w str
+    ensures { result.now ≡ path_at (files_in (texts_now args.now)) index }
+{
+    path_at(files_in(args), index)
+}
+
+// Writes that the file of a number is rejected, and returns the status.
+fn report_rejected_file<E: Write>(
+    alloc: Global,
+    args: &[&str],
+    index: usize,
+    why: &str,
+    errors: &mut Messages<E>,
+) -> u8
+    ensures status { result ≡ 2 }
+    ensures told { Tells E.contents errors.old errors.new (rejection_of (texts_now args.now) index why.now) }
+{
+    let path = file_at(args, index);
+    errors.write(alloc, &format_args!("hyphenate-convert: {path}: {why}\n"));
+    2
 }
 
 // Writes why the arguments are rejected, and returns the status.
@@ -360,33 +444,34 @@ fn report_rejected_args<E: Write>(
     alloc: Global,
     args: &[&str],
     bad_args: BadArgs,
-    errors: &mut E,
+    errors: &mut Messages<E>,
 ) -> u8
-    ensures { result ≡ 2 }
+    ensures status { result ≡ 2 }
+    ensures told { Tells E.contents errors.old errors.new (rejection_message (texts_now args.now) bad_args) }
 {
-    let (index, why) = match bad_args {
+    match bad_args {
         BadArgs::NoForm => {
-            let _ = errors.write_all(USAGE.as_bytes());
-            return 2;
+            errors.write(alloc, &USAGE);
+            2
         }
-        BadArgs::Ending(index) => (
+        BadArgs::Ending(index) => report_rejected_file(
+            alloc,
+            args,
             index,
             "a file is .dic, .tex, .pat.txt or .hyp.txt, and this is none of them",
+            errors,
         ),
-        BadArgs::NotAlone(index) => (index, "a .dic is converted alone"),
-        BadArgs::OtherLanguage(index) => (
+        BadArgs::NotAlone(index) => {
+            report_rejected_file(alloc, args, index, "a .dic is converted alone", errors)
+        }
+        BadArgs::OtherLanguage(index) => report_rejected_file(
+            alloc,
+            args,
             index,
             "another language than the file before it, by its name",
+            errors,
         ),
-    };
-    // the files come after four arguments
-    let path = args.get(index.saturating_add(4)).copied().unwrap_or("");
-    write_message(
-        alloc,
-        &format_args!("hyphenate-convert: {path}: {why}\n"),
-        errors,
-    );
-    2
+    }
 }
 
 /// Does what the arguments ask for, and returns the status to end with.
@@ -399,25 +484,27 @@ fn report_rejected_args<E: Write>(
 /// | 5 | the result can't be written |
 /// | 6 | memory was refused |
 ///
-/// A message for any status but 0 is written to `errors`, except if the text of `--help` or `--version` can't be
-/// written. With status 0 `errors` gets notes on what was left out or decided. The output is as it was unless the
+/// With any status but 0 exactly its message is written to `errors`, except if the text of `--help` or `--version` can't
+/// be written. With status 0 `errors` gets notes on what was left out or decided. The output is as it was unless the
 /// status is 0 or 5.
 ///
 /// ```text
 /// let args = ["standard", "en-us", "2", "3", "hyph-en-us.tex"];
-/// answer(&rt, rt.alloc(), &args, &mut rt.stdout(), &mut rt.stderr())
+/// answer(&rt, rt.alloc(), &args, &mut rt.stdout(), &mut errors)
 /// ```
 pub fn answer<F: NamedFiles, O: Write, E: Write>(
     files: &F,
     alloc: Global,
     args: &[&str],
     output: &mut O,
-    errors: &mut E,
+    errors: &mut Messages<E>,
 ) -> u8
     ensures help { WritesHelp NAME.now VERSION.now USAGE.now args.now (Some result) O.contents output.old output.new }
     ensures written { asked_text args.now ≡ None → result ≡ 0 →
         WritesFor args.now (F.bytes files.now) O.contents output.old output.new }
     ensures exit_status { asked_text args.now ≡ None → IsExitStatus result }
+    ensures ended { EndsUnlessAsked args.now (F.bytes files.now) result (Tells E.contents errors.old errors.new) }
+    ensures quiet { is_some (asked_text args.now) ≡ true → errors.new ≡ errors.old }
     ensures untouched { BeforeOutput result (output.new ≡ output.old) }
 {
     if let Some(status) = write_help_or_version(NAME, USAGE, args, output) {

@@ -1,11 +1,13 @@
 //! Parses the arguments of the program.
 
-ghost use Rattle.std.specs.Prelude.{◌≡◌, ◌<◌, ◌+◌, ◌==◌, IfOk, IfSome, IsSome, None, MatchOption, drop, length, map, option_copied, option_map, position};
-ghost use Rattle.convert_command.specs.Private.Tags.{name_in, tag_in, is_other, other_language_from};
+ghost use Rattle.std.specs.Prelude.{◌≡◌, ◌<◌, ◌+◌, ◌==◌, IfErr, IfOk, IfSome, IsSome, None, MatchOption};
+ghost use Rattle.std.specs.Prelude.{drop, length, map, option_copied, option_map, position};
+ghost use Rattle.convert_command.specs.Tags.{name_in, tag_in, is_other, other_language_from};
 ghost use Rattle.convert_command.specs.Arguments.{IsMinimum, ParsesAs, ParsesAsMinimum, has_ending, is_dic_path, is_dic_alone};
 ghost use Rattle.convert_command.specs.Arguments.{form_of};
 ghost use Rattle.convert_command.specs.Private.Requests.{parsed_request, is_dic};
-ghost use Rattle.convert_command.specs.Private.Rejections.{bad_ending_from, input_of};
+ghost use Rattle.convert_command.specs.Rejections.{bad_ending_from, input_of};
+ghost use Rattle.convert_command.specs.Endings.{IsRejection};
 
 use hyphenation_breaks::language::Language;
 use hyphenation_grammar::form::Kind;
@@ -201,10 +203,12 @@ fn minimum_of(text: &str) -> Option<Option<u8>>
 
 impl<'w> Request<'w> {
     /// Parses arguments `KIND CODE LEFT RIGHT FILE..`. The error says why they are rejected.
+    #[tactic(auto, using(crate::proofs::Failing::args_rejected))]
     pub fn from_args(args: &'w [&'w str]) -> Result<Request<'w>, BadArgs>
         ensures parsed { IfOk result (λ request. ParsesAs args.now (parsed_request request)) }
         ensures input { IfOk result (λ request.
             is_dic request.input ≡ is_dic_alone (map (λ path. path.now) request.paths.now)) }
+        ensures rejected { IfErr result (IsRejection args.now) }
     {
         let [kind, code, left, right, paths @ ..] = args else {
             return Err(BadArgs::NoForm);

@@ -4,7 +4,7 @@ use Rattle.std.specs.Borrow.{Bor}
 use Rattle.any_dictionary.specs.declared.AnyDictionary.{AnyDictionary}
 use Rattle.command_line.specs.About.{help_or_version}
 use Rattle.command_line.specs.Dictionaries.{KnownFiles, IsOfArgument, IsFailureOf}
-use Rattle.command_line.specs.Failures.{status_of}
+use Rattle.command_line.specs.Endings.{End, Done, Refuses, Fails}
 use Rattle.command_line.specs.Inputs.{IsFailureOfInput}
 use Rattle.command_line.specs.Options.{RefusedArgument}
 use Rattle.command_line.specs.declared.TheConstants.{VERSION}
@@ -45,19 +45,21 @@ IsFailureFor parsed bytes_of folders left failure = IsFailureOf bytes_of (texts_
 
 -- ---- how the program ends
 
--- The program ends with the status of a failure. The output is as it was, unless it is the output that failed.
-abbrev pub EndsBy : {W : Type 0} → ParsedArgs → KnownFiles → List (Bor (List ℕ)) → Option (List ℕ) → ℕ → W → W → Type 0
-EndsBy parsed bytes_of folders left status old new = (failure : Failure) × (status ≡ status_of failure)
+-- The program ends for a failure. The output is as it was, unless it is the output that failed.
+abbrev pub EndsFailed : {W : Type 0} → ParsedArgs → KnownFiles → List (Bor (List ℕ)) → Option (List ℕ) → (End → Type 0) → W → W
+    → Type 0
+EndsFailed parsed bytes_of folders left EndsSo old new = (failure : Failure) × EndsSo (Fails failure)
     × IsFailureFor parsed bytes_of folders left failure × ((failure ≡ failed.Output) ⊎ (new ≡ old))
 
--- How the program ends for its arguments. If one is refused, the status is 2, or memory was refused. Else the status is 0,
--- and what they ask for was written, or it is that of a failure.
+-- How the program ends for its arguments. If one is refused, it says which, or memory was refused. Else it is done, and what
+-- they ask for was written, or it fails.
 abbrev pub EndsFor : {W : Type 0} → Result ParsedArgs RefusedArgument → KnownFiles → List (Bor (List ℕ)) → Option (List ℕ)
-    → ℕ → (W → Option (List ℕ)) → W → W → Type 0
-EndsFor (Err refused) bytes_of folders left status contents old new = (status ≡ 2) ⊎ (status ≡ 6)
-EndsFor (Ok parsed) bytes_of folders left status contents old new =
-    ((status ≡ 0) × Writes parsed bytes_of folders left contents old new)
-    ⊎ EndsBy parsed bytes_of folders left status old new
+    → (End → Type 0) → (W → Option (List ℕ)) → W → W → Type 0
+EndsFor (Err refused) bytes_of folders left EndsSo contents old new =
+    EndsSo (Refuses refused) ⊎ EndsSo (Fails failed.Memory)
+EndsFor (Ok parsed) bytes_of folders left EndsSo contents old new =
+    (EndsSo (Done []) × Writes parsed bytes_of folders left contents old new)
+    ⊎ EndsFailed parsed bytes_of folders left EndsSo old new
 
 -- There are words.
 abbrev pub has_words : List (List ℕ) → Bool
@@ -70,13 +72,13 @@ asks_no_input (Ok parsed) = has_words parsed.words
 asks_no_input (Err refused) = true
 
 -- The program ends so for its arguments. Where they don't ask for standard input, it is as it was.
-pub record Ends {W : Type 0} (parsed : Result ParsedArgs RefusedArgument) (bytes_of : KnownFiles) (folders : List (Bor (List ℕ))) (left : Option (List ℕ)) (unread : Type 0) (status : ℕ) (contents : W → Option (List ℕ)) (old new : W) : Type 0 where
-  pub ended : EndsFor parsed bytes_of folders left status contents old new
+pub record Ends {W : Type 0} (parsed : Result ParsedArgs RefusedArgument) (bytes_of : KnownFiles) (folders : List (Bor (List ℕ))) (left : Option (List ℕ)) (unread : Type 0) (EndsSo : End → Type 0) (contents : W → Option (List ℕ)) (old new : W) : Type 0 where
+  pub ended : EndsFor parsed bytes_of folders left EndsSo contents old new
   pub input_left : asks_no_input parsed ≡ true → unread
 
 -- If no help was asked for, the program ends so for its arguments.
 abbrev pub EndsUnasked : {W : Type 0} → List (Bor (List ℕ)) → KnownFiles → List (Bor (List ℕ)) → Option (List ℕ)
-    → Type 0 → ℕ → (W → Option (List ℕ)) → W → W → Type 0
-EndsUnasked args bytes_of folders left unread status contents old new = asked_text args ≡ None
+    → Type 0 → (End → Type 0) → (W → Option (List ℕ)) → W → W → Type 0
+EndsUnasked args bytes_of folders left unread EndsSo contents old new = asked_text args ≡ None
     → (parsed : Result ParsedArgs RefusedArgument) × IsParsed args parsed
-    × Ends parsed bytes_of folders left unread status contents old new
+    × Ends parsed bytes_of folders left unread EndsSo contents old new

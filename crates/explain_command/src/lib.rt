@@ -3,16 +3,19 @@
 //! For each word it writes the patterns that occur in it, the values that they give, and the fact that decides.
 #![tactic(auto)]
 
-ghost use Rattle.std.specs.Prelude.{◌≡◌, Some};
+ghost use Rattle.std.specs.Prelude.{◌≡◌, Some, is_some, map, true};
 ghost use Rattle.command_line.specs.About.{WritesHelp};
+ghost use Rattle.command_line.specs.Endings.{EndsBy, Tells};
 ghost use Rattle.command_line.specs.Statuses.{BeforeOutput};
-ghost use Rattle.explain_command.specs.Endings.{EndsUnasked};
+ghost use Rattle.command_line.specs.Usage.{names_options};
+ghost use Rattle.explain_command.specs.Arguments.{option_names};
+ghost use Rattle.explain_command.specs.Endings.{EndsUnasked, asked_text};
 
 mod request;
 mod run;
 
 use command_line::options::{ReadError, report_bad_argument};
-use command_line::{Failure, NamedFiles, VERSION, report, write_help_or_version};
+use command_line::{Failure, Messages, NamedFiles, VERSION, done, report, write_help_or_version};
 use request::Request;
 pub use run::explained;
 use run::run;
@@ -39,6 +42,11 @@ they give, and the fact that decides.
 /// The message if memory was refused.
 pub const NO_MEMORY: &str = "hyphenate-explain: no memory\n";
 
+/// A law: the text of `--help` names each option of the program, and no other.
+pub fn usage_names_options()
+    ensures { names_options USAGE.now (map (λ option. option.0) option_names) ≡ true }
+{}
+
 /// Does what the arguments ask for, and returns the status to end with.
 ///
 /// The whole text is made before the first byte of it is written. A language is looked for in `folders`.
@@ -52,13 +60,13 @@ pub const NO_MEMORY: &str = "hyphenate-explain: no memory\n";
 /// | 5 | standard input can't be read, or the result can't be written |
 /// | 6 | memory was refused |
 ///
-/// A message for any status but 0 is written to `errors`, except if the text of `--help` or `--version` can't be
-/// written. The output is as it was unless the status is 0, or the output can't be written. Standard input is read only
+/// With any status but 0 exactly its message is written to `errors`, except if the text of `--help` or `--version` can't
+/// be written. The output is as it was unless the status is 0, or the output can't be written. Standard input is read only
 /// if no word is given, and not with status 3.
 ///
 /// ```text
 /// let args = ["examples/firkin.txt", "firkins"];
-/// answer(&rt, rt.alloc(), &args, &[], &mut rt.stdin(), &mut rt.stdout(), &mut rt.stderr())
+/// answer(&rt, rt.alloc(), &args, &[], &mut rt.stdin(), &mut rt.stdout(), &mut errors)
 /// ```
 pub fn answer<F: NamedFiles, I: Read, O: Write, E: Write>(
     files: &F,
@@ -67,11 +75,13 @@ pub fn answer<F: NamedFiles, I: Read, O: Write, E: Write>(
     folders: &[&str],
     input: &mut I,
     output: &mut O,
-    errors: &mut E,
+    errors: &mut Messages<E>,
 ) -> u8
     ensures help { WritesHelp NAME.now VERSION.now USAGE.now args.now (Some result) O.contents output.old output.new }
     ensures ended { EndsUnasked args.now (F.bytes files.now) folders.now (I.remaining input.old)
-        (input.new ≡ input.old) result O.contents output.old output.new }
+        (input.new ≡ input.old) (EndsBy NAME.now result (Tells E.contents errors.old errors.new))
+        O.contents output.old output.new }
+    ensures quiet { is_some (asked_text args.now) ≡ true → errors.new ≡ errors.old }
     ensures dictionary_first { result ≡ 3 → input.new ≡ input.old }
     ensures untouched { BeforeOutput result (output.new ≡ output.old) }
 {
@@ -84,7 +94,7 @@ pub fn answer<F: NamedFiles, I: Read, O: Write, E: Write>(
         Err(ReadError::Memory) => return report(alloc, NAME, &Failure::Memory, errors),
     };
     match run(files, alloc, &request, folders, input, output) {
-        Ok(()) => 0,
+        Ok(()) => done(errors),
         Err(failure) => report(alloc, NAME, &failure, errors),
     }
 }

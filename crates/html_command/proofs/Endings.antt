@@ -3,7 +3,7 @@ use Rattle.std.proofs.Common.{◌≡◌, ℕ, true, List, Option, Ok, Err, refl,
 use Rattle.std.specs.Borrow.{Bor}
 use Rattle.std.specs.Prelude.{◌⊎◌, IfErr, Result}
 use Rattle.command_line.specs.Dictionaries.{KnownFiles}
-use Rattle.command_line.specs.Failures.{status_of}
+use Rattle.command_line.specs.Endings.{End, Done, Refuses, Fails}
 use Rattle.command_line.specs.Options.{RefusedArgument, expectation}
 use Rattle.command_line.specs.declared.failure.Failure.{Failure}
 use Rattle.command_line.specs.declared.failure.Failure.TheVariants as failed
@@ -12,43 +12,46 @@ use Rattle.command_line.specs.declared.options.OptionForm.{OptionForm}
 use Rattle.hyphenation_load.specs.Load.{AppendsTo}
 use Rattle.replaced_files.specs.Files.{WrittenFiles, WritesFiles}
 use Rattle.html_command.specs.Arguments.{ParsedArgs, IsParsed, language_words, names_of, option_names, parsed_by}
+use Rattle.html_command.specs.Notes.{notes_text}
+use Rattle.html_command.specs.declared.TheConstants.{NAME}
+use Rattle.html_command.specs.declared.notes.PageNote.{PageNote}
 use Rattle.html_command.specs.Written.{AreResults, EndsFor, IsFailureBefore, names_files_alone}
 use Rattle.text_results.specs.Written.{IsFailureFor, IsFailureOfWriting, WritesResults, files_of, output_of}
 
 pub ends_done : {W S : Type 0} (parsed : Result ParsedArgs RefusedArgument) (args : ParsedArgs) (bytes_of : KnownFiles) (usual : List (List ℕ)) (left : Option (List ℕ))
-    (contents : W → Option (List ℕ)) (old new : W) (written : S → Option WrittenFiles) (old_files new_files : S) → parsed ≡ Ok args
-    → WritesResults (AreResults args bytes_of usual left) args.options.target args.inputs contents old new written old_files new_files
-    → EndsFor parsed bytes_of usual left 0 contents old new written old_files new_files
-ends_done parsed args bytes_of usual left contents old new written old_files new_files e writes =
-    subst (λ (p : Result ParsedArgs RefusedArgument). EndsFor p bytes_of usual left 0 contents old new written old_files new_files) (sym e) (inl (refl, writes))
+    (EndsSo : End → Type 0) (contents : W → Option (List ℕ)) (old new : W) (written : S → Option WrittenFiles) (old_files new_files : S) (notes : List PageNote) → parsed ≡ Ok args
+    → EndsSo (Done (notes_text NAME.now args.inputs notes)) → WritesResults (AreResults args bytes_of usual left) args.options.target args.inputs contents old new written old_files new_files
+    → EndsFor parsed bytes_of usual left EndsSo contents old new written old_files new_files
+ends_done parsed args bytes_of usual left EndsSo contents old new written old_files new_files notes e done writes =
+    subst (λ (p : Result ParsedArgs RefusedArgument). EndsFor p bytes_of usual left EndsSo contents old new written old_files new_files) (sym e) (inl ((notes, done), writes))
 
 pub ends_by : {W S : Type 0} (parsed : Result ParsedArgs RefusedArgument) (args : ParsedArgs) (bytes_of : KnownFiles) (usual : List (List ℕ)) (left : Option (List ℕ))
-    (status : ℕ) (failure : Failure) (contents : W → Option (List ℕ)) (old new : W) (written : S → Option WrittenFiles) (old_files new_files : S) → parsed ≡ Ok args
-    → status ≡ status_of failure → IsFailureFor (AreResults args bytes_of usual left) (IsFailureBefore args bytes_of usual left) args.options.target args.inputs written old_files new_files failure → ((failure ≡ failed.Output) ⊎ (new ≡ old))
-    → EndsFor parsed bytes_of usual left status contents old new written old_files new_files
-ends_by parsed args bytes_of usual left status failure contents old new written old_files new_files e s fails kept =
-    subst (λ (p : Result ParsedArgs RefusedArgument). EndsFor p bytes_of usual left status contents old new written old_files new_files) (sym e) (inr (failure, s, fails, kept))
+    (EndsSo : End → Type 0) (failure : Failure) (contents : W → Option (List ℕ)) (old new : W) (written : S → Option WrittenFiles) (old_files new_files : S) → parsed ≡ Ok args
+    → EndsSo (Fails failure) → IsFailureFor (AreResults args bytes_of usual left) (IsFailureBefore args bytes_of usual left) args.options.target args.inputs written old_files new_files failure → ((failure ≡ failed.Output) ⊎ (new ≡ old))
+    → EndsFor parsed bytes_of usual left EndsSo contents old new written old_files new_files
+ends_by parsed args bytes_of usual left EndsSo failure contents old new written old_files new_files e s fails kept =
+    subst (λ (p : Result ParsedArgs RefusedArgument). EndsFor p bytes_of usual left EndsSo contents old new written old_files new_files) (sym e) (inr (failure, s, fails, kept))
 
 pub ends_refused : {W S : Type 0} (parsed : Result ParsedArgs RefusedArgument) (refusal : RefusedArgument) (bytes_of : KnownFiles) (usual : List (List ℕ)) (left : Option (List ℕ))
-    (status : ℕ) (contents : W → Option (List ℕ)) (old : W) (written : S → Option WrittenFiles) (old_files : S) → parsed ≡ Err refusal → status ≡ 2
-    → EndsFor parsed bytes_of usual left status contents old old written old_files old_files
-ends_refused parsed refusal bytes_of usual left status contents old written old_files e two =
-    subst (λ (p : Result ParsedArgs RefusedArgument). EndsFor p bytes_of usual left status contents old old written old_files old_files) (sym e) (inl two, refl)
+    (EndsSo : End → Type 0) (contents : W → Option (List ℕ)) (old : W) (written : S → Option WrittenFiles) (old_files : S) → parsed ≡ Err refusal → EndsSo (Refuses refusal)
+    → EndsFor parsed bytes_of usual left EndsSo contents old old written old_files old_files
+ends_refused parsed refusal bytes_of usual left EndsSo contents old written old_files e two =
+    subst (λ (p : Result ParsedArgs RefusedArgument). EndsFor p bytes_of usual left EndsSo contents old old written old_files old_files) (sym e) (inl two, refl)
 
 pub ends_no_memory : {W S : Type 0} (parsed : Result ParsedArgs RefusedArgument) (bytes_of : KnownFiles) (usual : List (List ℕ)) (left : Option (List ℕ))
-    (status : ℕ) (contents : W → Option (List ℕ)) (old : W) (written : S → Option WrittenFiles) (old_files : S) → status ≡ 6
-    → EndsFor parsed bytes_of usual left status contents old old written old_files old_files
-ends_no_memory (Ok args) bytes_of usual left status contents old written old_files six = inr (failed.Memory, six, inl (tt, refl), inr refl)
-ends_no_memory (Err refusal) bytes_of usual left status contents old written old_files six = (inr six, refl)
+    (EndsSo : End → Type 0) (contents : W → Option (List ℕ)) (old : W) (written : S → Option WrittenFiles) (old_files : S) → EndsSo (Fails failed.Memory)
+    → EndsFor parsed bytes_of usual left EndsSo contents old old written old_files old_files
+ends_no_memory (Ok args) bytes_of usual left EndsSo contents old written old_files six = inr (failed.Memory, six, inl (tt, refl), inr refl)
+ends_no_memory (Err refusal) bytes_of usual left EndsSo contents old written old_files six = (inr six, refl)
 
 -- The options are those of the program.
 pub parsed_ends : {W S I : Type 0} (args : List (Bor (List ℕ))) (expected : Expected) (forms : List OptionForm) (bytes_of : KnownFiles) (usual : List (List ℕ)) (left : Option (List ℕ)) (before after : I)
-    (status : ℕ) (contents : W → Option (List ℕ)) (old new : W) (written : S → Option WrittenFiles) (old_files new_files : S) → expectation expected ≡ language_words → names_of forms ≡ option_names
-    → EndsFor (parsed_by expected forms args) bytes_of usual left status contents old new written old_files new_files
+    (EndsSo : End → Type 0) (contents : W → Option (List ℕ)) (old new : W) (written : S → Option WrittenFiles) (old_files new_files : S) → expectation expected ≡ language_words → names_of forms ≡ option_names
+    → EndsFor (parsed_by expected forms args) bytes_of usual left EndsSo contents old new written old_files new_files
     → (names_files_alone (parsed_by expected forms args) ≡ true → after ≡ before)
     → (parsed : Result ParsedArgs RefusedArgument) × IsParsed args parsed
-    × EndsFor parsed bytes_of usual left status contents old new written old_files new_files × (names_files_alone parsed ≡ true → after ≡ before)
-parsed_ends args expected forms bytes_of usual left before after status contents old new written old_files new_files words names ends unread =
+    × EndsFor parsed bytes_of usual left EndsSo contents old new written old_files new_files × (names_files_alone parsed ≡ true → after ≡ before)
+parsed_ends args expected forms bytes_of usual left before after EndsSo contents old new written old_files new_files words names ends unread =
     (parsed_by expected forms args, (expected, forms, words, names, refl), ends, unread)
 
 -- The results of a run, as they are handed on to be written.

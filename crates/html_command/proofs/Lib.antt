@@ -6,3 +6,4 @@ pub mod Requests
 pub mod Runs
 pub mod Given
 pub mod Codes
+pub mod Telling

@@ -1,4 +1,5 @@
 pub mod Private
 pub mod Arguments
 pub mod Dictionaries
+pub mod Notes
 pub mod Written

@@ -1,9 +1,10 @@
 -- The results and the statuses of the program `hyphenate-html`.
-use Rattle.std.specs.Prelude.{◌≡◌, ℕ, Bool, not, true, List, map, Option, None, Result, Ok, Err, ⊤}
+use Rattle.std.specs.Prelude.{◌≡◌, ◌⊎◌, ℕ, Bool, not, true, List, map, Option, None, Result, Ok, Err, ⊤}
 use Rattle.std.specs.Borrow.{Bor}
 use Rattle.std.specs.List.{AllZip, list_any}
 use Rattle.command_line.specs.About.{help_or_version}
 use Rattle.command_line.specs.Dictionaries.{KnownFiles}
+use Rattle.command_line.specs.Endings.{End, Done}
 use Rattle.command_line.specs.Inputs.{is_standard_input, AreTextsOf}
 use Rattle.command_line.specs.Options.{RefusedArgument}
 use Rattle.command_line.specs.declared.TheConstants.{VERSION}
@@ -15,9 +16,11 @@ use Rattle.hyphenation_html.specs.declared.languages.LanguageDictionary.{Languag
 use Rattle.hyphenation_html.specs.declared.settings.Settings.{Settings}
 use Rattle.replaced_files.specs.Files.{WrittenFiles}
 use Rattle.text_results.specs.Texts.{IsFailureAmong}
-use Rattle.text_results.specs.Written.{Ends, EndsRefused}
+use Rattle.text_results.specs.Written.{EndsFailed, EndsRefused, WritesResults}
 use Rattle.html_command.specs.declared.TheConstants.{NAME, USAGE}
 use Rattle.html_command.specs.Arguments.{ParsedArgs, ParsedOptions, IsParsed}
+use Rattle.html_command.specs.Notes.{notes_text}
+use Rattle.html_command.specs.declared.notes.PageNote.{PageNote}
 use Rattle.html_command.specs.Dictionaries.{code_of, AreDictionariesFor, HasCodesOf, IsRefusedFor}
 
 -- The text that the arguments ask for by `--help` or `--version`, if they do.
@@ -70,14 +73,23 @@ IsFailureBefore args bytes_of usual left _ = ⊥
 
 -- ---- how the program ends
 
+-- The program is done: it tells exactly some notes on its pages, each in its line, and the results were written.
+abbrev pub EndsNoted : {W S : Type 0} → ParsedArgs → KnownFiles → List (List ℕ) → Option (List ℕ)
+    → (End → Type 0) → (W → Option (List ℕ)) → W → W → (S → Option WrittenFiles) → S → S → Type 0
+EndsNoted args bytes_of usual left EndsSo contents old new written old_files new_files =
+    ((notes : List PageNote) × EndsSo (Done (notes_text NAME.now args.inputs notes)))
+    × WritesResults (AreResults args bytes_of usual left) args.options.target args.inputs contents old new
+    written old_files new_files
+
 -- How the program ends for its arguments: one is refused, or the results of its pages are written or fail.
-abbrev pub EndsFor : {W S : Type 0} → Result ParsedArgs RefusedArgument → KnownFiles → List (List ℕ) → Option (List ℕ) → ℕ
-    → (W → Option (List ℕ)) → W → W → (S → Option WrittenFiles) → S → S → Type 0
-EndsFor (Err refused) bytes_of usual left status contents old new written old_files new_files =
-    EndsRefused status old_files new_files
-EndsFor (Ok args) bytes_of usual left status contents old new written old_files new_files =
-    Ends (AreResults args bytes_of usual left) (IsFailureBefore args bytes_of usual left) args.options.target args.inputs
-    status contents old new written old_files new_files
+abbrev pub EndsFor : {W S : Type 0} → Result ParsedArgs RefusedArgument → KnownFiles → List (List ℕ) → Option (List ℕ)
+    → (End → Type 0) → (W → Option (List ℕ)) → W → W → (S → Option WrittenFiles) → S → S → Type 0
+EndsFor (Err refused) bytes_of usual left EndsSo contents old new written old_files new_files =
+    EndsRefused refused EndsSo old_files new_files
+EndsFor (Ok args) bytes_of usual left EndsSo contents old new written old_files new_files =
+    EndsNoted args bytes_of usual left EndsSo contents old new written old_files new_files
+    ⊎ EndsFailed (AreResults args bytes_of usual left) (IsFailureBefore args bytes_of usual left) args.options.target
+    args.inputs EndsSo old new written old_files new_files
 
 -- Standard input is none of the pages of arguments, or one of the arguments is refused.
 abbrev pub names_files_alone : Result ParsedArgs RefusedArgument → Bool
@@ -87,8 +99,8 @@ names_files_alone (Err refused) = true
 -- If no help was asked for, the program ends so for its arguments. Standard input is then as it was if it is none of the
 -- pages.
 abbrev pub EndsUnlessAsked : {W S I : Type 0} → List (Bor (List ℕ)) → KnownFiles → List (List ℕ) → (I → Option (List ℕ)) → I → I
-    → ℕ → (W → Option (List ℕ)) → W → W → (S → Option WrittenFiles) → S → S → Type 0
-EndsUnlessAsked args bytes_of usual remaining before after status contents old new written old_files new_files =
+    → (End → Type 0) → (W → Option (List ℕ)) → W → W → (S → Option WrittenFiles) → S → S → Type 0
+EndsUnlessAsked args bytes_of usual remaining before after EndsSo contents old new written old_files new_files =
     asked_text args ≡ None → (parsed : Result ParsedArgs RefusedArgument) × IsParsed args parsed
-    × EndsFor parsed bytes_of usual (remaining before) status contents old new written old_files new_files
+    × EndsFor parsed bytes_of usual (remaining before) EndsSo contents old new written old_files new_files
     × (names_files_alone parsed ≡ true → after ≡ before)

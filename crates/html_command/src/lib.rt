@@ -3,12 +3,14 @@
 //! It puts a mark into pages where the words of their text may be broken, and leaves all else as it is.
 #![tactic(auto)]
 
-ghost use Rattle.std.specs.Prelude.{◌≡◌, true, Some};
+ghost use Rattle.std.specs.Prelude.{◌≡◌, true, Some, is_some, map};
 ghost use Rattle.command_line.specs.About.{WritesHelp};
+ghost use Rattle.command_line.specs.Endings.{EndsBy, Tells};
 ghost use Rattle.command_line.specs.Statuses.{BeforeOutput};
+ghost use Rattle.command_line.specs.Usage.{names_options};
 ghost use Rattle.hyphenation_breaks.specs.Borrowed.{texts_now};
-ghost use Rattle.html_command.specs.Arguments.{parsed_by};
-ghost use Rattle.html_command.specs.Written.{names_files_alone, EndsFor, EndsUnlessAsked};
+ghost use Rattle.html_command.specs.Arguments.{option_names, parsed_by};
+ghost use Rattle.html_command.specs.Written.{names_files_alone, EndsFor, EndsUnlessAsked, asked_text};
 
 mod dictionaries;
 mod languages;
@@ -17,7 +19,7 @@ mod request;
 mod run;
 
 use command_line::options::{Expected, OptionForm, ReadError, report_bad_argument};
-use command_line::{Failure, NamedFiles, VERSION, report, write_help_or_version};
+use command_line::{Failure, Messages, NamedFiles, VERSION, report, write_help_or_version};
 use notes::write_notes;
 pub use replaced_files::{Recorded, ReplaceFiles};
 use request::{Request, language_form, option_forms};
@@ -52,6 +54,11 @@ Of an extended dictionary the breaks that change no letter are used.
 /// The message if memory was refused.
 pub const NO_MEMORY: &str = "hyphenate-html: no memory\n";
 
+/// A law: the text of `--help` names each option of the program, and no other.
+pub fn usage_names_options()
+    ensures { names_options USAGE.now (map (λ option. option.0) option_names) ≡ true }
+{}
+
 // Does what arguments ask for, by the forms of the options, and returns the status to end with.
 #[tactic(auto, using(crate::proofs::Endings::ends_done, crate::proofs::Endings::ends_by, crate::proofs::Endings::ends_refused, crate::proofs::Endings::ends_no_memory))]
 fn answer_by<F: NamedFiles, S: ReplaceFiles, I: Read, O: Write, E: Write>(
@@ -64,10 +71,11 @@ fn answer_by<F: NamedFiles, S: ReplaceFiles, I: Read, O: Write, E: Write>(
     folders: &[&str],
     input: &mut I,
     output: &mut O,
-    errors: &mut E,
+    errors: &mut Messages<E>,
 ) -> u8
     ensures ended { EndsFor (parsed_by expected.now forms.now args.now) (F.bytes files.now) (texts_now folders.now)
-        (I.remaining input.old) result O.contents output.old output.new S.written store.old store.new }
+        (I.remaining input.old) (EndsBy NAME.now result (Tells E.contents errors.old errors.new))
+        O.contents output.old output.new S.written store.old store.new }
     ensures unread { names_files_alone (parsed_by expected.now forms.now args.now) ≡ true → input.new ≡ input.old }
     ensures untouched { BeforeOutput result (output.new ≡ output.old) }
 {
@@ -100,13 +108,13 @@ fn answer_by<F: NamedFiles, S: ReplaceFiles, I: Read, O: Write, E: Write>(
 /// | 5 | a page can't be read, or a result can't be written |
 /// | 6 | memory was refused |
 ///
-/// A message for any status but 0 is written to `errors`, except if the text of `--help` or `--version` can't be
-/// written. With status 0 `errors` gets a note on each page for which there was no dictionary. The output is as it was
+/// With any status but 0 exactly its message is written to `errors`, except if the text of `--help` or `--version` can't
+/// be written. With status 0 `errors` gets a note on each page for which there was no dictionary. The output is as it was
 /// unless the status is 0, or the output can't be written. Standard input is read only if it is one of the pages.
 ///
 /// ```text
 /// let args = ["--in-place", "--lang", "en=en-us.txt", "chapter.html"];
-/// answer(&rt, &mut &rt, rt.alloc(), &args, &[], &mut rt.stdin(), &mut rt.stdout(), &mut rt.stderr())
+/// answer(&rt, &mut &rt, rt.alloc(), &args, &[], &mut rt.stdin(), &mut rt.stdout(), &mut errors)
 /// ```
 #[tactic(auto, using(crate::proofs::Endings::parsed_ends))]
 pub fn answer<F: NamedFiles, S: ReplaceFiles, I: Read, O: Write, E: Write>(
@@ -117,11 +125,13 @@ pub fn answer<F: NamedFiles, S: ReplaceFiles, I: Read, O: Write, E: Write>(
     folders: &[&str],
     input: &mut I,
     output: &mut O,
-    errors: &mut E,
+    errors: &mut Messages<E>,
 ) -> u8
     ensures help { WritesHelp NAME.now VERSION.now USAGE.now args.now (Some result) O.contents output.old output.new }
     ensures ended { EndsUnlessAsked args.now (F.bytes files.now) (texts_now folders.now) I.remaining input.old input.new
-        result O.contents output.old output.new S.written store.old store.new }
+        (EndsBy NAME.now result (Tells E.contents errors.old errors.new)) O.contents output.old output.new
+        S.written store.old store.new }
+    ensures quiet { is_some (asked_text args.now) ≡ true → errors.new ≡ errors.old }
     ensures untouched { BeforeOutput result (output.new ≡ output.old) }
 {
     if let Some(status) = write_help_or_version(NAME, USAGE, args, output) {

@@ -9,7 +9,7 @@ ghost use Rattle.html_command.specs.Private.Runs.{AreResultsBy, FailsBefore, Fai
 ghost use Rattle.html_command.specs.Private.Runs.{IsFailureOfRequest, WritesRequest};
 
 use crate::dictionaries::load_for_page;
-use crate::notes::{Note, note_of};
+use crate::notes::{Note, PageNote, note_of};
 use crate::request::{Options, Request};
 use command_line::{Failure, NamedFiles};
 use hyphenation_html::{LanguageDictionary, hyphenate_html};
@@ -44,12 +44,14 @@ struct Marked {
 #[derive(Drop)]
 struct Results {
     texts: Vec<String>,
-    notes: Vec<Option<Note>>,
+    notes: Vec<PageNote>,
 }
 
-// Appends a note.
-fn push_note(notes: &mut Vec<Option<Note>>, note: Option<Note>) -> Result<(), AllocError> {
-    notes.push(note)?;
+// Appends the note on the page of a number, if it has one.
+fn push_note(notes: &mut Vec<PageNote>, page: usize, note: Option<Note>) -> Result<(), AllocError> {
+    if let Some(note) = note {
+        notes.push(PageNote { page, note })?;
+    }
     Ok(())
 }
 
@@ -94,8 +96,8 @@ fn results_of_pages<F: NamedFiles>(
     let mut notes = Vec::new(alloc);
     for page in pages {
         let one = result_of(files, alloc, options, folders, page)?;
+        push_note(&mut notes, texts.len(), one.note)?;
         push(&mut texts, one.text)?;
-        push_note(&mut notes, one.note)?;
     }
     Ok(Results { texts, notes })
 }
@@ -136,7 +138,7 @@ pub fn run<F: NamedFiles, S: ReplaceFiles, I: Read, O: Write>(
     folders: &[&str],
     input: &mut I,
     output: &mut O,
-) -> Result<Vec<Option<Note>>, Failure>
+) -> Result<Vec<PageNote>, Failure>
     ensures written { OnOk result (WritesRequest request.now (F.bytes files.now) folders.now (I.remaining input.old)
         O.contents output.old output.new S.written store.old store.new) }
     ensures failure { IfErr result (IsFailureOfRequest request.now (F.bytes files.now) folders.now

@@ -1,3 +1,4 @@
 pub mod Private
+pub mod Messages
 pub mod Statuses
 pub mod Arguments

@@ -10,6 +10,7 @@ use Rattle.hyphenation_grammar.specs.declared.form.Kind.{Kind}
 use Rattle.hyphenation.specs.declared.engine.RunError.{RunError}
 use Rattle.hyphenation.specs.declared.engine.RunError.TheVariants.{Dictionary, Edit, TextNotUtf8, Input, Output, Memory}
 use Rattle.hyphenation_grammar.specs.declared.form.Kind.TheVariants.{Standard}
+use Rattle.hyphenate_command.specs.Messages.{message_of}
 use Rattle.hyphenate_command.specs.Arguments.{ParsedArgs, ParsedTask, score, text, lines, parsed_args}
 
 -- The status of a run.
@@ -71,8 +72,10 @@ BeforeText (score kind word) ended P = P
 BeforeText (text kind mark edits) ended P = BeforeReading ended P
 BeforeText (lines columns) ended P = BeforeReading ended P
 
--- The status is that of an end which a run for these arguments may have. If that comes before the reading of the text, the
--- input is unread.
-abbrev pub EndsWith : ParsedArgs → (List ℕ → Option (Option (List ℕ))) → Option (List ℕ) → Type 0 → ℕ → Type 0
-EndsWith parsed bytes_of input unread status = (ended : Result (Unit {0}) RunError) × (status ≡ status_of ended)
+-- The status is that of an end which a run for these arguments may have, and exactly its message was told, where its words
+-- are known. If that end comes before the reading of the text, the input is unread.
+abbrev pub EndsWith : ParsedArgs → (List ℕ → Option (Option (List ℕ))) → Option (List ℕ) → Type 0 → ℕ → (List ℕ → Type 0)
+    → Type 0
+EndsWith parsed bytes_of input unread status Told =
+    (ended : Result (Unit {0}) RunError) × (status ≡ status_of ended) × IfSome (message_of parsed.path ended) Told
     × JudgesFile parsed bytes_of ended × EndsFor parsed.task input ended × BeforeText parsed.task ended unread

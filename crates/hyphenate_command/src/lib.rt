@@ -7,13 +7,14 @@ ghost use Rattle.std.specs.Prelude.{◌≡◌, ◌≢◌, List, ℕ, Err, None, 
 ghost use Rattle.hyphenation_load.specs.Load.{AppendsTo};
 ghost use Rattle.std.specs.IoError.{error_kind};
 ghost use Rattle.hyphenation.specs.Engine.{BeforeWriting, IsUnwritten};
+ghost use Rattle.command_line.specs.Endings.{Tells};
 ghost use Rattle.command_line.specs.Statuses.{BeforeOutput};
 ghost use Rattle.hyphenate_command.specs.Arguments.{parsed_args, score_args, text_args, lines_args};
-ghost use Rattle.hyphenate_command.specs.Private.Messages.{failure_message};
+ghost use Rattle.hyphenate_command.specs.Messages.{failure_message};
 ghost use Rattle.hyphenate_command.specs.Statuses.{status_of, EndsFor, BeforeText, EndsWith, JudgesFile, WritesFor, WritesAnswer};
 ghost use Rattle.hyphenate_command.specs.Private.Requests.{parsed_task, parsed_request};
 
-use command_line::{NamedFiles, write_whole};
+use command_line::{Messages, NamedFiles, done};
 use hyphenation::Language;
 use hyphenation::engine::{Kind, RunError, number_of, run, run_score};
 use hyphenation::load::Error;
@@ -188,42 +189,39 @@ fn opening_error(e: io::Error) -> RunError
     RunError::Dictionary(Error::IO(e))
 }
 
-// Writes why a run failed, by the path of its dictionary. The error is that of the writer.
-fn write_failure<E: Write>(
-    alloc: Global,
-    path: &str,
-    error: &RunError,
-    errors: &mut E,
-) -> io::Result<()>
-    ensures { OnOk result (IfSome (failure_message path.now error.now) (AppendsTo E.contents errors.old errors.new)) }
+// Writes why a run failed, by the path of its dictionary, and returns its status. An error of writing does not change that.
+fn report<E: Write>(alloc: Global, path: &str, error: &RunError, errors: &mut Messages<E>) -> u8
+    ensures status { result ≡ status_of (Err error.now) }
+    ensures told { IfSome (failure_message path.now error.now) (Tells E.contents errors.old errors.new) }
 {
     match error {
         RunError::Dictionary(cause) => {
-            write_whole(alloc, &format_args!("hyphenate: {path}: {cause}\n"), errors)
+            errors.write(alloc, &format_args!("hyphenate: {path}: {cause}\n"));
+            3
         }
-        RunError::Edit(number) => write_whole(
-            alloc,
-            &format_args!("hyphenate: edit {number} is refused\n"),
-            errors,
-        ),
-        RunError::TextNotUtf8 => errors.write_all(b"hyphenate: the text is not UTF-8\n"),
-        RunError::Input(_) => errors.write_all(b"hyphenate: the text can't be read\n"),
-        RunError::Output(_) => errors.write_all(b"hyphenate: the result can't be written\n"),
-        RunError::Memory => errors.write_all(NO_MEMORY.as_bytes()),
-    }
-}
-
-// Writes why a run failed, and returns its status. An error of writing changes nothing.
-fn report<E: Write>(alloc: Global, path: &str, error: &RunError, errors: &mut E) -> u8
-    ensures status { result ≡ status_of (Err error.now) }
-{
-    let _ = write_failure(alloc, path, error, errors);
-    match error {
-        RunError::Edit(_) => 2,
-        RunError::Dictionary(_) => 3,
-        RunError::TextNotUtf8 => 4,
-        RunError::Input(_) | RunError::Output(_) => 5,
-        RunError::Memory => 6,
+        RunError::Edit(number) => {
+            errors.write(
+                alloc,
+                &format_args!("hyphenate: edit {number} is refused\n"),
+            );
+            2
+        }
+        RunError::TextNotUtf8 => {
+            errors.write(alloc, &"hyphenate: the text is not UTF-8\n");
+            4
+        }
+        RunError::Input(_) => {
+            errors.write(alloc, &"hyphenate: the text can't be read\n");
+            5
+        }
+        RunError::Output(_) => {
+            errors.write(alloc, &"hyphenate: the result can't be written\n");
+            5
+        }
+        RunError::Memory => {
+            errors.write(alloc, &NO_MEMORY);
+            6
+        }
     }
 }
 
@@ -238,11 +236,11 @@ fn report<E: Write>(alloc: Global, path: &str, error: &RunError, errors: &mut E)
 /// | 5 | the text can't be read, or the result can't be written |
 /// | 6 | memory was refused |
 ///
-/// A message for any status but 0 is written to `errors`. The output is as it was unless the status is 0 or 5.
+/// With any status but 0 exactly its message is written to `errors`. The output is as it was unless the status is 0 or 5.
 ///
 /// ```text
 /// let args = ["score", "standard", "en-gb", "examples/firkin.txt", "firkins"];
-/// answer(&rt, rt.alloc(), &args, &mut rt.stdin(), &mut rt.stdout(), &mut rt.stderr())    // 0, and 0 2 5 1 0 0
+/// answer(&rt, rt.alloc(), &args, &mut rt.stdin(), &mut rt.stdout(), &mut errors)    // 0, and 0 2 5 1 0 0
 /// ```
 pub fn answer<F: NamedFiles, I: Read, O: Write, E: Write>(
     files: &F,
@@ -250,11 +248,12 @@ pub fn answer<F: NamedFiles, I: Read, O: Write, E: Write>(
     args: &[&str],
     input: &mut I,
     output: &mut O,
-    errors: &mut E,
+    errors: &mut Messages<E>,
 ) -> u8
-    ensures usage { parsed_args args.now ≡ None → (result ≡ 2) × (input.new ≡ input.old) }
-    ensures ended { IfSome (parsed_args args.now) (λ parsed.
-        EndsWith parsed (F.bytes files.now) (I.remaining input.old) (input.new ≡ input.old) result) }
+    ensures usage { parsed_args args.now ≡ None → (result ≡ 2) × (input.new ≡ input.old)
+        × Tells E.contents errors.old errors.new USAGE.now }
+    ensures ended { IfSome (parsed_args args.now) (λ parsed. EndsWith parsed (F.bytes files.now) (I.remaining input.old)
+        (input.new ≡ input.old) result (Tells E.contents errors.old errors.new)) }
     ensures written { result ≡ 0 → WritesAnswer args.now (F.bytes files.now) (I.remaining input.old) O.contents
         output.old output.new }
     ensures there { result ≡ 0 → IfSome (parsed_args args.now) (λ parsed. F.bytes files.now parsed.path ≢ Some None) }
@@ -262,11 +261,11 @@ pub fn answer<F: NamedFiles, I: Read, O: Write, E: Write>(
     ensures appends_some_text { result ≡ 0 → (text : List ℕ) × AppendsTo O.contents output.old output.new text }
 {
     let Some(request) = Request::from_args(args) else {
-        let _ = errors.write_all(USAGE.as_bytes());
+        errors.write(alloc, &USAGE);
         return 2;
     };
     match run_request(files, alloc, &request, input, output) {
-        Ok(()) => 0,
+        Ok(()) => done(errors),
         Err(error) => report(alloc, request.path, &error, errors),
     }
 }

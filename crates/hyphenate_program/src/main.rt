@@ -4,7 +4,7 @@
 #![tactic(auto)]
 
 use command_line::folders::default_folders;
-use command_line::{report_bad_args, with_words};
+use command_line::{Messages, report_bad_args, with_words};
 use language_search::folders_of;
 use program_names::{Program, called, program_at};
 use std::alloc::AllocError;
@@ -55,22 +55,24 @@ fn program_of_file(rt: &HostRuntime) -> Option<Program> {
 
 // Writes why the command line can't be had, and returns the status.
 fn report_no_words(rt: &HostRuntime, error: &io::Error) -> u8 {
-    match program_of_file(rt) {
-        Some(program) => report_bad_args(
-            usage_of(program),
-            no_memory_of(program),
-            error,
-            &mut rt.stderr(),
-        ),
-        None => report_bad_args(USAGE, "hyphenate: no memory\n", error, &mut rt.stderr()),
-    }
+    let (usage, no_memory) = match program_of_file(rt) {
+        Some(program) => (usage_of(program), no_memory_of(program)),
+        None => (USAGE, "hyphenate: no memory\n"),
+    };
+    report_bad_args(
+        rt.alloc(),
+        usage,
+        no_memory,
+        error,
+        &mut Messages::new(rt.stderr()),
+    )
 }
 
 // Does the work of a program, and returns the status.
 fn run(rt: &HostRuntime, program: Program, args: &[&str], folders: &[&str]) -> u8 {
     let input = &mut rt.stdin();
     let output = &mut rt.stdout();
-    let errors = &mut rt.stderr();
+    let errors = &mut Messages::new(rt.stderr());
     let store = &mut &*rt;
     let alloc = rt.alloc();
     match program {

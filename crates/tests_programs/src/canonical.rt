@@ -3,6 +3,7 @@
 use crate::faults::Fault;
 use crate::harness::{FailingRun, Program, Run, expect_failing_runs, expect_runs};
 use canonical_command::answer;
+use command_line::Messages;
 use std::alloc::Global;
 use std::fs::Files;
 use std::io::{Read, Write};
@@ -23,7 +24,7 @@ impl Program for Canonical {
         args: &[&str],
         input: &mut I,
         output: &mut O,
-        messages: &mut E,
+        messages: &mut Messages<E>,
     ) -> u8 {
         answer(files, alloc, args, FOLDERS, input, output, messages)
     }

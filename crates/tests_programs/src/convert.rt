@@ -2,6 +2,7 @@
 
 use crate::faults::{Fault, PERMISSION_DENIED};
 use crate::harness::{FailingRun, FileList, Program, Run, expect_failing_runs, expect_runs};
+use command_line::Messages;
 use convert_command::answer;
 use std::alloc::Global;
 use std::fs::Files;
@@ -20,7 +21,7 @@ impl Program for Convert {
         args: &[&str],
         _input: &mut I,
         output: &mut O,
-        messages: &mut E,
+        messages: &mut Messages<E>,
     ) -> u8 {
         answer(files, alloc, args, output, messages)
     }

@@ -2,6 +2,7 @@
 
 use crate::faults::{Fault, PERMISSION_DENIED};
 use crate::harness::{FailingRun, Program, Run, expect_failing_runs, expect_runs};
+use command_line::Messages;
 use explain_command::answer;
 use std::alloc::Global;
 use std::fs::Files;
@@ -24,7 +25,7 @@ impl Program for Explain {
         args: &[&str],
         input: &mut I,
         output: &mut O,
-        messages: &mut E,
+        messages: &mut Messages<E>,
     ) -> u8 {
         answer(files, alloc, args, FOLDERS, input, output, messages)
     }

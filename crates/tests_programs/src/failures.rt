@@ -3,7 +3,7 @@
 use any_dictionary::AnyDictionary;
 use command_line::dictionaries::load_dictionary;
 use command_line::inputs::read_text;
-use command_line::{Failure, Listed, Refusal, report, write_failure};
+use command_line::{Failure, Listed, Messages, Refusal, report};
 use hyphenation_load::{Cause, Error};
 use std::alloc::{AllocError, Global};
 use std::io;
@@ -17,12 +17,9 @@ fn text(alloc: Global, text: &str) -> Result<String, AllocError> {
 
 // Fails unless a failure is reported by this line and status.
 fn expect_report(alloc: Global, failure: &Failure, status: u8, wanted: &str) -> Result<(), Fail> {
-    let mut errors = Vec::new(alloc);
+    let mut errors = Messages::new(Vec::new(alloc));
     let found = report(alloc, "hyphenate-lines", failure, &mut errors);
-    expect_equal_bytes(wanted, &errors, wanted.as_bytes())?;
-    let mut again = Vec::new(alloc);
-    write_failure(alloc, "hyphenate-lines", failure, &mut again)?;
-    expect_equal_bytes(wanted, &again, wanted.as_bytes())?;
+    expect_equal_bytes(wanted, &errors.into_writer(), wanted.as_bytes())?;
     expect_equal_in(wanted, &found, &status)
 }
 

@@ -2,6 +2,7 @@
 
 use crate::faults::Fault;
 use crate::memory_files::MemoryFiles;
+use command_line::Messages;
 use std::alloc::Global;
 use std::fs::Files;
 use std::io::{Read, Write};
@@ -18,7 +19,7 @@ pub(crate) trait Program {
         args: &[&str],
         input: &mut I,
         output: &mut O,
-        messages: &mut E,
+        messages: &mut Messages<E>,
     ) -> u8;
 }
 
@@ -57,7 +58,7 @@ fn run<P: Program, F: Files>(
     input: &[u8],
 ) -> Ending {
     let mut output = fault.output(alloc);
-    let mut messages = fault.messages(alloc);
+    let mut messages = Messages::new(fault.messages(alloc));
     let status = program.answer(
         files,
         alloc,
@@ -69,7 +70,7 @@ fn run<P: Program, F: Files>(
     Ending {
         status,
         output: output.taken,
-        messages: messages.taken,
+        messages: messages.into_writer().taken,
     }
 }
 

@@ -3,6 +3,7 @@
 use crate::faults::{Fault, PERMISSION_DENIED};
 use crate::harness::{FailingRun, FileList, Program, Run, expect_failing_runs, expect_runs};
 use crate::text::show;
+use command_line::Messages;
 use html_command::{Recorded, answer};
 use std::alloc::Global;
 use std::fs::Files;
@@ -25,7 +26,7 @@ impl Program for Html<'_> {
         args: &[&str],
         input: &mut I,
         output: &mut O,
-        messages: &mut E,
+        messages: &mut Messages<E>,
     ) -> u8 {
         let mut written = Recorded {
             files: Vec::new(alloc),

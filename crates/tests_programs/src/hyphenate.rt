@@ -4,6 +4,7 @@ use crate::faults::Fault;
 use crate::harness::{
     FailingRun, Program, Run, expect_failing_runs, expect_run, expect_run_over, expect_runs,
 };
+use command_line::Messages;
 use hyphenate_command::answer;
 use std::alloc::Global;
 use std::fs::Files;
@@ -23,7 +24,7 @@ impl Program for Hyphenate {
         args: &[&str],
         input: &mut I,
         output: &mut O,
-        messages: &mut E,
+        messages: &mut Messages<E>,
     ) -> u8 {
         answer(files, alloc, args, input, output, messages)
     }

@@ -1,5 +1,6 @@
 //! Options and operands, as programs read them, and the messages about arguments that they refuse.
 
+use command_line::Messages;
 use command_line::options::{
     Arguments, BadArgument, Expected, OptionForm, ReadError, number_within, read,
     report_bad_argument,
@@ -295,12 +296,12 @@ fn a_message_names_the_argument_and_points_to_the_help(rt: HostRuntime) -> Resul
             value: None,
             expected: *expected,
         };
-        let mut message = Vec::new(alloc);
+        let mut message = Messages::new(Vec::new(alloc));
         let status = report_bad_argument(alloc, "hyphenate-lines", &bad, &mut message);
         let wanted = format!(in alloc;
             "hyphenate-lines: xx: {words}\nTry 'hyphenate-lines --help'.\n"
         )?;
-        expect_equal_bytes(words, &message, wanted.as_bytes())?;
+        expect_equal_bytes(words, &message.into_writer(), wanted.as_bytes())?;
         expect_equal_in(words, &status, &2)?;
     }
     Ok(())

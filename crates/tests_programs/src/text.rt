@@ -2,6 +2,7 @@
 
 use crate::faults::{Fault, PERMISSION_DENIED};
 use crate::harness::{FailingRun, FileList, Program, Run, expect_failing_runs, expect_runs};
+use command_line::Messages;
 use std::alloc::Global;
 use std::fs::Files;
 use std::io::{Read, Write};
@@ -20,7 +21,7 @@ impl Program for Text {
         args: &[&str],
         input: &mut I,
         output: &mut O,
-        messages: &mut E,
+        messages: &mut Messages<E>,
     ) -> u8 {
         let mut written = Recorded {
             files: Vec::new(alloc),

@@ -8,7 +8,7 @@ use crate::harness::{Program, expect_failing_run};
 use crate::html::Html;
 use crate::hyphenate::Hyphenate;
 use crate::lines::Lines;
-use command_line::report_bad_args;
+use command_line::{Messages, report_bad_args};
 use std::alloc::Global;
 use std::io;
 use std::io::ErrorKind;
@@ -516,10 +516,16 @@ fn expect_message(
     status: u8,
     message: &str,
 ) -> Result<(), Fail> {
-    let mut messages: Vec<u8> = Vec::new(alloc);
-    let found = report_bad_args(usage, no_memory, &io::Error::from(kind), &mut messages);
+    let mut messages = Messages::new(Vec::new(alloc));
+    let found = report_bad_args(
+        alloc,
+        usage,
+        no_memory,
+        &io::Error::from(kind),
+        &mut messages,
+    );
     expect(found == status, message)?;
-    expect_equal_bytes("the message", &messages, message.as_bytes())
+    expect_equal_bytes("the message", &messages.into_writer(), message.as_bytes())
 }
 
 #[test]

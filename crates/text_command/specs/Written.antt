@@ -6,6 +6,7 @@ use Rattle.any_dictionary.specs.Dictionaries.{places_by}
 use Rattle.any_dictionary.specs.declared.AnyDictionary.{AnyDictionary}
 use Rattle.command_line.specs.About.{help_or_version}
 use Rattle.command_line.specs.Dictionaries.{KnownFiles, IsOfArgument, IsFailureOf}
+use Rattle.command_line.specs.Endings.{End}
 use Rattle.command_line.specs.Inputs.{is_standard_input, AreTextsOf}
 use Rattle.command_line.specs.Options.{RefusedArgument}
 use Rattle.command_line.specs.declared.TheConstants.{VERSION}
@@ -56,13 +57,13 @@ IsFailureBefore args bytes_of folders left failure = (dictionary : AnyDictionary
 -- ---- how the program ends
 
 -- How the program ends for its arguments: one is refused, or the results of its texts are written or fail.
-abbrev pub EndsFor : {W S : Type 0} → Result ParsedArgs RefusedArgument → KnownFiles → List (List ℕ) → Option (List ℕ) → ℕ
-    → (W → Option (List ℕ)) → W → W → (S → Option WrittenFiles) → S → S → Type 0
-EndsFor (Err refused) bytes_of folders left status contents old new written old_files new_files =
-    EndsRefused status old_files new_files
-EndsFor (Ok args) bytes_of folders left status contents old new written old_files new_files =
+abbrev pub EndsFor : {W S : Type 0} → Result ParsedArgs RefusedArgument → KnownFiles → List (List ℕ) → Option (List ℕ)
+    → (End → Type 0) → (W → Option (List ℕ)) → W → W → (S → Option WrittenFiles) → S → S → Type 0
+EndsFor (Err refused) bytes_of folders left EndsSo contents old new written old_files new_files =
+    EndsRefused refused EndsSo old_files new_files
+EndsFor (Ok args) bytes_of folders left EndsSo contents old new written old_files new_files =
     Ends (AreResults args bytes_of folders left) (IsFailureBefore args bytes_of folders left) args.options.target args.inputs
-    status contents old new written old_files new_files
+    EndsSo contents old new written old_files new_files
 
 -- Standard input is none of the texts of arguments, or one of the arguments is refused.
 abbrev pub names_files_alone : Result ParsedArgs RefusedArgument → Bool
@@ -72,8 +73,8 @@ names_files_alone (Err refused) = true
 -- If no help was asked for, the program ends so for its arguments. Standard input is then as it was if it is none of the
 -- texts.
 abbrev pub EndsUnlessAsked : {W S I : Type 0} → List (Bor (List ℕ)) → KnownFiles → List (List ℕ) → (I → Option (List ℕ)) → I → I
-    → ℕ → (W → Option (List ℕ)) → W → W → (S → Option WrittenFiles) → S → S → Type 0
-EndsUnlessAsked args bytes_of folders remaining before after status contents old new written old_files new_files =
+    → (End → Type 0) → (W → Option (List ℕ)) → W → W → (S → Option WrittenFiles) → S → S → Type 0
+EndsUnlessAsked args bytes_of folders remaining before after EndsSo contents old new written old_files new_files =
     asked_text args ≡ None → (parsed : Result ParsedArgs RefusedArgument) × IsParsed args parsed
-    × EndsFor parsed bytes_of folders (remaining before) status contents old new written old_files new_files
+    × EndsFor parsed bytes_of folders (remaining before) EndsSo contents old new written old_files new_files
     × (names_files_alone parsed ≡ true → after ≡ before)

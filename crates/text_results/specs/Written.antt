@@ -2,7 +2,8 @@
 use Rattle.std.specs.Prelude.{◌≡◌, ◌⊎◌, ℕ, List, [], ◌∷◌, ◌++◌, Option, ⊤}
 use Rattle.std.specs.List.{concat, zip}
 use Rattle.std.specs.String.{string_bytes}
-use Rattle.command_line.specs.Failures.{status_of}
+use Rattle.command_line.specs.Endings.{End, Done, Refuses, Fails}
+use Rattle.command_line.specs.Options.{RefusedArgument}
 use Rattle.command_line.specs.declared.failure.Failure.{Failure}
 use Rattle.command_line.specs.declared.failure.Failure.TheVariants as failed
 use Rattle.hyphenation_load.specs.Load.{AppendsTo}
@@ -51,22 +52,21 @@ IsFailureFor AreSuch FailsBefore target names written old new failure =
     ⊎ ((results : List (List ℕ)) × AreSuch results
     × IsFailureOfWriting target names results (written old) (written new) failure)
 
--- A program ends with the status of a failure. The output is as it was, unless it is the output that failed.
-abbrev pub EndsBy : {W S : Type 0} → (List (List ℕ) → Type 0) → (Failure → Type 0) → Target → List (List ℕ) → ℕ
-    → W → W → (S → Option WrittenFiles) → S → S → Type 0
-EndsBy AreSuch FailsBefore target names status old new written old_files new_files = (failure : Failure)
-    × (status ≡ status_of failure) × IsFailureFor AreSuch FailsBefore target names written old_files new_files failure
+-- A program ends for a failure. The output is as it was, unless it is the output that failed.
+abbrev pub EndsFailed : {W S : Type 0} → (List (List ℕ) → Type 0) → (Failure → Type 0) → Target → List (List ℕ)
+    → (End → Type 0) → W → W → (S → Option WrittenFiles) → S → S → Type 0
+EndsFailed AreSuch FailsBefore target names EndsSo old new written old_files new_files = (failure : Failure)
+    × EndsSo (Fails failure) × IsFailureFor AreSuch FailsBefore target names written old_files new_files failure
     × ((failure ≡ failed.Output) ⊎ (new ≡ old))
 
--- A program ends so whose arguments are accepted: with status 0, and results that are such ones were written, or with the
--- status of a failure.
-abbrev pub Ends : {W S : Type 0} → (List (List ℕ) → Type 0) → (Failure → Type 0) → Target → List (List ℕ) → ℕ
-    → (W → Option (List ℕ)) → W → W → (S → Option WrittenFiles) → S → S → Type 0
-Ends AreSuch FailsBefore target names status contents old new written old_files new_files =
-    ((status ≡ 0) × WritesResults AreSuch target names contents old new written old_files new_files)
-    ⊎ EndsBy AreSuch FailsBefore target names status old new written old_files new_files
+-- A program ends so whose arguments are accepted: it is done, and results that are such ones were written, or it fails.
+abbrev pub Ends : {W S : Type 0} → (List (List ℕ) → Type 0) → (Failure → Type 0) → Target → List (List ℕ)
+    → (End → Type 0) → (W → Option (List ℕ)) → W → W → (S → Option WrittenFiles) → S → S → Type 0
+Ends AreSuch FailsBefore target names EndsSo contents old new written old_files new_files =
+    (EndsSo (Done []) × WritesResults AreSuch target names contents old new written old_files new_files)
+    ⊎ EndsFailed AreSuch FailsBefore target names EndsSo old new written old_files new_files
 
--- A program ends so if it refuses an argument, or is refused memory before it knows: with status 2 or 6, and no file was
--- replaced.
-abbrev pub EndsRefused : {S : Type 0} → ℕ → S → S → Type 0
-EndsRefused status old_files new_files = ((status ≡ 2) ⊎ (status ≡ 6)) × (new_files ≡ old_files)
+-- A program ends so if it refuses an argument, or is refused memory before it knows. No file was replaced.
+abbrev pub EndsRefused : {S : Type 0} → RefusedArgument → (End → Type 0) → S → S → Type 0
+EndsRefused refused EndsSo old_files new_files =
+    (EndsSo (Refuses refused) ⊎ EndsSo (Fails failed.Memory)) × (new_files ≡ old_files)

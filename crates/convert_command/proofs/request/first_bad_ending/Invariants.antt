@@ -1,5 +1,5 @@
 use Rattle.std.specs.Prelude.{◌≡◌, map, drop}
-use Rattle.convert_command.specs.Private.Rejections.{bad_ending_from}
+use Rattle.convert_command.specs.Rejections.{bad_ending_from}
 use Rattle.convert_command.proofs.request.first_bad_ending.Given as goal
 
 abbrev pub invariant-loop-index : goal.invariant-loop-index

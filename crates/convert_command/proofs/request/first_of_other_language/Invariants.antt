@@ -1,5 +1,5 @@
 use Rattle.std.specs.Prelude.{◌≡◌, None, map, drop, option_copied}
-use Rattle.convert_command.specs.Private.Tags.{other_language_from}
+use Rattle.convert_command.specs.Tags.{other_language_from}
 use Rattle.convert_command.proofs.request.first_of_other_language.Given as goal
 
 abbrev pub invariant-loop-index : goal.invariant-loop-index

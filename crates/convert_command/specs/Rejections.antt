@@ -1,7 +1,7 @@
 -- Which files are taken, and why others are rejected.
 use Rattle.std.specs.Prelude.{ℕ, ◌+◌, List, [], ◌∷◌, if◌then◌else◌, is_none, Option, None, Some, Result, Ok, Err}
 use Rattle.convert_command.specs.Arguments.{form_of, is_dic_alone, is_dic_path}
-use Rattle.convert_command.specs.Private.Tags.{other_language_from}
+use Rattle.convert_command.specs.Tags.{other_language_from}
 use Rattle.convert_command.specs.declared.request.BadArgs.{BadArgs}
 use Rattle.convert_command.specs.declared.request.BadArgs.TheVariants.{NoForm, Ending, NotAlone, OtherLanguage}
 use Rattle.convert_command.specs.declared.request.Input.{Input}
