@@ -18,7 +18,7 @@ use std::alloc::Global;
 use std::io;
 use std::io::{ErrorKind, Read};
 
-/// Tests whether a name is that of standard input, which is `-`.
+/// Reports whether a name is that of standard input, which is `-`.
 pub fn is_standard_input(name: &str) -> bool
     ensures { result ≡ is_standard_input name.now }
 {

@@ -21,7 +21,7 @@ pub struct Messages<W: Write> {
 }
 
 impl<W: Write> Messages<W> {
-    /// No messages yet, for a writer.
+    /// Makes a writer of messages, with none yet.
     pub fn new(writer: W) -> Messages<W>
         ensures writer { result.writer ≡ writer }
         ensures whole { result.is_whole ≡ true }
@@ -50,7 +50,7 @@ impl<W: Write> Messages<W> {
         self.push(alloc, message);
     }
 
-    /// Returns whether each message was written.
+    /// Reports whether each message was written.
     pub fn is_whole(&self) -> bool
         ensures { result ≡ self.now.is_whole }
     {
