@@ -1,0 +1,588 @@
+/* The extension hyphenation._extension: the calls of libhyphenation.so.0 for Python, by its limited API. It has the class and
+ * the functions of hyphenation/_by_ctypes.py, whose comments say what each does.
+ *
+ * The library is opened when the package is imported, by the path that ctypes would take, so that nothing is linked to it.
+ * Each call has the type that hyphenation.h declares.
+ *
+ * There is no lock. A call that is made for a word keeps the lock of the interpreter, so that a handle is given to one call
+ * at a time. A call that may take long gives it back meanwhile, and so has a handle of its own, which shares the dictionary. */
+#define PY_SSIZE_T_CLEAN
+#define Py_LIMITED_API 0x030A0000
+#include <Python.h>
+#include <dlfcn.h>
+#include <stdlib.h>
+#include <string.h>
+#include "hyphenation.h"
+
+#define CALLS(EACH)                                                                                                        \
+  EACH(kind_of) EACH(load) EACH(load_dic) EACH(load_patterns) EACH(free) EACH(share) EACH(make_table) EACH(edit)           \
+  EACH(language) EACH(minima) EACH(breaks) EACH(breaks_of_words) EACH(values) EACH(changes) EACH(text) EACH(fill)          \
+  EACH(write) EACH(paths)
+static struct {
+#define DECLARE(name) __typeof__(&hyphenation_##name) name;
+  CALLS(DECLARE)
+} calls;
+
+/* The function of Python that raises the exception of a status. */
+static PyObject *raises;
+
+typedef struct {
+  PyObject_HEAD
+  hyphenation handle;
+} Handle;
+static PyTypeObject *handle_type;
+#define OF(self) (&((Handle *)(self))->handle)
+
+/* Raises the exception of a status, and returns NULL. */
+static PyObject *fail(uint32_t status) {
+  PyObject *number = PyLong_FromUnsignedLong(status);
+  PyObject *none = number ? PyObject_CallFunctionObjArgs(raises, number, NULL) : NULL;
+  Py_XDECREF(number);
+  if (none) {
+    Py_DECREF(none);
+    PyErr_SetString(PyExc_SystemError, "a status raised nothing");
+  }
+  return NULL;
+}
+
+static PyObject *none_or_fail(uint32_t status) {
+  if (status != HYPHENATION_DONE) return fail(status);
+  Py_RETURN_NONE;
+}
+
+/* The UTF-8 of a str, which lives as long as it; NULL with an exception set if it is none, or has a surrogate. */
+static const uint8_t *utf8_of(PyObject *text, size_t *length) {
+  Py_ssize_t size;
+  if (!PyUnicode_Check(text)) {
+    PyErr_SetString(PyExc_TypeError, "a word is a str");
+    return NULL;
+  }
+  const char *bytes = PyUnicode_AsUTF8AndSize(text, &size);
+  if (bytes) *length = (size_t)size;
+  return (const uint8_t *)bytes;
+}
+
+/* Room for `count` values of `size` bytes each, which are 0; NULL with an exception set if memory is refused. */
+static void *room_for(size_t count, size_t size) {
+  void *room = count <= PY_SSIZE_T_MAX / size ? calloc(count ? count : 1, size) : NULL;
+  if (!room) PyErr_NoMemory();
+  return room;
+}
+
+/* ---- Lists of positions. */
+
+/* Counts characters: those of `text` from `*at` up to the place `end` are added to `*characters`. */
+static size_t characters_to(const uint8_t *text, size_t end, size_t *at, size_t *characters) {
+  for (; *at < end; ++*at) *characters += (text[*at] & 0xC0) != 0x80;
+  return *characters;
+}
+
+/* The list of places in a text, which ascend, as numbers of bytes. With `text` they become numbers of characters. */
+static PyObject *list_of(const size_t *places, size_t count, const uint8_t *text) {
+  PyObject *list = PyList_New((Py_ssize_t)count);
+  size_t at = 0, characters = 0;
+  if (!list) return NULL;
+  for (size_t i = 0; i < count; ++i) {
+    PyObject *place = PyLong_FromSize_t(text ? characters_to(text, places[i], &at, &characters) : places[i]);
+    if (!place || PyList_SetItem(list, (Py_ssize_t)i, place)) {
+      Py_DECREF(list);
+      return NULL;
+    }
+  }
+  return list;
+}
+
+/* A word has seldom more breaks than these. */
+enum { USUAL = 64 };
+
+static PyObject *list_of_breaks(PyObject *self, PyObject *word, bool in_characters) {
+  size_t length, count = 0, usual[USUAL], *places = usual, room = USUAL;
+  const uint8_t *text = utf8_of(word, &length);
+  PyObject *list = NULL;
+  if (!text) return NULL;
+  uint32_t status = calls.breaks(OF(self), text, length, places, room, &count);
+  if (status == HYPHENATION_NO_ROOM) {
+    room = count;
+    if (!(places = room_for(room, sizeof *places))) return NULL;
+    status = calls.breaks(OF(self), text, length, places, room, &count);
+  }
+  if (status != HYPHENATION_DONE) {
+    fail(status);
+  } else {
+    bool plain = !in_characters || (size_t)PyUnicode_GetLength(word) == length;
+    list = list_of(places, count, plain ? NULL : text);
+  }
+  if (places != usual) free(places);
+  return list;
+}
+
+static PyObject *places(PyObject *self, PyObject *word) { return list_of_breaks(self, word, false); }
+
+static PyObject *positions(PyObject *self, PyObject *word) { return list_of_breaks(self, word, true); }
+
+/* ---- Breaks that make changes. */
+
+/* The tuple of a change, whose texts begin at `texts`. The positions are counted from `at` and `characters`. */
+static PyObject *tuple_of(const hyphenation_change *it, const uint8_t *word, const uint8_t *texts) {
+  size_t at = 0, characters = 0, numbers[3], ends[3] = {it->place, it->begin, it->end};
+  for (int i = 0; i < 3; ++i) {
+    at = characters = 0;
+    numbers[i] = characters_to(word, ends[i], &at, &characters);
+  }
+  return Py_BuildValue("(nnns#s#)", (Py_ssize_t)numbers[0], (Py_ssize_t)numbers[1], (Py_ssize_t)numbers[2],
+                       (const char *)texts, (Py_ssize_t)it->before, (const char *)texts + it->before, (Py_ssize_t)it->after);
+}
+
+/* The list of positions, and that of changes or None where there is no change. */
+static PyObject *pair_of(const hyphenation_change *found, size_t count, const uint8_t *word, const uint8_t *texts,
+                         size_t texts_length) {
+  bool changed = texts_length != 0;
+  PyObject *list = NULL, *at = PyList_New((Py_ssize_t)count), *position;
+  size_t byte = 0, characters = 0;
+  for (size_t i = 0; i < count; ++i) changed |= found[i].begin != found[i].place || found[i].end != found[i].place;
+  if (changed) list = PyList_New((Py_ssize_t)count);
+  if (!at || (changed && !list)) goto failed;
+  for (size_t i = 0; i < count; ++i) {
+    position = PyLong_FromSize_t(characters_to(word, found[i].place, &byte, &characters));
+    if (!position || PyList_SetItem(at, (Py_ssize_t)i, position)) goto failed;
+    if (changed) {
+      PyObject *tuple = tuple_of(&found[i], word, texts);
+      if (!tuple || PyList_SetItem(list, (Py_ssize_t)i, tuple)) goto failed;
+      texts += found[i].before + found[i].after;
+    }
+  }
+  return changed ? Py_BuildValue("(NN)", at, list) : Py_BuildValue("(NO)", at, Py_None);
+failed:
+  Py_XDECREF(at);
+  Py_XDECREF(list);
+  return NULL;
+}
+
+static PyObject *changes(PyObject *self, PyObject *word) {
+  enum { TEXTS = 512 };
+  hyphenation_change usual[USUAL], *found = usual;
+  uint8_t usual_texts[TEXTS], *texts = usual_texts;
+  size_t length, count = 0, texts_count = 0;
+  const uint8_t *text = utf8_of(word, &length);
+  PyObject *pair = NULL;
+  if (!text) return NULL;
+  uint32_t status = calls.changes(OF(self), text, length, found, USUAL, &count, texts, TEXTS, &texts_count);
+  if (status == HYPHENATION_NO_ROOM) {
+    size_t room = count, texts_room = texts_count;
+    if (!(found = room_for(room, sizeof *found))) return NULL;
+    if (!(texts = room_for(texts_room, 1))) {
+      free(found);
+      return NULL;
+    }
+    status = calls.changes(OF(self), text, length, found, room, &count, texts, texts_room, &texts_count);
+  }
+  if (status != HYPHENATION_DONE) fail(status);
+  else pair = pair_of(found, count, text, texts, texts_count);
+  if (found != usual) free(found);
+  if (texts != usual_texts) free(texts);
+  return pair;
+}
+
+/* ---- A list of words. */
+
+typedef struct {
+  uint8_t *text;
+  size_t *ends;       /* where each word ends in the text */
+  size_t *place_ends; /* where the places of each word end in the list of all */
+  size_t *places;
+  size_t length, words, room, count, stops;
+} Words;
+
+static void free_words(Words *it) {
+  free(it->text);
+  free(it->ends);
+  free(it->place_ends);
+  free(it->places);
+}
+
+/* Lays the words of a tuple one after the other. Returns false with an exception set if that can't be done. */
+static bool lay_words(PyObject *tuple, Words *it) {
+  it->words = (size_t)PyTuple_Size(tuple);
+  if (!(it->ends = room_for(it->words, sizeof *it->ends)) || !(it->place_ends = room_for(it->words, sizeof *it->ends)))
+    return false;
+  for (size_t i = 0, length; i < it->words; ++i) {
+    if (!utf8_of(PyTuple_GetItem(tuple, (Py_ssize_t)i), &length)) return false;
+    it->ends[i] = it->length += length;
+  }
+  it->room = it->length / 4 + 16;
+  if (!(it->text = room_for(it->length, 1)) || !(it->places = room_for(it->room, sizeof *it->places))) return false;
+  for (size_t i = 0, at = 0, length; i < it->words; at = it->ends[i++])
+    memcpy(it->text + at, utf8_of(PyTuple_GetItem(tuple, (Py_ssize_t)i), &length), it->ends[i] - at);
+  return true;
+}
+
+/* Asks for the breaks of all words, with a handle of its own. */
+static uint32_t break_words(hyphenation *handle, Words *it) {
+  return calls.breaks_of_words(handle, it->text, it->length, it->ends, it->words, it->places, it->room, &it->count,
+                               it->place_ends, it->words, &it->stops);
+}
+
+/* The list of the lists of positions. */
+static PyObject *lists_of(const Words *it) {
+  PyObject *all = PyList_New((Py_ssize_t)it->words);
+  size_t begin = 0, at = 0;
+  for (size_t i = 0; all && i < it->words; at = it->ends[i], begin = it->place_ends[i++]) {
+    PyObject *list = list_of(it->places + begin, it->place_ends[i] - begin, it->text + at);
+    if (!list || PyList_SetItem(all, (Py_ssize_t)i, list)) {
+      Py_DECREF(all);
+      return NULL;
+    }
+  }
+  return all;
+}
+
+static PyObject *positions_of(PyObject *self, PyObject *tuple) {
+  Words words = {0};
+  hyphenation own = HYPHENATION_NONE;
+  PyObject *all = NULL;
+  if (!PyTuple_Check(tuple)) {
+    PyErr_SetString(PyExc_TypeError, "the words are no tuple");
+    return NULL;
+  }
+  if (lay_words(tuple, &words)) {
+    uint32_t status = calls.share(OF(self), &own);
+    if (status == HYPHENATION_DONE) {
+      Py_BEGIN_ALLOW_THREADS
+      status = break_words(&own, &words);
+      if (status == HYPHENATION_NO_ROOM) {
+        size_t *more = words.count <= SIZE_MAX / sizeof *more ? realloc(words.places, words.count * sizeof *more) : NULL;
+        if (more) {
+          words.places = more;
+          words.room = words.count;
+          status = break_words(&own, &words);
+        } else {
+          status = HYPHENATION_OUT_OF_MEMORY;
+        }
+      }
+      Py_END_ALLOW_THREADS
+      calls.free(&own);
+    }
+    if (status == HYPHENATION_DONE) all = lists_of(&words);
+    else fail(status);
+  }
+  free_words(&words);
+  return all;
+}
+
+/* ---- Calls that write bytes. */
+
+/* What such a call asks, and of which handle. */
+typedef struct Question {
+  uint32_t (*ask)(struct Question *it, uint8_t *buffer, size_t capacity, size_t *count);
+  hyphenation *handle;
+  const uint8_t *text, *mark, *more[2];
+  size_t length, mark_length, more_length[2], columns;
+} Question;
+
+/* Makes the call with a room, while other threads run if it is a long one. */
+static uint32_t ask(Question *it, uint8_t *buffer, size_t room, size_t *count, bool is_long) {
+  PyThreadState *state = is_long ? PyEval_SaveThread() : NULL;
+  uint32_t status = it->ask(it, buffer, room, count);
+  if (state) PyEval_RestoreThread(state);
+  return status;
+}
+
+/* Makes the call with a room and then, if it is too short, with the room that is wanted. The result is a str, or bytes if
+ * `raw`. */
+static PyObject *written(Question *it, size_t room, bool is_long, bool raw) {
+  size_t count = 0;
+  uint8_t *buffer = room_for(room, 1);
+  PyObject *result = NULL;
+  if (!buffer) return NULL;
+  uint32_t status = ask(it, buffer, room, &count, is_long);
+  if (status == HYPHENATION_NO_ROOM) {
+    free(buffer);
+    if (!(buffer = room_for(room = count, 1))) return NULL;
+    status = ask(it, buffer, room, &count, is_long);
+  }
+  if (status != HYPHENATION_DONE) fail(status);
+  else if (raw) result = PyBytes_FromStringAndSize((const char *)buffer, (Py_ssize_t)count);
+  else result = PyUnicode_DecodeUTF8((const char *)buffer, (Py_ssize_t)count, NULL);
+  free(buffer);
+  return result;
+}
+
+/* The same by a handle of its own, while other threads run. */
+static PyObject *written_long(PyObject *self, Question *it, size_t room) {
+  hyphenation own = HYPHENATION_NONE;
+  uint32_t status = calls.share(OF(self), &own);
+  if (status != HYPHENATION_DONE) return fail(status);
+  it->handle = &own;
+  PyObject *result = written(it, room, true, false);
+  calls.free(&own);
+  return result;
+}
+
+static uint32_t ask_language(Question *it, uint8_t *buffer, size_t capacity, size_t *count) {
+  return calls.language(it->handle, buffer, capacity, count);
+}
+
+static PyObject *language(PyObject *self, PyObject *Py_UNUSED(none)) {
+  Question it = {.ask = ask_language, .handle = OF(self)};
+  return written(&it, 32, false, false);
+}
+
+static uint32_t ask_values(Question *it, uint8_t *buffer, size_t capacity, size_t *count) {
+  return calls.values(it->handle, it->text, it->length, buffer, capacity, count);
+}
+
+static PyObject *values(PyObject *self, PyObject *word) {
+  Question it = {.ask = ask_values, .handle = OF(self)};
+  return (it.text = utf8_of(word, &it.length)) ? written(&it, it.length, false, true) : NULL;
+}
+
+static uint32_t ask_text(Question *it, uint8_t *buffer, size_t capacity, size_t *count) {
+  return calls.text(it->handle, it->text, it->length, it->mark, it->mark_length, buffer, capacity, count);
+}
+
+static PyObject *text(PyObject *self, PyObject *arguments) {
+  Question it = {.ask = ask_text};
+  PyObject *content, *mark;
+  if (!PyArg_ParseTuple(arguments, "OO", &content, &mark)) return NULL;
+  if (!(it.text = utf8_of(content, &it.length)) || !(it.mark = utf8_of(mark, &it.mark_length))) return NULL;
+  return written_long(self, &it, it.length + it.length / 2 + 16);
+}
+
+static uint32_t ask_fill(Question *it, uint8_t *buffer, size_t capacity, size_t *count) {
+  return calls.fill(it->handle, it->text, it->length, it->columns, buffer, capacity, count);
+}
+
+static PyObject *fill(PyObject *self, PyObject *arguments) {
+  Question it = {.ask = ask_fill};
+  PyObject *content, *columns;
+  if (!PyArg_ParseTuple(arguments, "OO", &content, &columns)) return NULL;
+  it.columns = PyLong_AsSize_t(columns);
+  if (it.columns == (size_t)-1 && PyErr_Occurred()) return NULL;
+  return (it.text = utf8_of(content, &it.length)) ? written_long(self, &it, it.length + it.length / 8 + 16) : NULL;
+}
+
+static uint32_t ask_write(Question *it, uint8_t *buffer, size_t capacity, size_t *count) {
+  return calls.write(it->handle, buffer, capacity, count);
+}
+
+static PyObject *write_text(PyObject *self, PyObject *Py_UNUSED(none)) {
+  Question it = {.ask = ask_write};
+  return written_long(self, &it, 1 << 12);
+}
+
+static uint32_t ask_paths(Question *it, uint8_t *buffer, size_t capacity, size_t *count) {
+  return calls.paths(it->text, it->length, it->mark, it->mark_length, it->more[0], it->more_length[0], it->more[1],
+                     it->more_length[1], buffer, capacity, count);
+}
+
+/* Whether the call has the library; else an exception is set. */
+static bool has_library(void) {
+  if (!raises) PyErr_SetString(PyExc_RuntimeError, "the library is not open yet");
+  return raises != NULL;
+}
+
+static PyObject *paths(PyObject *Py_UNUSED(module), PyObject *arguments) {
+  Question it = {.ask = ask_paths};
+  Py_ssize_t lengths[4];
+  if (!has_library() || !PyArg_ParseTuple(arguments, "y#y#y#y#", &it.text, &lengths[0], &it.mark, &lengths[1], &it.more[0],
+                                          &lengths[2], &it.more[1], &lengths[3]))
+    return NULL;
+  it.length = (size_t)lengths[0];
+  it.mark_length = (size_t)lengths[1];
+  it.more_length[0] = (size_t)lengths[2];
+  it.more_length[1] = (size_t)lengths[3];
+  return written(&it, 4096, false, true);
+}
+
+/* ---- Loading, and what is left. */
+
+static PyObject *loaded(uint32_t status, size_t file, size_t line, uint32_t cause) {
+  return Py_BuildValue("(InnI)", status, (Py_ssize_t)file, (Py_ssize_t)line, cause);
+}
+
+static PyObject *load(PyObject *self, PyObject *arguments) {
+  unsigned int kind;
+  const uint8_t *text;
+  Py_ssize_t length;
+  size_t line = 0;
+  uint32_t cause = 0, status;
+  hyphenation own = HYPHENATION_NONE;
+  if (!PyArg_ParseTuple(arguments, "Iy#", &kind, &text, &length)) return NULL;
+  Py_BEGIN_ALLOW_THREADS
+  status = calls.load(kind, text, (size_t)length, &own, &line, &cause);
+  Py_END_ALLOW_THREADS
+  calls.free(OF(self));
+  *OF(self) = own;
+  return loaded(status, 0, line, cause);
+}
+
+static PyObject *load_dic(PyObject *self, PyObject *arguments) {
+  unsigned int kind, left, right;
+  const uint8_t *code, *dic;
+  Py_ssize_t code_length, length;
+  size_t line = 0;
+  uint32_t cause = 0, status;
+  hyphenation own = HYPHENATION_NONE;
+  if (!PyArg_ParseTuple(arguments, "Iy#IIy#", &kind, &code, &code_length, &left, &right, &dic, &length)) return NULL;
+  Py_BEGIN_ALLOW_THREADS
+  status = calls.load_dic(kind, code, (size_t)code_length, left, right, dic, (size_t)length, &own, &line, &cause);
+  Py_END_ALLOW_THREADS
+  calls.free(OF(self));
+  *OF(self) = own;
+  return loaded(status, 0, line, cause);
+}
+
+static PyObject *load_patterns(PyObject *self, PyObject *arguments) {
+  unsigned int kind, form, left, right;
+  const uint8_t *code, *patterns, *exceptions;
+  Py_ssize_t code_length, patterns_length, exceptions_length;
+  size_t file = 0, line = 0;
+  uint32_t cause = 0, status;
+  hyphenation own = HYPHENATION_NONE;
+  if (!PyArg_ParseTuple(arguments, "IIy#IIy#y#", &kind, &form, &code, &code_length, &left, &right, &patterns,
+                        &patterns_length, &exceptions, &exceptions_length))
+    return NULL;
+  Py_BEGIN_ALLOW_THREADS
+  status = calls.load_patterns(kind, form, code, (size_t)code_length, left, right, patterns, (size_t)patterns_length,
+                               exceptions, (size_t)exceptions_length, &own, &file, &line, &cause);
+  Py_END_ALLOW_THREADS
+  calls.free(OF(self));
+  *OF(self) = own;
+  return loaded(status, file, line, cause);
+}
+
+static PyObject *share(PyObject *self, PyObject *Py_UNUSED(none)) {
+  PyObject *other = PyObject_CallObject((PyObject *)handle_type, NULL);
+  if (!other) return NULL;
+  uint32_t status = calls.share(OF(self), OF(other));
+  if (status == HYPHENATION_DONE) return other;
+  Py_DECREF(other);
+  return fail(status);
+}
+
+static PyObject *close_handle(PyObject *self, PyObject *Py_UNUSED(none)) {
+  calls.free(OF(self));
+  Py_RETURN_NONE;
+}
+
+static PyObject *make_table(PyObject *self, PyObject *Py_UNUSED(none)) { return none_or_fail(calls.make_table(OF(self))); }
+
+static PyObject *edit(PyObject *self, PyObject *arguments) {
+  const uint8_t *content;
+  Py_ssize_t length;
+  if (!PyArg_ParseTuple(arguments, "y#", &content, &length)) return NULL;
+  return none_or_fail(calls.edit(OF(self), content, (size_t)length));
+}
+
+static PyObject *minima(PyObject *self, PyObject *Py_UNUSED(none)) {
+  size_t left = 0, right = 0;
+  uint32_t status = calls.minima(OF(self), &left, &right);
+  return status == HYPHENATION_DONE ? Py_BuildValue("(nn)", (Py_ssize_t)left, (Py_ssize_t)right) : fail(status);
+}
+
+static PyObject *kind_of(PyObject *Py_UNUSED(module), PyObject *arguments) {
+  const uint8_t *content;
+  Py_ssize_t length;
+  if (!has_library() || !PyArg_ParseTuple(arguments, "y#", &content, &length)) return NULL;
+  return PyLong_FromUnsignedLong(calls.kind_of(content, (size_t)length));
+}
+
+/* ---- The class and the module. */
+
+static PyObject *new_handle(PyTypeObject *type, PyObject *arguments, PyObject *Py_UNUSED(named)) {
+  if (!has_library() || !PyArg_ParseTuple(arguments, "")) return NULL;
+  /* (All bytes of it are 0: it holds no dictionary.) */
+  return ((allocfunc)PyType_GetSlot(type, Py_tp_alloc))(type, 0);
+}
+
+static void delete_handle(PyObject *self) {
+  PyTypeObject *type = Py_TYPE(self);
+  calls.free(OF(self));
+  ((freefunc)PyType_GetSlot(type, Py_tp_free))(self);
+  Py_DECREF(type);
+}
+
+static PyMethodDef methods[] = {
+    {"load", load, METH_VARARGS, NULL},
+    {"load_dic", load_dic, METH_VARARGS, NULL},
+    {"load_patterns", load_patterns, METH_VARARGS, NULL},
+    {"share", share, METH_NOARGS, NULL},
+    {"close", close_handle, METH_NOARGS, NULL},
+    {"make_table", make_table, METH_NOARGS, NULL},
+    {"edit", edit, METH_VARARGS, NULL},
+    {"language", language, METH_NOARGS, NULL},
+    {"minima", minima, METH_NOARGS, NULL},
+    {"places", places, METH_O, NULL},
+    {"positions", positions, METH_O, NULL},
+    {"positions_of", positions_of, METH_O, NULL},
+    {"changes", changes, METH_O, NULL},
+    {"values", values, METH_O, NULL},
+    {"text", text, METH_VARARGS, NULL},
+    {"fill", fill, METH_VARARGS, NULL},
+    {"write", write_text, METH_NOARGS, NULL},
+    {NULL, NULL, 0, NULL},
+};
+
+static PyType_Slot slots[] = {
+    {Py_tp_doc, (void *)"A dictionary, or none."},
+    {Py_tp_new, (void *)new_handle},
+    {Py_tp_dealloc, (void *)delete_handle},
+    {Py_tp_methods, methods},
+    {0, NULL},
+};
+
+static PyType_Spec specification = {
+    .name = "hyphenation._extension.Handle",
+    .basicsize = sizeof(Handle),
+    .flags = Py_TPFLAGS_DEFAULT,
+    .slots = slots,
+};
+
+/* start(path, fail): opens the library, once. `fail` raises the exception of a status. */
+static PyObject *start(PyObject *Py_UNUSED(module), PyObject *arguments) {
+  PyObject *path, *function;
+  if (!PyArg_ParseTuple(arguments, "O&O", PyUnicode_FSConverter, &path, &function)) return NULL;
+  if (raises) {
+    Py_DECREF(path);
+    Py_RETURN_NONE;
+  }
+  void *library = dlopen(PyBytes_AsString(path), RTLD_NOW | RTLD_LOCAL);
+  Py_DECREF(path);
+#define FIND(each) (library && (*(void **)&calls.each = dlsym(library, "hyphenation_" #each))) &&
+  if (CALLS(FIND) true) {
+    Py_INCREF(function);
+    raises = function;
+    Py_RETURN_NONE;
+  }
+  const char *why = dlerror();
+  PyErr_SetString(PyExc_OSError, why ? why : "the library lacks a call");
+  return NULL;
+}
+
+static PyMethodDef functions[] = {
+    {"start", start, METH_VARARGS, NULL},
+    {"kind_of", kind_of, METH_VARARGS, NULL},
+    {"paths", paths, METH_VARARGS, NULL},
+    {NULL, NULL, 0, NULL},
+};
+
+static PyModuleDef definition = {
+    PyModuleDef_HEAD_INIT,
+    .m_name = "hyphenation._extension",
+    .m_doc = "The calls of the library.",
+    .m_size = -1,
+    .m_methods = functions,
+};
+
+PyMODINIT_FUNC PyInit__extension(void) {
+  PyObject *module = PyModule_Create(&definition);
+  if (!module) return NULL;
+  handle_type = (PyTypeObject *)PyType_FromSpec(&specification);
+  Py_XINCREF(handle_type);
+  if (!handle_type || PyModule_AddObject(module, "Handle", (PyObject *)handle_type)) {
+    Py_XDECREF(handle_type);
+    Py_DECREF(module);
+    return NULL;
+  }
+  return module;
+}

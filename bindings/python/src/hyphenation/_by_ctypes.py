@@ -1,0 +1,291 @@
+"""The calls of libhyphenation.so.0 by ctypes: hyphenation.h says what each does, and what a caller must keep to.
+
+`Handle` and the functions are those of the extension `_extension`, which takes their place where it was built. There is no
+lock. Short calls keep all other threads waiting, so a handle is given to one call at a time. Long calls let other threads
+run, and so have a handle of their own, which shares the dictionary.
+"""
+
+import ctypes
+from array import array
+from ctypes import POINTER, addressof, byref, c_bool, c_char_p, c_size_t, c_uint32, c_void_p
+from itertools import accumulate
+from typing import Any, Callable, List, Optional, Tuple
+
+from ._results import DONE, NO_ROOM, Loaded, fail, library_path, positions
+
+
+class _Held(ctypes.Structure):
+    _fields_ = [("at", c_void_p), ("held", c_bool)]
+
+
+_LONG, _SHORT = ctypes.CDLL(library_path()), ctypes.PyDLL(library_path())
+_Call = Callable[..., Any]
+
+
+def _declare(library: ctypes.CDLL, name: str, *arguments: Any, result: Any = c_uint32) -> _Call:
+    call = getattr(library, "hyphenation_" + name)
+    call.argtypes, call.restype = arguments, result
+    found: _Call = call
+    return found
+
+
+_HANDLE = POINTER(_Held)
+_FAULT = (_HANDLE, POINTER(c_size_t), POINTER(c_uint32))
+# (A buffer and its count are plain addresses: they are made once.)
+_BUFFER = (c_void_p, c_size_t, c_void_p)
+_TEXT = (c_char_p, c_size_t)
+_kind_of = _declare(_SHORT, "kind_of", *_TEXT)
+_load = _declare(_LONG, "load", c_uint32, *_TEXT, *_FAULT)
+_load_dic = _declare(_LONG, "load_dic", c_uint32, *_TEXT, c_uint32, c_uint32, *_TEXT, *_FAULT)
+_load_patterns = _declare(
+    _LONG, "load_patterns", c_uint32, c_uint32, *_TEXT, c_uint32, c_uint32, *_TEXT, *_TEXT, _HANDLE, POINTER(c_size_t),
+    *_FAULT[1:],
+)
+_free = _declare(_SHORT, "free", _HANDLE, result=None)
+_share = _declare(_SHORT, "share", _HANDLE, _HANDLE)
+_make_table = _declare(_SHORT, "make_table", _HANDLE)
+_edit = _declare(_SHORT, "edit", _HANDLE, *_TEXT)
+_language = _declare(_SHORT, "language", _HANDLE, *_BUFFER)
+_minima = _declare(_SHORT, "minima", _HANDLE, POINTER(c_size_t), POINTER(c_size_t))
+# These two are called for each word. Their arguments have types of C already, so none is converted.
+_breaks = _declare(_SHORT, "breaks")
+_breaks.argtypes = None  # type: ignore[attr-defined]
+_changes = _declare(_SHORT, "changes")
+_changes.argtypes = None  # type: ignore[attr-defined]
+_breaks_of_words = _declare(_LONG, "breaks_of_words", _HANDLE, *_TEXT, c_void_p, c_size_t, *_BUFFER, *_BUFFER)
+_values = _declare(_SHORT, "values", _HANDLE, *_TEXT, *_BUFFER)
+_text = _declare(_LONG, "text", _HANDLE, *_TEXT, *_TEXT, *_BUFFER)
+_fill = _declare(_LONG, "fill", _HANDLE, *_TEXT, c_size_t, *_BUFFER)
+_write = _declare(_LONG, "write", _HANDLE, *_BUFFER)
+_paths = _declare(_SHORT, "paths", *_TEXT, *_TEXT, *_TEXT, *_TEXT, *_BUFFER)
+
+# Lengths of short texts, as the calls for each word take them.
+_LENGTHS = tuple(map(c_size_t, range(256)))
+
+
+def _check(status: int) -> None:
+    if status != DONE:
+        fail(status)
+
+
+def _encoded(word: str) -> bytes:
+    """Returns the UTF-8 of a word."""
+    try:
+        return word.encode()
+    except AttributeError:
+        raise TypeError("a word is a str, and not {}".format(type(word).__name__)) from None
+
+
+def _written(room: int, call: _Call, *arguments: Any) -> bytes:
+    """Makes a call that writes bytes, with a room and then, if it is too short, with the room that is wanted."""
+    count, buffer = c_size_t(), ctypes.create_string_buffer(room)
+    status = call(*arguments, addressof(buffer), room, byref(count))
+    if status == NO_ROOM:
+        room = count.value
+        buffer = ctypes.create_string_buffer(room)
+        status = call(*arguments, addressof(buffer), room, byref(count))
+    _check(status)
+    return ctypes.string_at(buffer, count.value)
+
+
+def kind_of(text: bytes) -> int:
+    """Returns the kind that a dictionary text names."""
+    kind: int = _kind_of(text, len(text))
+    return kind
+
+
+def paths(language: bytes, path: bytes, data_home: bytes, home: bytes) -> bytes:
+    """Returns the paths at which the dictionary of a language is looked for, each with a NUL behind it."""
+    arguments = [argument for text in (language, path, data_home, home) for argument in (text, len(text))]
+    return _written(4096, _paths, *arguments)
+
+
+class _Rooms:
+    """Room for the results of the calls that are made for each word."""
+
+    def __init__(self) -> None:
+        self.count, self.length = c_size_t(), c_size_t()
+        self.count_at, self.length_at = byref(self.count), byref(self.length)
+        self.give_places(64)
+        self.give_changes(64, 512)
+
+    def give_places(self, room: int) -> None:
+        self.places: Any = (c_size_t * room)()
+        self.places_room, self.places_at = c_size_t(room), byref(self.places)
+
+    def give_changes(self, room: int, texts_room: int) -> None:
+        # Each change is five numbers: its place, its range, and the lengths of its two texts.
+        self.changes: Any = (c_size_t * (5 * room))()
+        self.changes_room, self.changes_at = c_size_t(room), byref(self.changes)
+        self.texts = ctypes.create_string_buffer(texts_room)
+        self.texts_room, self.texts_at = c_size_t(texts_room), byref(self.texts)
+
+
+class Handle:
+    """A dictionary, or none."""
+
+    def __init__(self) -> None:
+        self._held = _Held()
+        self._at = byref(self._held)
+        # A call takes a room from here, and gives it back. So two calls never have one: another thread, or a signal handler
+        # that interrupts the call, finds none, and makes its own.
+        self._spare: List[_Rooms] = []
+
+    def load(self, kind: int, text: bytes) -> Loaded:
+        line, cause = c_size_t(), c_uint32()
+        status = _load(kind, text, len(text), self._at, byref(line), byref(cause))
+        return status, 0, line.value, cause.value
+
+    def load_dic(self, kind: int, language: bytes, left: int, right: int, dic: bytes) -> Loaded:
+        line, cause = c_size_t(), c_uint32()
+        status = _load_dic(
+            kind, language, len(language), left, right, dic, len(dic), self._at, byref(line), byref(cause)
+        )
+        return status, 0, line.value, cause.value
+
+    def load_patterns(
+        self, kind: int, form: int, language: bytes, left: int, right: int, patterns: bytes, exceptions: bytes
+    ) -> Loaded:
+        file, line, cause = c_size_t(), c_size_t(), c_uint32()
+        status = _load_patterns(
+            kind, form, language, len(language), left, right, patterns, len(patterns), exceptions, len(exceptions),
+            self._at, byref(file), byref(line), byref(cause),
+        )
+        return status, file.value, line.value, cause.value
+
+    def share(self) -> "Handle":
+        other = Handle()
+        _check(_share(self._at, other._at))
+        return other
+
+    def close(self) -> None:
+        _free(self._at)
+
+    def make_table(self) -> None:
+        _check(_make_table(self._at))
+
+    def edit(self, edit: bytes) -> None:
+        _check(_edit(self._at, edit, len(edit)))
+
+    def language(self) -> str:
+        return _written(32, _language, self._at).decode()
+
+    def minima(self) -> Tuple[int, int]:
+        left, right = c_size_t(), c_size_t()
+        _check(_minima(self._at, byref(left), byref(right)))
+        return left.value, right.value
+
+    def places(self, word: str) -> List[int]:
+        """Returns the places of a word's breaks, in bytes."""
+        text = _encoded(word)
+        length = _LENGTHS[len(text)] if len(text) < 256 else c_size_t(len(text))
+        try:
+            rooms = self._spare.pop()
+        except IndexError:
+            rooms = _Rooms()
+        status = _breaks(self._at, text, length, rooms.places_at, rooms.places_room, rooms.count_at)
+        if status == NO_ROOM:
+            rooms.give_places(rooms.count.value)
+            status = _breaks(self._at, text, length, rooms.places_at, rooms.places_room, rooms.count_at)
+        if status != DONE:
+            fail(status)
+        found: List[int] = rooms.places[:rooms.count.value]
+        self._spare.append(rooms)
+        return found
+
+    def positions(self, word: str) -> List[int]:
+        """Returns the positions of a word's breaks, in characters."""
+        places = self.places(word)
+        if not places or word.isascii():
+            return places
+        return positions(word.encode(), places)
+
+    def changes(self, word: str) -> Tuple[List[int], Optional[List[Tuple[int, int, int, str, str]]]]:
+        """Returns the positions of a word's breaks; and the breaks if one of them makes a change."""
+        text = _encoded(word)
+        length = _LENGTHS[len(text)] if len(text) < 256 else c_size_t(len(text))
+        try:
+            rooms = self._spare.pop()
+        except IndexError:
+            rooms = _Rooms()
+        status = _changes(
+            self._at, text, length, rooms.changes_at, rooms.changes_room, rooms.count_at, rooms.texts_at,
+            rooms.texts_room, rooms.length_at,
+        )
+        if status == NO_ROOM:
+            rooms.give_changes(max(rooms.count.value, 64), max(rooms.length.value, 512))
+            status = _changes(
+                self._at, text, length, rooms.changes_at, rooms.changes_room, rooms.count_at, rooms.texts_at,
+                rooms.texts_room, rooms.length_at,
+            )
+        if status != DONE:
+            fail(status)
+        numbers: List[int] = rooms.changes[:5 * rooms.count.value]
+        texts = rooms.texts.raw[:rooms.length.value] if rooms.length.value else b""
+        self._spare.append(rooms)
+        places, begins, ends = numbers[::5], numbers[1::5], numbers[2::5]
+        if not texts and places == begins == ends:
+            return positions(text, places), None
+        places, begins, ends = positions(text, places), positions(text, begins), positions(text, ends)
+        found, at = [], 0
+        for place, begin, end, before, after in zip(places, begins, ends, numbers[3::5], numbers[4::5]):
+            middle, last = at + before, at + before + after
+            found.append((place, begin, end, texts[at:middle].decode(), texts[middle:last].decode()))
+            at = last
+        return places, found
+
+    def positions_of(self, words: Tuple[str, ...]) -> List[List[int]]:
+        """Returns the positions of the breaks of each of the words."""
+        text, number = "".join(words), len(words)
+        content = text.encode()
+        plain = len(content) == len(text)
+        lengths = map(len, words) if plain else [len(word.encode()) for word in words]
+        ends = array("Q", accumulate(lengths))
+        place_ends = array("Q", bytes(8 * number))
+        places, count, length = array("Q", bytes(8 * (len(content) // 4 + 16))), c_size_t(), c_size_t()
+        other = self.share()
+
+        def ask() -> int:
+            status: int = _breaks_of_words(
+                other._at, content, len(content), ends.buffer_info()[0], number, places.buffer_info()[0],
+                len(places), byref(count), place_ends.buffer_info()[0], number, byref(length),
+            )
+            return status
+
+        status = ask()
+        if status == NO_ROOM:
+            places = array("Q", bytes(8 * count.value))
+            status = ask()
+        _check(status)
+        found, stops = places[:count.value].tolist(), place_ends.tolist()
+        all_places = [found[begin:end] for begin, end in zip([0] + stops, stops)]
+        if not plain:
+            for at, word in enumerate(words):
+                if not word.isascii():
+                    all_places[at] = positions(word.encode(), all_places[at])
+        return all_places
+
+    def values(self, word: str) -> bytes:
+        """Returns the values of a word's places."""
+        text = _encoded(word)
+        return _written(max(len(text), 1), _values, self._at, text, len(text))
+
+    def text(self, text: str, mark: str) -> str:
+        """Returns a text with the mark at each break of its words."""
+        content, sign, other = _encoded(text), _encoded(mark), self.share()
+        room = len(content) + len(content) // 2 + 16
+        return _written(room, _text, other._at, content, len(content), sign, len(sign)).decode()
+
+    def fill(self, text: str, columns: int) -> str:
+        """Returns the lines of a paragraph, each with a line feed behind it."""
+        content, other = _encoded(text), self.share()
+        room = len(content) + len(content) // 8 + 16
+        return _written(room, _fill, other._at, content, len(content), columns).decode()
+
+    def write(self) -> str:
+        """Returns the canonical text of the dictionary."""
+        other = self.share()
+        return _written(1 << 12, _write, other._at).decode()
+
+    def __del__(self, _free: _Call = _free) -> None:
+        _free(self._at)

@@ -1,0 +1,33 @@
+"""The calls of the library: by the extension where it was built, and else by ctypes.
+
+HYPHENATION_CALLS=ctypes takes ctypes in any case, and HYPHENATION_CALLS=extension takes nothing else than the extension.
+"""
+
+import os
+import sys
+from typing import TYPE_CHECKING
+
+# Where threads run at once, nothing would keep a handle from two calls at a time.
+if not getattr(sys, "_is_gil_enabled", lambda: True)():
+    raise ImportError("hyphenation needs the lock of the interpreter, which this Python does not have")
+
+#: Which of the two it is.
+NAME = os.environ.get("HYPHENATION_CALLS") or "extension"
+
+if TYPE_CHECKING:
+    from ._by_ctypes import Handle, kind_of, paths
+elif NAME == "ctypes":
+    from ._by_ctypes import Handle, kind_of, paths
+else:
+    try:
+        from . import _extension, _results
+    except ImportError:
+        if os.environ.get("HYPHENATION_CALLS"):
+            raise
+        NAME = "ctypes"
+        from ._by_ctypes import Handle, kind_of, paths
+    else:
+        _extension.start(_results.library_path(), _results.fail)
+        from ._extension import Handle, kind_of, paths
+
+__all__ = ("NAME", "Handle", "kind_of", "paths")

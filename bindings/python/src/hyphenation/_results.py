@@ -1,0 +1,114 @@
+"""What the calls of the library return: statuses, causes, breaks, and the exceptions that take the place of statuses."""
+
+import os
+from typing import Callable, Dict, List, NamedTuple, NoReturn, Tuple
+
+DONE, NO_ROOM, OUT_OF_MEMORY, NO_DICTIONARY, NOT_UTF8, REFUSED, OTHER_KIND, NO_LANGUAGE = range(8)
+BAD_ENDS, NO_MINIMA = 8, 9
+STANDARD, EXTENDED, NO_KIND = range(3)
+
+#: The messages of the causes: from 1 on of dictionary texts, from 21 on of files of patterns.
+MESSAGES: Dict[int, str] = {
+    1: "not UTF-8",
+    2: "not the head of this kind of dictionary",
+    3: "not a language line",
+    4: "not a minima line",
+    5: "unknown line",
+    6: "bad token",
+    7: "bad value",
+    8: "two values in one place",
+    9: "a pattern without letters",
+    10: "bad number",
+    11: "bad place",
+    12: "bad change",
+    13: "repeated pattern",
+    14: "repeated exception",
+    21: "a TeX command or group within patterns or exceptions",
+    22: "^, a character of a font's encoding: take the file in UTF-8",
+    23: "a sign that stands in no pattern or exception",
+    24: "two digits or two hyphens in one place",
+    25: "a pattern without letters",
+    26: "not UTF-8",
+    27: "\\input: give the files that have the patterns themselves",
+    28: "the group of patterns or exceptions that begins here is not closed",
+    29: "no charset that is known here",
+    30: "a byte that stands for no character in the charset of line 1",
+    31: "not a minimum, which is a number from 0 to 255",
+    32: "no pattern and no exception in the file",
+}
+
+#: The results of a call that loads: its status, the file and the line of a fault, and the cause.
+Loaded = Tuple[int, int, int, int]
+
+
+class TextRefused(ValueError):
+    """A dictionary text or a file of patterns is faulty.
+
+    `line` is the first faulty line, counted from 1, and `cause` the message of the first test that it fails. `file` is 1
+    where the line is one of the exceptions that `Dictionary.from_patterns` got, and else 0.
+
+    >>> from hyphenation import Dictionary
+    >>> Dictionary(b"hyphenation 1 standard\\nlanguage en\\nx")
+    Traceback (most recent call last):
+    hyphenation.TextRefused: line 3: not a minima line
+    """
+
+    def __init__(self, line: int, cause: str, file: int = 0) -> None:
+        """Takes the line, the message of the cause, and the number of the file."""
+        super().__init__("{}line {}: {}".format("exceptions, " if file else "", line, cause))
+        self.line, self.cause, self.file = line, cause, file
+
+    def __reduce__(self) -> Tuple[Callable[..., "TextRefused"], Tuple[int, str, int]]:
+        return type(self), (self.line, self.cause, self.file)
+
+
+class EditRefused(ValueError):
+    """An edit is faulty, or the positions may not be listed for the word."""
+
+
+# The names by which users import them.
+TextRefused.__module__ = EditRefused.__module__ = "hyphenation"
+
+
+class Break(NamedTuple):
+    """A break of a word, in characters.
+
+    Where the word is broken at `position`, two texts take the place of the characters from `begin` to `end`: `before`
+    at the end of a line, and `after` at the beginning of the next one. If nothing is changed, begin and end are the
+    position, and both texts are empty.
+    """
+
+    position: int
+    begin: int
+    end: int
+    before: str
+    after: str
+
+
+def fail(status: int) -> NoReturn:
+    """Raises the exception that takes the place of a status other than DONE."""
+    if status == OUT_OF_MEMORY:
+        raise MemoryError
+    if status == REFUSED:
+        raise EditRefused("the edit is faulty, or the positions may not be listed for the word")
+    if status == OTHER_KIND:
+        raise TypeError("the dictionary is an extended one")
+    if status == NO_DICTIONARY:
+        raise ValueError("the dictionary is closed")
+    if status == NO_LANGUAGE:
+        raise ValueError("the language is not a code, such as en-us")
+    if status == NO_MINIMA:
+        raise ValueError("the file names no minima: give left and right")
+    raise RuntimeError("the library returned the status {}, which this call does not have".format(status))
+
+
+def positions(content: bytes, places: List[int]) -> List[int]:
+    """Returns places in the bytes of a word, which ascend, as positions in its characters."""
+    return places if content.isascii() else [len(content[:place].decode()) for place in places]
+
+
+def library_path() -> str:
+    """Returns the path or the name of the library: the one that HYPHENATION_LIBRARY names, else the one beside this file,
+    else the system's."""
+    own = os.path.join(os.path.dirname(os.path.abspath(__file__)), "libhyphenation.so.0")
+    return os.environ.get("HYPHENATION_LIBRARY") or (own if os.path.exists(own) else "libhyphenation.so.0")
