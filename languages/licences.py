@@ -1,5 +1,6 @@
 """The authors and licences that files of patterns name: hyph-utf8 beside its plain files and in the head of a TeX file,
-LibreOffice in the comments at the head of a `.dic`."""
+LibreOffice in the comments at the head of a `.dic`. Of a `.dic` without such comments, the file of copyrights of Debian's
+package says it."""
 
 import os
 import re
@@ -55,12 +56,41 @@ def head_of_dic(path):
         return b"\n".join(head).decode("utf-8", "replace")
 
 
+def paragraphs_of(copyrights, name):
+    """The paragraphs of a file of copyrights in Debian's form that are for the `.dic` of a language, such as pt_BR, by the name
+    of the file or of the folder that it comes from. That of the file comes before that of the folder."""
+    by_file, by_folder = [], []
+    for paragraph in copyrights.split("\n\n"):
+        field = re.match(r"Files:((?:.*\n)(?: .*\n)*)", paragraph + "\n")
+        for pattern in field.group(1).split() if field else []:
+            if pattern.endswith(f"/hyph_{name}.dic"):
+                by_file.append(paragraph.strip("\n"))
+            elif pattern.endswith(f"/{name}/*"):
+                by_folder.append(paragraph.strip("\n"))
+    return "\n\n".join(by_file or by_folder)
+
+
+def head_of_package(path, package):
+    """What Debian's package says of a `.dic` that it has in /usr/share/hyphen; an empty text if it says nothing."""
+    folder, file = os.path.split(path)
+    copyrights = f"/usr/share/doc/{package}/copyright"
+    if folder != "/usr/share/hyphen" or not file.endswith(".dic") or not os.path.isfile(copyrights):
+        return ""
+    with open(copyrights, encoding="utf-8") as text:
+        found = paragraphs_of(text.read(), file[len("hyph_"):-len(".dic")])
+    return f"Debian's package {package} says of this file, in {copyrights}:\n\n{found}" if found else ""
+
+
 HEADS = {".txt": head_of_plain, ".tex": head_of_tex, ".dic": head_of_dic}
 
 
-def heads_of(paths):
-    """The heads of these files, each once; an empty one says that a file has none."""
-    heads = [HEADS[os.path.splitext(path)[1]](path) for path in paths]
+def heads_of(paths, package):
+    """The heads of these files, each once; an empty one says that a file has none. A `.dic` of Debian's package whose head names
+    no licence has what the package says behind it."""
+    heads = []
+    for path in paths:
+        head = HEADS[os.path.splitext(path)[1]](path)
+        heads.append(head if why_not(head) is None else "\n".join(filter(None, (head, head_of_package(path, package)))))
     return list(dict.fromkeys("\n".join(line.rstrip() for line in head.splitlines()).strip("\n") for head in heads))
 
 
