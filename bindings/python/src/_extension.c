@@ -13,6 +13,9 @@
 #include <stdlib.h>
 #include <string.h>
 #include "hyphenation.h"
+#if PY_VERSION_HEX < 0x030A0000
+#error "the limited API of Python 3.10 is not in these headers"
+#endif
 
 #define CALLS(EACH)                                                                                                        \
   EACH(kind_of) EACH(load) EACH(load_dic) EACH(load_patterns) EACH(free) EACH(share) EACH(make_table) EACH(edit)           \

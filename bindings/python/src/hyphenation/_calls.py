@@ -11,8 +11,11 @@ from typing import TYPE_CHECKING
 if not getattr(sys, "_is_gil_enabled", lambda: True)():
     raise ImportError("hyphenation needs the lock of the interpreter, which this Python does not have")
 
+_WANTED = os.environ.get("HYPHENATION_CALLS", "")
+if _WANTED not in ("", "ctypes", "extension"):
+    raise ImportError("HYPHENATION_CALLS is neither ctypes nor extension: {}".format(_WANTED))
 #: Which of the two it is.
-NAME = os.environ.get("HYPHENATION_CALLS") or "extension"
+NAME = _WANTED or "extension"
 
 if TYPE_CHECKING:
     from ._by_ctypes import Handle, kind_of, paths
@@ -22,7 +25,7 @@ else:
     try:
         from . import _extension, _results
     except ImportError:
-        if os.environ.get("HYPHENATION_CALLS"):
+        if _WANTED:
             raise
         NAME = "ctypes"
         from ._by_ctypes import Handle, kind_of, paths
