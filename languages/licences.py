@@ -1,5 +1,5 @@
 """The authors and licences that files of patterns name: hyph-utf8 beside its plain files and in the head of a TeX file,
-LibreOffice in the comments at the head of a `.dic`. Of a `.dic` without such comments, the file of copyrights of Debian's
+LibreOffice in the comments at the head of a `.dic`. Where a `.dic` has no such comments, the file of copyrights of Debian's
 package says it."""
 
 import os
@@ -71,7 +71,7 @@ def paragraphs_of(copyrights, name):
 
 
 def head_of_package(path, package):
-    """What Debian's package says of a `.dic` that it has in /usr/share/hyphen; an empty text if it says nothing."""
+    """The text in which Debian's package says it of a `.dic` in /usr/share/hyphen; an empty one if it says nothing."""
     folder, file = os.path.split(path)
     copyrights = f"/usr/share/doc/{package}/copyright"
     if folder != "/usr/share/hyphen" or not file.endswith(".dic") or not os.path.isfile(copyrights):
