@@ -28,15 +28,25 @@ int LLVMFuzzerTestOneInput(const uint8_t *data, size_t size) {
   hyphenation h = HYPHENATION_NONE, o = HYPHENATION_NONE;
   size_t line = 0, count, texts;
   if (data[0] & 4) {
-    size_t file = 0;
-    status = hyphenation_load_patterns(kind, data[0] >> 1 & 1, (const uint8_t *)"und", 3, 2, 256 - (data[0] >> 3 & 1), text,
-                                       length, word ? word : text, word ? rest : 0, &h, &file, &line, &cause);
-    need(status != HYPHENATION_REFUSED || file < 2);
+    hyphenation_fault fault = {0, 0, 0};
+    hyphenation_patterns files = {.kind = kind,
+                                  .form = data[0] >> 1 & 1,
+                                  .language = (const uint8_t *)"und",
+                                  .language_length = 3,
+                                  .left = 2,
+                                  .right = 256 - (data[0] >> 3 & 1),
+                                  .patterns = text,
+                                  .patterns_length = length,
+                                  .exceptions = word ? word : text,
+                                  .exceptions_length = word ? rest : 0};
+    status = hyphenation_load_patterns(&files, &h, &fault);
+    need(status != HYPHENATION_REFUSED || fault.file < 2);
+    line = fault.line, cause = fault.cause;
   } else if (data[0] & 2)
     status = hyphenation_load_dic(kind, (const uint8_t *)"und", 3, 256, 256, text, length, &h, &line, &cause);
   else
     status = hyphenation_load(kind, text, length, &h, &line, &cause);
-  if (status == HYPHENATION_REFUSED) need(line > 0 && *hyphenation_message(cause) && !h.held);
+  if (status == HYPHENATION_REFUSED) need(line > 0 && *hyphenation_cause_message(cause) && !h.held);
   if (status != HYPHENATION_DONE) return 0;
   status = hyphenation_breaks(&h, word, rest, places, ROOM, &count);
   need(is_known(status));

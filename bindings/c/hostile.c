@@ -27,7 +27,7 @@ static void load(const uint8_t *text, size_t length) {
       assert(hyphenation_breaks(&h, (const uint8_t *)"asszonnyalfirkin", 16, places, 64, &count) == HYPHENATION_DONE);
     } else {
       refused++;
-      assert(!h.held && line >= 1 && line <= lines + 1 && *hyphenation_message(cause));
+      assert(!h.held && line >= 1 && line <= lines + 1 && *hyphenation_cause_message(cause));
     }
     hyphenation_free(&h);
     hyphenation_free(&h);
