@@ -20,7 +20,7 @@
 #define CALLS(EACH)                                                                                                        \
   EACH(kind_of) EACH(load) EACH(load_dic) EACH(load_patterns) EACH(free) EACH(share) EACH(make_table) EACH(edit)           \
   EACH(language) EACH(minima) EACH(breaks) EACH(breaks_of_words) EACH(values) EACH(changes) EACH(text) EACH(fill)          \
-  EACH(write) EACH(paths)
+  EACH(write) EACH(paths) EACH(cause_message)
 static struct {
 #define DECLARE(name) __typeof__(&hyphenation_##name) name;
   CALLS(DECLARE)
@@ -439,19 +439,21 @@ static PyObject *load_patterns(PyObject *self, PyObject *arguments) {
   unsigned int kind, form, left, right;
   const uint8_t *code, *patterns, *exceptions;
   Py_ssize_t code_length, patterns_length, exceptions_length;
-  size_t file = 0, line = 0;
-  uint32_t cause = 0, status;
+  hyphenation_fault fault = {0, 0, 0};
+  uint32_t status;
   hyphenation own = HYPHENATION_NONE;
   if (!PyArg_ParseTuple(arguments, "IIy#IIy#y#", &kind, &form, &code, &code_length, &left, &right, &patterns,
                         &patterns_length, &exceptions, &exceptions_length))
     return NULL;
+  const hyphenation_patterns files = {
+      kind,     form,     code,       (size_t)code_length, left, right, patterns, (size_t)patterns_length,
+      exceptions, (size_t)exceptions_length};
   Py_BEGIN_ALLOW_THREADS
-  status = calls.load_patterns(kind, form, code, (size_t)code_length, left, right, patterns, (size_t)patterns_length,
-                               exceptions, (size_t)exceptions_length, &own, &file, &line, &cause);
+  status = calls.load_patterns(&files, &own, &fault);
   Py_END_ALLOW_THREADS
   calls.free(OF(self));
   *OF(self) = own;
-  return loaded(status, file, line, cause);
+  return loaded(status, fault.file, fault.line, fault.cause);
 }
 
 static PyObject *share(PyObject *self, PyObject *Py_UNUSED(none)) {
@@ -488,6 +490,12 @@ static PyObject *kind_of(PyObject *Py_UNUSED(module), PyObject *arguments) {
   Py_ssize_t length;
   if (!has_library() || !PyArg_ParseTuple(arguments, "y#", &content, &length)) return NULL;
   return PyLong_FromUnsignedLong(calls.kind_of(content, (size_t)length));
+}
+
+static PyObject *cause_message(PyObject *Py_UNUSED(module), PyObject *arguments) {
+  unsigned int cause;
+  if (!has_library() || !PyArg_ParseTuple(arguments, "I", &cause)) return NULL;
+  return PyUnicode_FromString(calls.cause_message(cause));
 }
 
 /* ---- The class and the module. */
@@ -566,6 +574,7 @@ static PyMethodDef functions[] = {
     {"start", start, METH_VARARGS, NULL},
     {"kind_of", kind_of, METH_VARARGS, NULL},
     {"paths", paths, METH_VARARGS, NULL},
+    {"cause_message", cause_message, METH_VARARGS, NULL},
     {NULL, NULL, 0, NULL},
 };
 

@@ -18,6 +18,18 @@ class _Held(ctypes.Structure):
     _fields_ = [("at", c_void_p), ("held", c_bool)]
 
 
+class _Patterns(ctypes.Structure):
+    _fields_ = [
+        ("kind", c_uint32), ("form", c_uint32), ("language", c_char_p), ("language_length", c_size_t),
+        ("left", c_uint32), ("right", c_uint32), ("patterns", c_char_p), ("patterns_length", c_size_t),
+        ("exceptions", c_char_p), ("exceptions_length", c_size_t),
+    ]
+
+
+class _Fault(ctypes.Structure):
+    _fields_ = [("file", c_size_t), ("line", c_size_t), ("cause", c_uint32)]
+
+
 _LONG, _SHORT = ctypes.CDLL(library_path()), ctypes.PyDLL(library_path())
 _Call = Callable[..., Any]
 
@@ -37,10 +49,7 @@ _TEXT = (c_char_p, c_size_t)
 _kind_of = _declare(_SHORT, "kind_of", *_TEXT)
 _load = _declare(_LONG, "load", c_uint32, *_TEXT, *_FAULT)
 _load_dic = _declare(_LONG, "load_dic", c_uint32, *_TEXT, c_uint32, c_uint32, *_TEXT, *_FAULT)
-_load_patterns = _declare(
-    _LONG, "load_patterns", c_uint32, c_uint32, *_TEXT, c_uint32, c_uint32, *_TEXT, *_TEXT, _HANDLE, POINTER(c_size_t),
-    *_FAULT[1:],
-)
+_load_patterns = _declare(_LONG, "load_patterns", POINTER(_Patterns), _HANDLE, POINTER(_Fault))
 _free = _declare(_SHORT, "free", _HANDLE, result=None)
 _share = _declare(_SHORT, "share", _HANDLE, _HANDLE)
 _make_table = _declare(_SHORT, "make_table", _HANDLE)
@@ -58,6 +67,7 @@ _text = _declare(_LONG, "text", _HANDLE, *_TEXT, *_TEXT, *_BUFFER)
 _fill = _declare(_LONG, "fill", _HANDLE, *_TEXT, c_size_t, *_BUFFER)
 _write = _declare(_LONG, "write", _HANDLE, *_BUFFER)
 _paths = _declare(_SHORT, "paths", *_TEXT, *_TEXT, *_TEXT, *_TEXT, *_BUFFER)
+_cause_message = _declare(_SHORT, "cause_message", c_uint32, result=c_char_p)
 
 # Lengths of short texts, as the calls for each word take them.
 _LENGTHS = tuple(map(c_size_t, range(256)))
@@ -92,6 +102,12 @@ def kind_of(text: bytes) -> int:
     """Returns the kind that a dictionary text names."""
     kind: int = _kind_of(text, len(text))
     return kind
+
+
+def cause_message(cause: int) -> str:
+    """Returns the message of a cause: why a text or a file is refused."""
+    message: bytes = _cause_message(cause)
+    return message.decode()
 
 
 def paths(language: bytes, path: bytes, data_home: bytes, home: bytes) -> bytes:
@@ -146,12 +162,12 @@ class Handle:
     def load_patterns(
         self, kind: int, form: int, language: bytes, left: int, right: int, patterns: bytes, exceptions: bytes
     ) -> Loaded:
-        file, line, cause = c_size_t(), c_size_t(), c_uint32()
-        status = _load_patterns(
-            kind, form, language, len(language), left, right, patterns, len(patterns), exceptions, len(exceptions),
-            self._at, byref(file), byref(line), byref(cause),
+        fault = _Fault()
+        files = _Patterns(
+            kind, form, language, len(language), left, right, patterns, len(patterns), exceptions, len(exceptions)
         )
-        return status, file.value, line.value, cause.value
+        status = _load_patterns(byref(files), self._at, byref(fault))
+        return status, fault.file, fault.line, fault.cause
 
     def share(self) -> "Handle":
         other = Handle()

@@ -7,36 +7,6 @@ DONE, NO_ROOM, OUT_OF_MEMORY, NO_DICTIONARY, NOT_UTF8, REFUSED, OTHER_KIND, NO_L
 BAD_ENDS, NO_MINIMA = 8, 9
 STANDARD, EXTENDED, NO_KIND = range(3)
 
-#: The messages of the causes: from 1 on of dictionary texts, from 21 on of files of patterns.
-MESSAGES: Dict[int, str] = {
-    1: "not UTF-8",
-    2: "not the head of this kind of dictionary",
-    3: "not a language line",
-    4: "not a minima line",
-    5: "unknown line",
-    6: "bad token",
-    7: "bad value",
-    8: "two values in one place",
-    9: "a pattern without letters",
-    10: "bad number",
-    11: "bad place",
-    12: "bad change",
-    13: "repeated pattern",
-    14: "repeated exception",
-    21: "a TeX command or group within patterns or exceptions",
-    22: "^, a character of a font's encoding: take the file in UTF-8",
-    23: "a sign that stands in no pattern or exception",
-    24: "two digits or two hyphens in one place",
-    25: "a pattern without letters",
-    26: "not UTF-8",
-    27: "\\input: give the files that have the patterns themselves",
-    28: "the group of patterns or exceptions that begins here is not closed",
-    29: "no charset that is known here",
-    30: "a byte that stands for no character in the charset of line 1",
-    31: "not a minimum, which is a number from 0 to 255",
-    32: "no pattern and no exception in the file",
-}
-
 #: The results of a call that loads: its status, the file and the line of a fault, and the cause.
 Loaded = Tuple[int, int, int, int]
 
