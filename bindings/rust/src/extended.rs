@@ -1,12 +1,12 @@
 //! Dictionaries whose breaks may change the letters around them.
 
-use crate::handle::{Change, Handle};
-use crate::hyphenator::{done, exception_edit, token, Hyphenator, Word};
-use crate::language::Language;
-use std::fmt;
+use crate::calls::{Raw, RawChange, EXTENDED};
+use crate::dictionary::{dictionary, Inner};
+use crate::hyphenator::{is_plain, known_or_found, Hyphenator, Word};
+use crate::score::Score;
 
 /// The change that a break makes: a substitution for a range of the word, and where it is broken itself.
-#[derive(Clone, Debug, PartialEq, Eq, Hash)]
+#[derive(Clone, Debug, Default, PartialEq, Eq, Hash)]
 pub struct Subregion {
     /// How many bytes before the break the range begins.
     pub left: usize,
@@ -19,101 +19,96 @@ pub struct Subregion {
 }
 
 /// A dictionary whose breaks may change the letters around them.
-pub struct Extended {
-    pub(crate) handle: Handle,
-    pub(crate) language: Language,
-}
+pub struct Extended(Inner<(usize, Option<Subregion>)>);
 
-impl Extended {
-    /// The language whose words it breaks.
-    pub fn language(&self) -> Language {
-        self.language
-    }
-
-    /// Makes a table by which words are broken faster, if the dictionary can have one.
-    ///
-    /// Words whose breaks may change letters take longer, and words of more than 62 bytes as long as before. Extended
-    /// Hungarian takes 14 MB. Else it is as [`Standard::make_table`](crate::Standard::make_table) says.
-    pub fn make_table(&mut self) {
-        done(self.handle.make_table())
-    }
-
-    /// The places of the breaks of each of the words, in one call, without the changes that the breaks make.
-    pub fn breaks_of_words(&self, words: &[&str]) -> Vec<Vec<usize>> {
-        done(self.handle.breaks_of_words(words))
-    }
-
-    /// The values of a word's places, from place 1 on: an odd one allows a break.
-    ///
-    /// They are those of the patterns alone, for the word as it is written.
-    pub fn score(&self, word: &str) -> Vec<u8> {
-        done(self.handle.values(word))
-    }
-
-    /// A text with a mark at each break of its words.
-    pub fn hyphenate_text(&self, text: &str, mark: &str) -> String {
-        done(self.handle.marked(text, mark))
-    }
-
-    /// The dictionary as its canonical text.
-    pub fn to_text(&self) -> String {
-        done(self.handle.canonical())
-    }
-}
-
-impl Clone for Extended {
-    fn clone(&self) -> Extended {
-        Extended { handle: done(self.handle.share()), language: self.language }
-    }
-}
-
-impl fmt::Debug for Extended {
-    fn fmt(&self, f: &mut fmt::Formatter<'_>) -> fmt::Result {
-        f.debug_struct("Extended").field("language", &self.language).finish_non_exhaustive()
-    }
-}
+dictionary!(
+    Extended,
+    EXTENDED,
+    "Words whose breaks may change letters take longer, and words of more than 62 bytes as long as before. It takes memory
+and time: 14 MB in Hungarian."
+);
 
 // A break that changes nothing has an empty range at its place, and no texts.
-fn opportunity(change: Change) -> (usize, Option<Subregion>) {
-    if change.begin == change.end && change.before.is_empty() && change.after.is_empty() {
-        return (change.place, None);
+fn subregion(change: &RawChange, texts: &str) -> Option<Subregion> {
+    if change.begin == change.end && texts.is_empty() {
+        return None;
     }
-    let subregion = Subregion {
+    Some(Subregion {
         left: change.place - change.begin,
         right: change.end - change.place,
-        breakpoint: change.before.len(),
-        substitution: change.before + &change.after,
-    };
-    (change.place, Some(subregion))
-}
-
-// A listed break as it stands in a dictionary text.
-fn listed(place: usize, subregion: &Option<Subregion>) -> String {
-    match subregion {
-        None => format!(" {place}"),
-        Some(s) => format!(" {place},{},{},{},{}", s.left, s.right, s.breakpoint, token(&s.substitution)),
-    }
+        substitution: texts.to_owned(),
+        breakpoint: change.before,
+    })
 }
 
 impl<'h> Hyphenator<'h> for Extended {
-    type Opportunity = (usize, Option<Subregion>);
+    type Opportunity = (usize, Option<&'h Subregion>);
     type Exact = (usize, Option<Subregion>);
 
-    fn hyphenate<'t>(&'h self, word: &'t str) -> Word<'t, (usize, Option<Subregion>)> {
-        let breaks = done(self.handle.changes(word)).into_iter().map(opportunity).collect();
-        Word { text: word, breaks }
+    fn hyphenate<'t>(&'h self, word: &'t str) -> Word<'t, (usize, Option<&'h Subregion>)> {
+        let (changes, texts) = self.0.ask(|raw| raw.changes(word));
+        let mut rest = texts.as_str();
+        let breaks = changes.iter().map(|change| {
+            let (own, after) = rest.split_at(change.before + change.after);
+            rest = after;
+            (change.place, subregion(change, own).map(|it| self.0.keep(it)))
+        });
+        Word { text: word, breaks: breaks.collect() }
     }
 
-    fn add_exception(&mut self, lowercase_word: String, breaks: Vec<(usize, Option<Subregion>)>) -> bool {
-        let places = breaks.iter().map(|(place, subregion)| listed(*place, subregion));
-        self.handle.edit(&exception_edit(&lowercase_word, places)).is_ok()
+    fn opportunities(&'h self, lowercase_word: &str) -> Vec<(usize, Option<&'h Subregion>)> {
+        if is_plain(lowercase_word) {
+            return self.hyphenate(lowercase_word).breaks;
+        }
+        known_or_found(self, lowercase_word)
     }
 
-    fn remove_exception(&mut self, word: &str) {
-        done(self.handle.edit(&format!("-{}", token(word))))
+    fn opportunities_within(
+        &'h self,
+        lowercase_word: &str,
+        bounds: (usize, usize),
+    ) -> Vec<(usize, Option<&'h Subregion>)> {
+        let scores = (1..).zip(self.score(lowercase_word)).filter(|(_, score)| Self::denotes_opportunity(*score));
+        let breaks = scores.map(|(place, (_, change))| (place, change));
+        breaks.filter(|(place, _)| bounds.0 <= *place && *place <= bounds.1).collect()
+    }
+
+    fn exception_within(
+        &'h self,
+        lowercase_word: &str,
+        bounds: (usize, usize),
+    ) -> Option<Vec<(usize, Option<&'h Subregion>)>> {
+        let listed = self.0.listed(lowercase_word)?.iter().map(|(place, change)| (*place, change.as_ref()));
+        Some(listed.filter(|(place, _)| bounds.0 <= *place && *place <= bounds.1).collect())
+    }
+
+    fn add_exception(
+        &mut self,
+        lowercase_word: String,
+        ops: Vec<(usize, Option<Subregion>)>,
+    ) -> Option<Vec<(usize, Option<Subregion>)>> {
+        self.0.list(lowercase_word, ops)
+    }
+
+    fn remove_exception(&mut self, word: &str) -> Option<Vec<(usize, Option<Subregion>)>> {
+        self.0.unlist(word)
     }
 
     fn unbreakable_chars(&self) -> (usize, usize) {
-        self.handle.minima()
+        self.0.ask(|raw| Ok(Raw::minima(raw)))
+    }
+}
+
+impl<'d> Score<'d> for Extended {
+    type Value = (u8, Option<&'d Subregion>);
+
+    fn score(&'d self, word: &str) -> Vec<(u8, Option<&'d Subregion>)> {
+        let values = self.0.ask(|raw| raw.values(word));
+        let changes = self.0.changes(word, &values);
+        values.into_iter().zip(changes).collect()
+    }
+
+    fn denotes_opportunity((value, _): (u8, Option<&'d Subregion>)) -> bool {
+        value & 1 == 1
     }
 }

@@ -1,7 +1,5 @@
 //! Words with their breaks, and what finds them.
 
-use crate::handle::Failure;
-
 /// The places of the soft hyphens of a word; none where it has none. A word that has some is broken at them alone.
 pub fn soft_hyphen_indices(word: &str) -> Option<Vec<usize>> {
     let places: Vec<usize> = word.match_indices('\u{ad}').map(|(place, _)| place).collect();
@@ -18,6 +16,9 @@ pub struct Word<'t, Break> {
 }
 
 /// A dictionary that finds the breaks of single words.
+///
+/// All places are numbers of bytes. Where memory is refused, the calls of [`Standard`](crate::Standard) and
+/// [`Extended`](crate::extended::Extended) panic.
 pub trait Hyphenator<'h> {
     /// A break that the dictionary finds in a word.
     type Opportunity;
@@ -26,19 +27,42 @@ pub trait Hyphenator<'h> {
     type Exact;
 
     /// A word with its breaks. Capitals are read as small letters.
+    ///
+    /// If the word has soft hyphens, these are its breaks. Else they are those that are listed for it, if it is an
+    /// exception, or those of the patterns.
     fn hyphenate<'t>(&'h self, word: &'t str) -> Word<'t, Self::Opportunity>;
 
-    /// The breaks of a word.
+    /// The breaks of a word in small letters, within the minima. A soft hyphen is a letter here.
     fn opportunities(&'h self, lowercase_word: &str) -> Vec<Self::Opportunity> {
-        self.hyphenate(lowercase_word).breaks
+        known_or_found(self, lowercase_word)
     }
 
-    /// Lists breaks for a word, in the place of those that its patterns allow. It returns false where they may not be
-    /// listed: their places must ascend, and stand with their ranges in the word, on boundaries of characters.
-    fn add_exception(&mut self, lowercase_word: String, breaks: Vec<Self::Exact>) -> bool;
+    /// The breaks of a word by the patterns, from the first of these places to the second one.
+    fn opportunities_within(&'h self, lowercase_word: &str, bounds: (usize, usize)) -> Vec<Self::Opportunity>;
 
-    /// Removes a word from the exceptions, if it is one.
-    fn remove_exception(&mut self, word: &str);
+    /// The breaks that are listed for a word, within the minima, if it is an exception.
+    fn exception(&'h self, lowercase_word: &str) -> Option<Vec<Self::Opportunity>> {
+        self.boundaries(lowercase_word).and_then(|bounds| self.exception_within(lowercase_word, bounds))
+    }
+
+    /// The breaks that are listed for a word, from the first of these places to the second one, if it is an exception.
+    fn exception_within(&'h self, lowercase_word: &str, bounds: (usize, usize)) -> Option<Vec<Self::Opportunity>>;
+
+    /// Lists breaks for a word, in the place of those that its patterns allow. It returns those that were listed before, if
+    /// any were.
+    ///
+    /// # Panics
+    ///
+    /// Where memory is refused, or where the breaks may not be listed: their places must ascend, and stand with their ranges
+    /// in the word, on boundaries of characters. The dictionary is then as it was.
+    fn add_exception(&mut self, lowercase_word: String, ops: Vec<Self::Exact>) -> Option<Vec<Self::Exact>>;
+
+    /// Removes a word from the exceptions, if it is one, and returns the breaks that were listed.
+    ///
+    /// # Panics
+    ///
+    /// Where memory is refused.
+    fn remove_exception(&mut self, word: &str) -> Option<Vec<Self::Exact>>;
 
     /// The least numbers of characters before the first break of a word, and after its last one.
     fn unbreakable_chars(&self) -> (usize, usize);
@@ -52,34 +76,18 @@ pub trait Hyphenator<'h> {
     }
 }
 
-// The result of a call that fails only if memory was refused.
-pub(crate) fn done<T>(result: Result<T, Failure>) -> T {
-    match result {
-        Ok(value) => value,
-        Err(Failure::Memory) => panic!("out of memory"),
-        Err(failure) => unreachable!("{failure:?}"),
-    }
+// Whether a word has neither a capital nor a soft hyphen. The breaks of such a word as it is written are its opportunities.
+pub(crate) fn is_plain(word: &str) -> bool {
+    !word.chars().any(|c| c.is_uppercase() || c == '\u{ad}')
 }
 
-// The edit that lists breaks for a word.
-pub(crate) fn exception_edit(word: &str, places: impl Iterator<Item = String>) -> String {
-    format!("+{}{}", token(word), places.collect::<String>())
-}
-
-// A text as the token of a dictionary text.
-pub(crate) fn token(word: &str) -> String {
-    if word.is_empty() {
-        return "\\e".to_owned();
+// The breaks of a word within the minima: those that are listed for it, or else those of the patterns.
+pub(crate) fn known_or_found<'h, H: Hyphenator<'h> + ?Sized>(dictionary: &'h H, word: &str) -> Vec<H::Opportunity> {
+    match dictionary.boundaries(word) {
+        None => Vec::new(),
+        Some(bounds) => match dictionary.exception(word) {
+            None => dictionary.opportunities_within(word, bounds),
+            Some(known) => known,
+        },
     }
-    let mut token = String::with_capacity(word.len());
-    for c in word.chars() {
-        match c {
-            '\\' => token.push_str("\\\\"),
-            ' ' => token.push_str("\\s"),
-            '\n' => token.push_str("\\n"),
-            '\r' => token.push_str("\\r"),
-            c => token.push(c),
-        }
-    }
-    token
 }

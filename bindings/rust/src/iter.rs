@@ -3,6 +3,7 @@
 use crate::extended::Subregion;
 use crate::hyphenator::Word;
 use std::borrow::Cow;
+use std::iter::Cloned;
 use std::{slice, vec};
 
 /// The segments of a word, each but the last with a mark after it.
@@ -56,7 +57,7 @@ where
 
 /// A word whose segments are asked for without giving it away.
 pub trait Iter<'t> {
-    /// The segments.
+    /// The iterator over its segments.
     type Iter;
 
     /// The segments, with marks.
@@ -64,18 +65,18 @@ pub trait Iter<'t> {
 }
 
 impl<'t> Iter<'t> for Word<'t, usize> {
-    type Iter = Segments<'t, std::iter::Copied<slice::Iter<'t, usize>>>;
+    type Iter = Segments<'t, Cloned<slice::Iter<'t, usize>>>;
 
     fn iter(&'t self) -> Hyphenating<'t, Self::Iter> {
-        Hyphenating::new(Segments::new(self.text, self.breaks.iter().copied()))
+        Hyphenating::new(Segments::new(self.text, self.breaks.iter().cloned()))
     }
 }
 
-impl<'t> Iter<'t> for Word<'t, (usize, Option<Subregion>)> {
-    type Iter = SegmentsExt<'t, std::iter::Cloned<slice::Iter<'t, (usize, Option<Subregion>)>>>;
+impl<'t> Iter<'t> for Word<'t, (usize, Option<&'t Subregion>)> {
+    type Iter = SegmentsExt<'t, std::iter::Copied<slice::Iter<'t, (usize, Option<&'t Subregion>)>>>;
 
     fn iter(&'t self) -> Hyphenating<'t, Self::Iter> {
-        Hyphenating::new(SegmentsExt::new(self.text, self.breaks.iter().cloned()))
+        Hyphenating::new(SegmentsExt::new(self.text, self.breaks.iter().copied()))
     }
 }
 
@@ -88,9 +89,9 @@ impl<'t> IntoIterator for Word<'t, usize> {
     }
 }
 
-impl<'t> IntoIterator for Word<'t, (usize, Option<Subregion>)> {
+impl<'t> IntoIterator for Word<'t, (usize, Option<&'t Subregion>)> {
     type Item = String;
-    type IntoIter = Hyphenating<'t, SegmentsExt<'t, vec::IntoIter<(usize, Option<Subregion>)>>>;
+    type IntoIter = Hyphenating<'t, SegmentsExt<'t, vec::IntoIter<(usize, Option<&'t Subregion>)>>>;
 
     fn into_iter(self) -> Self::IntoIter {
         Hyphenating::new(SegmentsExt::new(self.text, self.breaks.into_iter()))
@@ -137,38 +138,38 @@ pub struct SegmentsExt<'t, I> {
     text: &'t str,
     breaks: I,
     // Where the next segment begins, and the text before that; none after the last one.
-    start: Option<(usize, String)>,
+    start: Option<(usize, &'t str)>,
 }
 
 impl<'t, I> SegmentsExt<'t, I> {
     /// The segments of a text between breaks, whose places ascend, and whose ranges do not overlap.
     pub fn new(text: &'t str, breaks: I) -> Self {
-        SegmentsExt { text, breaks, start: Some((0, String::new())) }
+        SegmentsExt { text, breaks, start: Some((0, "")) }
     }
 }
 
-impl<'t, I: Iterator<Item = (usize, Option<Subregion>)>> Iterator for SegmentsExt<'t, I> {
+impl<'t, I: Iterator<Item = (usize, Option<&'t Subregion>)>> Iterator for SegmentsExt<'t, I> {
     type Item = Cow<'t, str>;
 
     fn next(&mut self) -> Option<Cow<'t, str>> {
         let (start, before) = self.start.take()?;
         let (end, after) = match self.breaks.next() {
-            None => (self.text.len(), String::new()),
+            None => (self.text.len(), ""),
             Some((place, None)) => {
-                self.start = Some((place, String::new()));
-                (place, String::new())
+                self.start = Some((place, ""));
+                (place, "")
             }
-            Some((place, Some(mut change))) => {
-                let second = change.substitution.split_off(change.breakpoint);
+            Some((place, Some(change))) => {
+                let (first, second) = change.substitution.split_at(change.breakpoint);
                 self.start = Some((place + change.right, second));
-                (place - change.left, change.substitution)
+                (place - change.left, first)
             }
         };
         let between = &self.text[start..end];
         if before.is_empty() && after.is_empty() {
             return Some(Cow::Borrowed(between));
         }
-        Some(Cow::Owned(before + between + &after))
+        Some(Cow::Owned([before, between, after].concat()))
     }
 
     fn size_hint(&self) -> (usize, Option<usize>) {
@@ -178,4 +179,4 @@ impl<'t, I: Iterator<Item = (usize, Option<Subregion>)>> Iterator for SegmentsEx
     }
 }
 
-impl<I: ExactSizeIterator<Item = (usize, Option<Subregion>)>> ExactSizeIterator for SegmentsExt<'_, I> {}
+impl<'t, I: ExactSizeIterator<Item = (usize, Option<&'t Subregion>)>> ExactSizeIterator for SegmentsExt<'t, I> {}

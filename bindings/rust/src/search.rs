@@ -1,13 +1,20 @@
 //! The search for the dictionary of a language.
 
-use crate::handle::paths;
-use crate::hyphenator::done;
+use crate::calls;
+use crate::dictionary::done;
 use std::env;
 use std::path::{Path, PathBuf};
 
 // The value of a variable of the environment; empty if it is missing or not UTF-8.
 fn value(name: &str) -> String {
     env::var(name).unwrap_or_default()
+}
+
+/// The paths at which the dictionary of a language is looked for, in their order.
+pub(crate) fn paths_of(tag: &str) -> Vec<PathBuf> {
+    let [path, data_home, home] = ["HYPHENATION_PATH", "XDG_DATA_HOME", "HOME"].map(value);
+    let paths = done(calls::paths(tag, &path, &data_home, &home));
+    paths.split_terminator('\0').map(|path| Path::new(path).to_owned()).collect()
 }
 
 /// Returns the path of the dictionary of a language, or `None` if there is none.
@@ -20,8 +27,10 @@ fn value(name: &str) -> String {
 /// ```
 /// assert_eq!(hyphenation::dictionary_path("../x"), None);
 /// ```
+///
+/// # Panics
+///
+/// Where memory is refused.
 pub fn dictionary_path(language: &str) -> Option<PathBuf> {
-    let [path, data_home, home] = ["HYPHENATION_PATH", "XDG_DATA_HOME", "HOME"].map(value);
-    let paths = done(paths(language, &path, &data_home, &home));
-    paths.split_terminator('\0').map(Path::new).find(|path| path.is_file()).map(Path::to_owned)
+    paths_of(language).into_iter().find(|path| path.is_file())
 }

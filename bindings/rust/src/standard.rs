@@ -1,78 +1,37 @@
 //! Dictionaries whose breaks change nothing.
 
-use crate::handle::Handle;
-use crate::hyphenator::{done, exception_edit, Hyphenator, Word};
-use crate::language::Language;
-use std::fmt;
+use crate::calls::{Raw, STANDARD};
+use crate::dictionary::{dictionary, Inner};
+use crate::hyphenator::{is_plain, known_or_found, Hyphenator, Word};
+use crate::score::Score;
 
 /// A dictionary whose breaks change nothing.
-pub struct Standard {
-    pub(crate) handle: Handle,
-    pub(crate) language: Language,
-}
+pub struct Standard(Inner<usize>);
+
+dictionary!(
+    Standard,
+    STANDARD,
+    "Nothing else changes. It takes memory and time: 0.5 MB and 2 ms in English, 9 MB and 16 ms in Hungarian."
+);
 
 impl Standard {
-    /// The language whose words it breaks.
-    pub fn language(&self) -> Language {
-        self.language
-    }
-
-    /// Makes a table by which words are broken faster, if the dictionary can have one.
-    ///
-    /// Nothing else changes. It takes memory and time (0.5 MB and 2 ms in English, 9 MB and 16 ms in
-    /// Hungarian), so it is for a dictionary that is asked for thousands of words. Call it before the dictionary is cloned:
-    /// clones that are there stay without a table, and the dictionary is copied for it.
-    pub fn make_table(&mut self) {
-        done(self.handle.make_table())
-    }
-
-    /// The places of the breaks of each of the words, in one call.
-    pub fn breaks_of_words(&self, words: &[&str]) -> Vec<Vec<usize>> {
-        done(self.handle.breaks_of_words(words))
-    }
-
-    /// The values of a word's places, from place 1 on: an odd one allows a break.
-    ///
-    /// They are those of the patterns alone, for the word as it is written.
-    pub fn score(&self, word: &str) -> Vec<u8> {
-        done(self.handle.values(word))
-    }
-
-    /// A text with a mark at each break of its words.
-    pub fn hyphenate_text(&self, text: &str, mark: &str) -> String {
-        done(self.handle.marked(text, mark))
-    }
-
     /// The lines of a text, of at most so many characters, if the text can be divided so.
     ///
     /// Each paragraph, up to a line feed, is filled by itself; an empty one is an empty line.
+    ///
+    /// # Panics
+    ///
+    /// Where memory is refused.
     pub fn fill(&self, text: &str, columns: usize) -> Vec<String> {
         let mut lines = Vec::new();
         for paragraph in text.split('\n') {
-            let page = done(self.handle.lines(paragraph, columns));
+            let page = self.0.ask(|raw| raw.lines(paragraph, columns));
             lines.extend(page.split_terminator('\n').map(str::to_owned));
             if paragraph.is_empty() {
                 lines.push(String::new());
             }
         }
         lines
-    }
-
-    /// The dictionary as its canonical text.
-    pub fn to_text(&self) -> String {
-        done(self.handle.canonical())
-    }
-}
-
-impl Clone for Standard {
-    fn clone(&self) -> Standard {
-        Standard { handle: done(self.handle.share()), language: self.language }
-    }
-}
-
-impl fmt::Debug for Standard {
-    fn fmt(&self, f: &mut fmt::Formatter<'_>) -> fmt::Result {
-        f.debug_struct("Standard").field("language", &self.language).finish_non_exhaustive()
     }
 }
 
@@ -81,19 +40,48 @@ impl<'h> Hyphenator<'h> for Standard {
     type Exact = usize;
 
     fn hyphenate<'t>(&'h self, word: &'t str) -> Word<'t, usize> {
-        Word { text: word, breaks: done(self.handle.breaks(word)) }
+        Word { text: word, breaks: self.0.ask(|raw| raw.breaks(word)) }
     }
 
-    fn add_exception(&mut self, lowercase_word: String, breaks: Vec<usize>) -> bool {
-        let places = breaks.iter().map(|place| format!(" {place}"));
-        self.handle.edit(&exception_edit(&lowercase_word, places)).is_ok()
+    fn opportunities(&'h self, lowercase_word: &str) -> Vec<usize> {
+        if is_plain(lowercase_word) {
+            return self.hyphenate(lowercase_word).breaks;
+        }
+        known_or_found(self, lowercase_word)
     }
 
-    fn remove_exception(&mut self, word: &str) {
-        done(self.handle.edit(&format!("-{}", crate::hyphenator::token(word))))
+    fn opportunities_within(&'h self, lowercase_word: &str, bounds: (usize, usize)) -> Vec<usize> {
+        let values = self.score(lowercase_word);
+        let places = (1..).zip(values).filter(|(_, value)| Self::denotes_opportunity(*value)).map(|(place, _)| place);
+        places.filter(|place| bounds.0 <= *place && *place <= bounds.1).collect()
+    }
+
+    fn exception_within(&'h self, lowercase_word: &str, bounds: (usize, usize)) -> Option<Vec<usize>> {
+        let listed = self.0.listed(lowercase_word)?.iter().copied();
+        Some(listed.filter(|place| bounds.0 <= *place && *place <= bounds.1).collect())
+    }
+
+    fn add_exception(&mut self, lowercase_word: String, ops: Vec<usize>) -> Option<Vec<usize>> {
+        self.0.list(lowercase_word, ops)
+    }
+
+    fn remove_exception(&mut self, word: &str) -> Option<Vec<usize>> {
+        self.0.unlist(word)
     }
 
     fn unbreakable_chars(&self) -> (usize, usize) {
-        self.handle.minima()
+        self.0.ask(|raw| Ok(Raw::minima(raw)))
+    }
+}
+
+impl<'d> Score<'d> for Standard {
+    type Value = u8;
+
+    fn score(&'d self, word: &str) -> Vec<u8> {
+        self.0.ask(|raw| raw.values(word))
+    }
+
+    fn denotes_opportunity(value: u8) -> bool {
+        value & 1 == 1
     }
 }

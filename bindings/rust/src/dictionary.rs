@@ -1,0 +1,321 @@
+//! Dictionaries of both kinds: what they have in common, written once.
+
+use crate::calls::{self, Failure, Raw, PLAIN, TEX};
+use crate::extended::Subregion;
+use crate::known::Known;
+use crate::language::Language;
+use crate::load::{Error, Result};
+use crate::search;
+use crate::shared::Shared;
+use crate::text::{escaped, exceptions, Listed, Patterns};
+use std::collections::HashMap;
+use std::sync::OnceLock;
+use std::{fs, io, result};
+
+/// A dictionary whose exceptions list breaks of this type.
+pub(crate) struct Inner<E> {
+    shared: Shared,
+    language: Language,
+    // Of these each is made when it is asked for, and of the canonical text, since the library has no call that gives it:
+    // the exceptions, and of an extended dictionary the patterns. Those that have been made stay up to the next edit.
+    exceptions: OnceLock<HashMap<String, Vec<E>>>,
+    patterns: OnceLock<Patterns>,
+    known: OnceLock<Known>,
+}
+
+/// The result of a call that fails only if memory was refused. It panics then, as Rust's own lists end the program.
+pub(crate) fn done<T>(result: result::Result<T, Failure>) -> T {
+    match result {
+        Ok(value) => value,
+        Err(Failure::Memory) => panic!("{}", calls::memory_message()),
+        Err(failure) => unreachable!("{failure:?}"),
+    }
+}
+
+// A minimum as the library takes it: a number above 255 leaves it to the file.
+fn number(minimum: Option<u8>) -> u32 {
+    minimum.map_or(256, u32::from)
+}
+
+impl<E: Listed> Inner<E> {
+    fn of(raw: Raw, language: Language) -> Inner<E> {
+        Inner {
+            shared: Shared::of(raw),
+            language,
+            exceptions: OnceLock::new(),
+            patterns: OnceLock::new(),
+            known: OnceLock::new(),
+        }
+    }
+
+    // ---- Loading.
+
+    pub(crate) fn of_text(kind: u32, text: &[u8]) -> Result<Inner<E>> {
+        let mut raw = calls::load(kind, text)?;
+        let code = raw.language()?;
+        Ok(Inner::of(raw, Language::from_code(&code).expect("a dictionary has a language")))
+    }
+
+    pub(crate) fn of_any_reader<R: io::Read>(kind: u32, reader: &mut R) -> Result<Inner<E>> {
+        let mut text = Vec::new();
+        reader.read_to_end(&mut text)?;
+        Inner::of_text(kind, &text)
+    }
+
+    pub(crate) fn of_reader<R: io::Read>(kind: u32, expected: Language, reader: &mut R) -> Result<Inner<E>> {
+        let inner = Inner::of_any_reader(kind, reader)?;
+        match inner.language {
+            found if found != expected => Err(Error::LanguageMismatch { expected, found }),
+            _ => Ok(inner),
+        }
+    }
+
+    // The first file on the paths of the language that has a dictionary of this kind and language.
+    pub(crate) fn of_folders(kind: u32, language: Language) -> Result<Inner<E>> {
+        for path in search::paths_of(language.code()).iter().filter(|path| path.is_file()) {
+            let text = fs::read(path)?;
+            if calls::kind_of(&text) != kind {
+                continue;
+            }
+            let inner = Inner::of_text(kind, &text)?;
+            if inner.language == language {
+                return Ok(inner);
+            }
+        }
+        Err(Error::Resource)
+    }
+
+    pub(crate) fn of_dic(kind: u32, lang: Language, minima: (Option<u8>, Option<u8>), dic: &[u8]) -> Result<Inner<E>> {
+        let raw = calls::load_dic(kind, lang.code(), (number(minima.0), number(minima.1)), dic)?;
+        Ok(Inner::of(raw, lang))
+    }
+
+    pub(crate) fn of_tex(kind: u32, lang: Language, minima: (Option<u8>, Option<u8>), tex: &[u8]) -> Result<Inner<E>> {
+        let minima = (number(minima.0), number(minima.1));
+        let raw = calls::load_patterns((kind, TEX), lang.code(), minima, tex, b"")?;
+        Ok(Inner::of(raw, lang))
+    }
+
+    pub(crate) fn of_patterns(
+        kind: u32,
+        lang: Language,
+        minima: (u8, u8),
+        patterns: &[u8],
+        exceptions: &[u8],
+    ) -> Result<Inner<E>> {
+        let minima = (minima.0.into(), minima.1.into());
+        let raw = calls::load_patterns((kind, PLAIN), lang.code(), minima, patterns, exceptions)?;
+        Ok(Inner::of(raw, lang))
+    }
+
+    pub(crate) fn another(&self) -> Inner<E> {
+        Inner::of(done(self.shared.another()), self.language)
+    }
+
+    // ---- Asking.
+
+    pub(crate) fn language(&self) -> Language {
+        self.language
+    }
+
+    pub(crate) fn ask<T>(&self, ask: impl FnOnce(&mut Raw) -> result::Result<T, Failure>) -> T {
+        done(self.shared.ask(ask))
+    }
+
+    pub(crate) fn text(&self) -> String {
+        self.ask(Raw::canonical)
+    }
+
+    pub(crate) fn breaks_of_words(&self, words: &[&str]) -> Vec<Vec<usize>> {
+        let (places, ends) = self.ask(|raw| raw.breaks_of_words(words));
+        let mut rest = places.as_slice();
+        let mut begin = 0;
+        ends.iter()
+            .map(|end| {
+                let (word, after) = rest.split_at(end - begin);
+                (rest, begin) = (after, *end);
+                word.to_vec()
+            })
+            .collect()
+    }
+
+    /// The change, to which the breaks that it is handed to may refer.
+    pub(crate) fn keep(&self, subregion: Subregion) -> &Subregion {
+        self.known.get_or_init(Known::new).keep(subregion)
+    }
+
+    /// The changes of a word's places, which have these values.
+    pub(crate) fn changes(&self, word: &str, values: &[u8]) -> Vec<Option<&Subregion>> {
+        self.patterns.get_or_init(|| Patterns::of_text(&self.text())).changes(word, values)
+    }
+
+    // ---- Exceptions.
+
+    fn exceptions(&self) -> &HashMap<String, Vec<E>> {
+        self.exceptions.get_or_init(|| exceptions(&self.text()))
+    }
+
+    /// The breaks that are listed for a word, if it is an exception.
+    pub(crate) fn listed(&self, word: &str) -> Option<&[E]> {
+        self.exceptions().get(word).map(Vec::as_slice)
+    }
+
+    // Does an edit, and returns the exceptions, in which it is still to be done.
+    fn edited(&mut self, edit: &str) -> Option<&mut HashMap<String, Vec<E>>> {
+        self.exceptions();
+        match self.shared.change(|raw| raw.edit(edit)) {
+            Err(Failure::Refused { .. }) => return None,
+            result => done(result),
+        }
+        // No break refers to it any more.
+        self.known = OnceLock::new();
+        self.exceptions.get_mut()
+    }
+
+    /// Lists breaks for a word, and returns those that were listed.
+    pub(crate) fn list(&mut self, word: String, breaks: Vec<E>) -> Option<Vec<E>> {
+        let tokens: Vec<String> = std::iter::once(escaped(&word)).chain(breaks.iter().map(E::to_token)).collect();
+        match self.edited(&format!("+{}", tokens.join(" "))) {
+            Some(exceptions) => exceptions.insert(word, breaks),
+            None => panic!("these breaks may not be listed for {word:?}: {}", tokens[1..].join(" ")),
+        }
+    }
+
+    /// Removes a word from the exceptions, and returns the breaks that were listed.
+    pub(crate) fn unlist(&mut self, word: &str) -> Option<Vec<E>> {
+        self.listed(word)?;
+        self.edited(&format!("-{}", escaped(word)))?.remove(word)
+    }
+
+    pub(crate) fn make_table(&mut self) {
+        done(self.shared.change(Raw::make_table))
+    }
+}
+
+/// The methods of both kinds: of the type, the number of its kind, and a word for what `make_table` takes.
+macro_rules! dictionary {
+    ($name:ident, $kind:expr, $table:literal) => {
+        impl $name {
+            /// Makes a dictionary of a `.dic` of LibreOffice, with these minima, or else those of the file, or 2.
+            ///
+            /// # Errors
+            ///
+            /// [`Error::Deserialization`](crate::load::Error::Deserialization) with the first fault of the file, and
+            /// [`Error::IO`](crate::load::Error::IO) where memory is refused.
+            pub fn from_dic(
+                lang: $crate::Language,
+                minima: (Option<u8>, Option<u8>),
+                dic: &[u8],
+            ) -> $crate::load::Result<Self> {
+                $crate::dictionary::Inner::of_dic($kind, lang, minima, dic).map($name)
+            }
+
+            /// Makes a dictionary of a TeX file of patterns, with these minima, or else those in the head of the file.
+            ///
+            /// # Errors
+            ///
+            /// [`Error::Deserialization`](crate::load::Error::Deserialization) with the first fault of the file, or where
+            /// no minima are there, and [`Error::IO`](crate::load::Error::IO) where memory is refused.
+            pub fn from_tex(
+                lang: $crate::Language,
+                minima: (Option<u8>, Option<u8>),
+                tex: &[u8],
+            ) -> $crate::load::Result<Self> {
+                $crate::dictionary::Inner::of_tex($kind, lang, minima, tex).map($name)
+            }
+
+            /// Makes a dictionary of a plain file of patterns, and of a plain file of exceptions, which may be empty.
+            ///
+            /// # Errors
+            ///
+            /// [`Error::Deserialization`](crate::load::Error::Deserialization) with the first fault of the files, and
+            /// [`Error::IO`](crate::load::Error::IO) where memory is refused.
+            pub fn from_patterns(
+                lang: $crate::Language,
+                minima: (u8, u8),
+                patterns: &[u8],
+                exceptions: &[u8],
+            ) -> $crate::load::Result<Self> {
+                $crate::dictionary::Inner::of_patterns($kind, lang, minima, patterns, exceptions).map($name)
+            }
+
+            /// The language whose words it breaks.
+            pub fn language(&self) -> $crate::Language {
+                self.0.language()
+            }
+
+            /// Makes a table by which words are broken faster, if the dictionary can have one.
+            ///
+            #[doc = $table]
+            /// So it is for a dictionary that is asked for thousands of words. Call it before the dictionary is cloned:
+            /// clones that are there stay without a table, and the dictionary is copied for it.
+            ///
+            /// # Panics
+            ///
+            /// Where memory is refused.
+            pub fn make_table(&mut self) {
+                self.0.make_table()
+            }
+
+            /// The places of the breaks of each of the words, in one call, without the changes that breaks may make.
+            ///
+            /// # Panics
+            ///
+            /// Where memory is refused.
+            pub fn breaks_of_words(&self, words: &[&str]) -> Vec<Vec<usize>> {
+                self.0.breaks_of_words(words)
+            }
+
+            /// A text with a mark at each break of its words.
+            ///
+            /// # Panics
+            ///
+            /// Where memory is refused.
+            pub fn hyphenate_text(&self, text: &str, mark: &str) -> String {
+                self.0.ask(|raw| raw.marked(text, mark))
+            }
+
+            /// The dictionary as its canonical text, which [`Load`](crate::Load) reads.
+            ///
+            /// # Panics
+            ///
+            /// Where memory is refused.
+            pub fn to_text(&self) -> String {
+                self.0.text()
+            }
+        }
+
+        impl $crate::Load for $name {
+            fn from_reader<R: std::io::Read>(lang: $crate::Language, reader: &mut R) -> $crate::load::Result<Self> {
+                $crate::dictionary::Inner::of_reader($kind, lang, reader).map($name)
+            }
+
+            fn any_from_reader<R: std::io::Read>(reader: &mut R) -> $crate::load::Result<Self> {
+                $crate::dictionary::Inner::of_any_reader($kind, reader).map($name)
+            }
+
+            fn from_embedded(lang: $crate::Language) -> $crate::load::Result<Self> {
+                $crate::dictionary::Inner::of_folders($kind, lang).map($name)
+            }
+        }
+
+        /// A clone is the same dictionary, of which nothing is copied. An edit of either leaves the other as it is.
+        ///
+        /// # Panics
+        ///
+        /// Where memory is refused.
+        impl Clone for $name {
+            fn clone(&self) -> $name {
+                $name(self.0.another())
+            }
+        }
+
+        impl std::fmt::Debug for $name {
+            fn fmt(&self, f: &mut std::fmt::Formatter<'_>) -> std::fmt::Result {
+                f.debug_struct(stringify!($name)).field("language", &self.language()).finish_non_exhaustive()
+            }
+        }
+    };
+}
+
+pub(crate) use dictionary;
