@@ -311,7 +311,7 @@ pub fn load_patterns(
     checked(status, fault).map(|()| raw)
 }
 
-// What a call writes into a buffer, which is made longer as often as the call asks for it. The call gets a buffer for as
+// Lets a call fill a buffer, which is made longer as often as the call asks for it. The call gets a buffer for as
 // many items as it is told, and a count. It returns a status, and with DONE it has filled the front of the buffer with
 // as many items as it wrote into the count.
 fn filled<T: Copy>(room: usize, mut call: impl FnMut(*mut T, usize, &mut usize) -> u32) -> Result<Vec<T>, Failure> {

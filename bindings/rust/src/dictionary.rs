@@ -16,10 +16,11 @@ use std::{fs, io, result};
 pub(crate) struct Inner<E> {
     shared: Shared,
     language: Language,
-    // Of these each is made when it is asked for, and of the canonical text, since the library has no call that gives it:
-    // the exceptions, and of an extended dictionary the patterns. Those that have been made stay up to the next edit.
+    // The library has no call for these: the exceptions, and the patterns of an extended dictionary. They are read from the
+    // canonical text at the first call that asks for them.
     exceptions: OnceLock<HashMap<String, Vec<E>>>,
     patterns: OnceLock<Patterns>,
+    // The changes that breaks refer to, up to the next edit.
     known: OnceLock<Known>,
 }
 
@@ -162,12 +163,13 @@ impl<E: Listed> Inner<E> {
 
     // Does an edit, and returns the exceptions, in which it is still to be done.
     fn edited(&mut self, edit: &str) -> Option<&mut HashMap<String, Vec<E>>> {
+        // They are read before the edit.
         self.exceptions();
         match self.shared.change(|raw| raw.edit(edit)) {
             Err(Failure::Refused { .. }) => return None,
             result => done(result),
         }
-        // No break refers to it any more.
+        // No break refers to these any more.
         self.known = OnceLock::new();
         self.exceptions.get_mut()
     }

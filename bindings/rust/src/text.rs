@@ -91,14 +91,12 @@ fn unescaped(token: &str) -> String {
 
 /// The exceptions of a canonical text.
 pub fn exceptions<E: Listed>(text: &str) -> HashMap<String, Vec<E>> {
-    let lines = text.lines().filter_map(|line| line.strip_prefix("e "));
-    lines
-        .filter_map(|line| {
-            let mut tokens = line.split(' ');
-            let word = unescaped(tokens.next()?);
-            Some((word, tokens.map(E::of_token).collect::<Option<Vec<E>>>()?))
-        })
-        .collect()
+    let listed = |token: &str| E::of_token(token).expect("the library writes places and changes");
+    let exception = |line: &str| {
+        let mut tokens = line.split(' ');
+        (unescaped(tokens.next().unwrap_or("")), tokens.map(listed).collect())
+    };
+    text.lines().filter_map(|line| line.strip_prefix("e ")).map(exception).collect()
 }
 
 /// The values of a pattern: of each its place in the key, the value, and its change.
@@ -137,10 +135,10 @@ impl Patterns {
         for line in text.lines().filter_map(|line| line.strip_prefix("p ")) {
             let mut tokens = line.split(' ');
             let (key, mut values) = key(tokens.next().unwrap_or(""), second_version);
-            for (place, subregion) in tokens.filter_map(change) {
-                if let Some(value) = values.iter_mut().find(|value| value.0 == place) {
-                    value.2 = Some(subregion);
-                }
+            for token in tokens {
+                let (place, subregion) = change(token).expect("the library writes changes");
+                let value = values.iter_mut().find(|value| value.0 == place);
+                value.expect("a change belongs to a value").2 = Some(subregion);
             }
             longest = longest.max(key.len());
             all.insert(key, values.into_boxed_slice());
