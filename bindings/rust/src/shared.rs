@@ -15,8 +15,8 @@ struct Place(Mutex<Raw>);
 
 /// A dictionary, with as many handles of it as threads have asked it at once.
 ///
-/// No call that asks waits for another one that asks. Only the making of a handle is done by one thread after the other:
-/// it asks for two small blocks of memory, and nothing of the dictionary is copied.
+/// No call that asks waits while another one asks. Only the making of a handle is done by one thread after the other: it
+/// asks for a small block of memory, and nothing of the dictionary is copied.
 pub struct Shared {
     first: Mutex<Raw>,
     others: Box<[Place]>,
