@@ -1,7 +1,7 @@
 """What the calls of the library return: statuses, causes, breaks, and the exceptions that take the place of statuses."""
 
 import os
-from typing import Callable, Dict, List, NamedTuple, NoReturn, Tuple
+from typing import Callable, List, NamedTuple, NoReturn, Tuple
 
 DONE, NO_ROOM, OUT_OF_MEMORY, NO_DICTIONARY, NOT_UTF8, REFUSED, OTHER_KIND, NO_LANGUAGE = range(8)
 BAD_ENDS, NO_MINIMA = 8, 9
