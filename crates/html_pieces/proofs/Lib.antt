@@ -11,3 +11,4 @@ pub mod QuietSteps
 pub mod NumberSteps
 pub mod ReadSteps
 pub mod ValueSteps
+pub mod WordsWithin

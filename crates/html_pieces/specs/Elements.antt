@@ -3,7 +3,7 @@
 -- stack of open elements), 13.2.6 (tree construction). Simpler than the standard: an end tag of a formatting element, as
 -- `b`, closes all in that element too, and none is opened anew in the next paragraph.
 use Rattle.std.specs.Prelude.{◌≡◌, ℕ, ◌-◌, ◌==◌, ◌||◌, ◌&&◌, Bool, true, false, not, List, [], ◌∷◌, ◌++◌, length, map, reverse, codes, nat_eq, nat_lt, Option, Some, None, if◌then◌else◌}
-use Rattle.std.specs.Option.{unwrap_or, option_map_or}
+use Rattle.std.specs.Option.{is_some, unwrap_or, option_map_or}
 use Rattle.std.specs.Cmp.Lexicographic.{pointwise}
 use Rattle.html_pieces.specs.Bytes.{is_white_space, is_same_name, is_same_in, is_xml}
 use Rattle.html_pieces.specs.Names.{name_of, is_foreign_root}
@@ -13,14 +13,15 @@ use Rattle.html_pieces.specs.References.{read_value}
 use Rattle.html_pieces.specs.Tags.{Attribute, attributes_of, value_of}
 use Rattle.html_pieces.specs.declared.bytes.Form.{Form}
 use Rattle.html_pieces.specs.declared.groups.Group.{Group}
-use Rattle.html_pieces.specs.declared.groups.Group.TheVariants.{Ordinary, Root}
+use Rattle.html_pieces.specs.declared.groups.Group.TheVariants.{Ordinary, Formatting, Root}
 use Rattle.html_pieces.specs.declared.elements.Element as declared
 use Rattle.html_pieces.specs.declared.tokenizer.Kind.TheVariants.{StartTag, EmptyTag, EndTag}
 use Rattle.html_pieces.specs.declared.tokenizer.Kind.{Kind}
 
 -- An open element: its name and group, the language of its text, and whether its text is left alone. It is apart by its
 -- name or class or those of an element around, and translated by the attribute `translate`. Its content may be foreign,
--- that is, SVG or MathML.
+-- that is, SVG or MathML. It may be one of these or `noscript` or `template` or a formatting element, or stand within one.
+-- From a formatting element on, it is altered where a language or `translate` is named.
 pub record Element : Type 0 where
   pub name : List ℕ
   pub group : Group
@@ -28,6 +29,11 @@ pub record Element : Type 0 where
   pub is_apart : Bool
   pub is_translated : Bool
   pub is_foreign : Bool
+  pub is_in_drawing : Bool
+  pub is_in_noscript : Bool
+  pub is_in_template : Bool
+  pub is_in_formatting : Bool
+  pub is_altered : Bool
   pub is_left_alone : Bool
 
 -- A value of more bytes is taken for a language as it is written. No tag of a language has so many.
@@ -51,17 +57,23 @@ as_element held = record {
   is_apart = held.is_apart;
   is_translated = held.is_translated;
   is_foreign = held.is_foreign;
+  is_in_drawing = held.is_in_drawing;
+  is_in_noscript = held.is_in_noscript;
+  is_in_template = held.is_in_template;
+  is_in_formatting = held.is_in_formatting;
+  is_altered = held.is_altered;
   is_left_alone = held.is_left_alone;
 }
 
 -- ---- what a start tag says
 
--- Elements whose text is left alone: code and the like, drawings and formulas, and texts that forms send or windows show.
+-- Elements whose text is left alone: code and the like, drawings and formulas, texts that forms send or windows show, and
+-- those that are read otherwise with scripting than without, or not shown.
 abbrev pub left_alone_names : List (List ℕ)
 left_alone_names =
     codes "code" ∷ codes "iframe" ∷ codes "kbd" ∷ codes "listing" ∷ codes "math" ∷ codes "noembed" ∷ codes "noframes"
-    ∷ codes "option" ∷ codes "plaintext" ∷ codes "pre" ∷ codes "samp" ∷ codes "script" ∷ codes "style" ∷ codes "svg"
-    ∷ codes "textarea" ∷ codes "title" ∷ codes "tt" ∷ codes "var" ∷ codes "xmp" ∷ []
+    ∷ codes "noscript" ∷ codes "option" ∷ codes "plaintext" ∷ codes "pre" ∷ codes "samp" ∷ codes "script" ∷ codes "style"
+    ∷ codes "svg" ∷ codes "template" ∷ codes "textarea" ∷ codes "title" ∷ codes "tt" ∷ codes "var" ∷ codes "xmp" ∷ []
 
 -- Elements of SVG and MathML whose content is HTML: the integration points.
 abbrev pub integration_names : List (List ℕ)
@@ -119,6 +131,16 @@ language_of form attributes around = option_map_or language_by (language_value f
 abbrev pub group_in : Form → Bool → List ℕ → Group
 group_in form foreign name = if is_xml form || foreign then Ordinary else group_of name
 
+-- A formatting element, which may be opened anew in others (13.2.4.3).
+abbrev pub is_formatting : Group → Bool
+is_formatting Formatting = true
+is_formatting _ = false
+
+-- Attributes name a language, or whether the text may be translated.
+abbrev pub names_other : Form → List Attribute → Bool
+names_other form attributes =
+    is_some (language_value form attributes) || is_some (value_of form (codes "translate") attributes)
+
 -- The content of an element is SVG or MathML.
 abbrev pub holds_foreign : Bool → List ℕ → Bool
 holds_foreign foreign name = (foreign || is_foreign_root name) && not (is_one_of integration_names name)
@@ -133,6 +155,13 @@ opened form class around tag =
       is_apart = around.is_apart || is_one_of left_alone_names (name_of tag) || has_class form class (attributes_of form tag);
       is_translated = is_translated form (attributes_of form tag) around.is_translated;
       is_foreign = holds_foreign around.is_foreign (name_of tag);
+      is_in_drawing = around.is_in_drawing || is_foreign_root (name_of tag);
+      is_in_noscript = around.is_in_noscript || is_same_name (name_of tag) (codes "noscript");
+      is_in_template = around.is_in_template || is_same_name (name_of tag) (codes "template");
+      is_in_formatting = around.is_in_formatting || is_formatting (group_in form around.is_foreign (name_of tag));
+      is_altered =
+          (around.is_in_formatting || is_formatting (group_in form around.is_foreign (name_of tag)))
+          && (around.is_altered || names_other form (attributes_of form tag));
       is_left_alone =
           around.is_apart || is_one_of left_alone_names (name_of tag) || has_class form class (attributes_of form tag)
           || not (is_translated form (attributes_of form tag) around.is_translated);
@@ -179,45 +208,39 @@ abbrev pub closed_as : Form → List ℕ → Group → List Element → List Ele
 closed_as form name tag elements =
     if is_root tag then elements else unwrap_or (around_first form name tag depth_limit elements) elements
 
--- The same by the name of the end tag alone.
-abbrev pub closed : Form → Element → List ℕ → List Element → List Element
-closed form page name elements = closed_as form name (group_in form (innermost page elements).is_foreign name) elements
-
 -- The open elements after a start tag whose element is of a group.
 abbrev pub begun_as : Form → List ℕ → Element → Group → List ℕ → List Element → List Element
 begun_as form class page new tag elements =
     if is_void new then before_new new elements
     else opened form class (innermost page (before_new new elements)) tag ∷ before_new new elements
 
--- The open elements after a start tag.
-abbrev pub begun : Form → List ℕ → Element → List ℕ → List Element → List Element
-begun form class page tag elements =
-    begun_as form class page (group_in form (innermost page elements).is_foreign (name_of tag)) tag elements
-
 -- A tag with "/>" opens no element in XML, nor of SVG and MathML. HTML ignores the slash of its own elements.
 abbrev pub is_closed_by_slash : Form → Bool → List ℕ → Bool
 is_closed_by_slash form foreign name = is_xml form || foreign || is_foreign_root name
 
--- The open elements after a piece of a kind. `class` is the class whose elements are left alone.
-abbrev pub elements_by : Form → List ℕ → Kind → List ℕ → Element → List Element → List Element
-elements_by form class StartTag tag page elements = begun form class page tag elements
-elements_by form class EmptyTag tag page elements =
+-- The open elements after a piece of a kind, whose element is of a group. `class` is the class whose elements are left alone.
+abbrev pub elements_by : Form → List ℕ → Group → Kind → List ℕ → Element → List Element → List Element
+elements_by form class group StartTag tag page elements = begun_as form class page group tag elements
+elements_by form class group EmptyTag tag page elements =
     if is_closed_by_slash form (innermost page elements).is_foreign (name_of tag) then elements
-    else begun form class page tag elements
-elements_by form class EndTag tag page elements = closed form page (name_of tag) elements
-elements_by form class _ tag page elements = elements
+    else begun_as form class page group tag elements
+elements_by form class group EndTag tag page elements = closed_as form (name_of tag) group elements
+elements_by form class group _ tag page elements = elements
 
--- The open elements after a piece.
-abbrev pub elements_after : Form → List ℕ → Element → List Element → Piece → List Element
-elements_after form class page elements p = elements_by form class p.kind p.bytes page elements
+-- The group of the element that a tag begins or ends, within another one.
+abbrev pub group_by : Form → Element → Kind → List ℕ → Group
+group_by form around StartTag tag = group_in form around.is_foreign (name_of tag)
+group_by form around EmptyTag tag = group_in form around.is_foreign (name_of tag)
+group_by form around EndTag tag = group_in form around.is_foreign (name_of tag)
+group_by form around _ bytes = Ordinary
 
 -- The same of elements as the code holds them, the innermost one last.
 abbrev pub as_elements : List declared.Element → List Element
 as_elements held = reverse (map as_element held)
 
--- Open elements, as the code holds them, became those after a piece.
-abbrev pub Passes : Form → List ℕ → Element → Piece → List declared.Element → List declared.Element → Type 0
-Passes form class page p old new = as_elements new ≡ elements_after form class page (as_elements old) p
+-- Open elements, as the code holds them, became those after a piece, whose element is of a group.
+abbrev pub Passes : Form → List ℕ → Group → Piece → Element → List declared.Element → List declared.Element → Type 0
+Passes form class group p page old new = as_elements new ≡ elements_by form class group p.kind p.bytes page (as_elements old)
 
 -- The page as what is around all its elements.
 abbrev pub page_element : List ℕ → Element
@@ -228,5 +251,10 @@ page_element language = record {
   is_apart = false;
   is_translated = true;
   is_foreign = false;
+  is_in_drawing = false;
+  is_in_noscript = false;
+  is_in_template = false;
+  is_in_formatting = false;
+  is_altered = false;
   is_left_alone = false;
 }

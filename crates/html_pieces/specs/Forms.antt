@@ -12,9 +12,13 @@ use Rattle.html_pieces.specs.declared.bytes.Form.TheVariants.{Html, Xml}
 use Rattle.html_pieces.specs.declared.tokenizer.Kind.{Kind}
 use Rattle.html_pieces.specs.declared.tokenizer.Kind.TheVariants.{StartTag, EmptyTag}
 
+-- Bytes begin with U+FEFF, which is the byte order mark at the beginning of a page.
+abbrev pub begins_with_order_mark : List ℕ → Bool
+begins_with_order_mark bytes = starts_with nat_eq bytes (0xEF ∷ 0xBB ∷ 0xBF ∷ [])
+
 -- The bytes of a page without a byte order mark.
 abbrev pub after_order_mark : List ℕ → List ℕ
-after_order_mark page = if starts_with nat_eq page (0xEF ∷ 0xBB ∷ 0xBF ∷ []) then drop 3 page else page
+after_order_mark page = if begins_with_order_mark page then drop 3 page else page
 
 -- The page begins with an XML declaration.
 abbrev pub begins_with_declaration : List ℕ → Bool

@@ -24,7 +24,7 @@ heading_names = codes "h1" ∷ codes "h2" ∷ codes "h3" ∷ codes "h4" ∷ code
 -- The other elements whose start tags end a paragraph, but for those of a group of their own.
 abbrev pub block_names : List (List ℕ)
 block_names =
-    codes "blockquote" ∷ codes "center" ∷ codes "details" ∷ codes "dialog" ∷ codes "dir" ∷ codes "dl" ∷ codes "fieldset"
+    codes "blockquote" ∷ codes "center" ∷ codes "details" ∷ codes "dir" ∷ codes "dl" ∷ codes "fieldset"
     ∷ codes "figcaption" ∷ codes "figure" ∷ codes "form" ∷ codes "listing" ∷ codes "menu" ∷ codes "plaintext" ∷ codes "pre"
     ∷ codes "summary" ∷ codes "xmp" ∷ []
 
@@ -57,7 +57,7 @@ head_names = codes "noframes" ∷ codes "noscript" ∷ codes "script" ∷ codes 
 unfoldable pub group_of : List ℕ → Group
 group_of name =
     if is_same_name name (codes "p") then Paragraph
-    else if is_one_of (codes "div" ∷ codes "address" ∷ []) name then Division
+    else if is_one_of (codes "div" ∷ codes "address" ∷ codes "dialog" ∷ []) name then Division
     else if is_same_name name (codes "li") then Item
     else if is_one_of (codes "dt" ∷ codes "dd" ∷ []) name then Term
     else if is_one_of (codes "td" ∷ codes "th" ∷ []) name then Cell
@@ -211,6 +211,9 @@ abbrev pub is_passed_by_items : Group → Bool
 is_passed_by_items Ordinary = true
 is_passed_by_items Formatting = true
 is_passed_by_items Division = true
+is_passed_by_items Choice = true
+is_passed_by_items Choices = true
+is_passed_by_items Ruby = true
 is_passed_by_items _ = false
 
 -- How far an element of the first group that begins looks for those that it ends: not past an open one of the second.

@@ -6,5 +6,6 @@ pub mod Tags
 pub mod Groups
 pub mod Elements
 pub mod Forms
+pub mod Readings
 pub mod Laws
 pub mod Private

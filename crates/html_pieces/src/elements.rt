@@ -1,16 +1,16 @@
 //! The elements that are open at a text.
 
-ghost use Rattle.std.specs.Prelude.{◌≡◌, ◌≤◌, ◌++◌, ◌∷◌, [], map, take, length, IfOk, OnOk, OnErr};
+ghost use Rattle.std.specs.Prelude.{◌≡◌, ◌≤◌, ◌&&◌, ◌||◌, ◌++◌, ◌∷◌, [], map, take, length, IfOk, OnOk, OnErr};
 ghost use Rattle.std.specs.Option.{option_map};
-ghost use Rattle.html_pieces.specs.Pieces.{as_piece};
 ghost use Rattle.html_pieces.specs.Groups.{is_one_of};
 ghost use Rattle.html_pieces.specs.References.{read_value};
 ghost use Rattle.html_pieces.specs.Tags.{as_attribute};
 ghost use Rattle.html_pieces.specs.Elements.{as_element, as_elements, left_alone_names, integration_names};
 ghost use Rattle.html_pieces.specs.Elements.{has_word, has_class, translated_by, is_translated, value_of_either};
 ghost use Rattle.html_pieces.specs.Elements.{language_value, held_language, language_by, language_of};
-ghost use Rattle.html_pieces.specs.Elements.{group_in, holds_foreign, opened, innermost, before_new, closed_as};
-ghost use Rattle.html_pieces.specs.Elements.{closed, begun_as, begun, is_closed_by_slash, Passes};
+ghost use Rattle.html_pieces.specs.Elements.{is_formatting, names_other, group_in, holds_foreign, opened, innermost, before_new, closed_as};
+ghost use Rattle.html_pieces.specs.Elements.{begun_as, is_closed_by_slash, group_by, Passes};
+ghost use Rattle.html_pieces.specs.Pieces.{as_piece};
 ghost use Rattle.html_pieces.specs.Elements.{page_element};
 
 use crate::bytes::{Form, is_same_in, is_same_name, is_white_space};
@@ -35,6 +35,16 @@ pub struct Element<'t> {
     pub is_translated: bool,
     /// Whether its content is SVG or MathML.
     pub is_foreign: bool,
+    /// Whether it is `svg` or `math`, or stands in one.
+    pub is_in_drawing: bool,
+    /// Whether it is `noscript`, or stands in one.
+    pub is_in_noscript: bool,
+    /// Whether it is a `template`, or stands in one.
+    pub is_in_template: bool,
+    /// Whether it is a formatting element, as `b`, or stands in one.
+    pub is_in_formatting: bool,
+    /// Whether a language or `translate` is named from a formatting element on.
+    pub is_altered: bool,
     /// Whether its text is left as it is.
     pub is_left_alone: bool,
 }
@@ -43,7 +53,7 @@ pub struct Element<'t> {
 const LONGEST_LANGUAGE: usize = 256;
 
 /// So many open elements are looked at, the innermost ones.
-const DEPTH_LIMIT: usize = 512;
+pub(crate) const DEPTH_LIMIT: usize = 512;
 
 /// Whether an element of this name is one whose text is left as it is.
 fn is_left_alone(name: &[u8]) -> bool
@@ -56,6 +66,7 @@ fn is_left_alone(name: &[u8]) -> bool
         || is_same_name(name, b"math")
         || is_same_name(name, b"noembed")
         || is_same_name(name, b"noframes")
+        || is_same_name(name, b"noscript")
         || is_same_name(name, b"option")
         || is_same_name(name, b"plaintext")
         || is_same_name(name, b"pre")
@@ -63,6 +74,7 @@ fn is_left_alone(name: &[u8]) -> bool
         || is_same_name(name, b"script")
         || is_same_name(name, b"style")
         || is_same_name(name, b"svg")
+        || is_same_name(name, b"template")
         || is_same_name(name, b"textarea")
         || is_same_name(name, b"title")
         || is_same_name(name, b"tt")
@@ -248,6 +260,33 @@ fn group_in(form: Form, foreign: bool, name: &[u8]) -> Group
     }
 }
 
+const fn is_formatting(group: Group) -> bool
+    ensures { result ≡ is_formatting group }
+{
+    matches!(group, Group::Formatting)
+}
+
+/// Whether attributes name a language, or whether the text may be translated.
+fn names_other(form: Form, attributes: &[Attribute<'_>]) -> bool
+    ensures { result ≡ names_other form (map as_attribute attributes.now) }
+{
+    language_value(form, attributes).is_some() || value_of(form, attributes, b"translate").is_some()
+}
+
+/// Whether an element is a formatting element, or stands in one.
+fn is_in_formatting(around: bool, group: Group) -> bool
+    ensures { result ≡ (around || is_formatting group) }
+{
+    around || is_formatting(group)
+}
+
+/// Whether a language or `translate` is named from a formatting element on, by an element or one around it.
+fn is_altered(form: Form, in_formatting: bool, around: bool, attributes: &[Attribute<'_>]) -> bool
+    ensures { result ≡ (in_formatting && (around || names_other form (map as_attribute attributes.now))) }
+{
+    in_formatting && (around || names_other(form, attributes))
+}
+
 /// Whether the content of an element is SVG or MathML.
 fn holds_foreign(foreign: bool, name: &[u8]) -> bool
     ensures { result ≡ holds_foreign foreign name.now }
@@ -272,21 +311,28 @@ fn opened<'t>(
     let is_apart = around.is_apart || is_left_alone(name) || has_class;
     let is_translated = is_translated(alloc, form, &attributes, around.is_translated)?;
     let language = language_of(form, &attributes, around);
+    let group = group_in(form, around.is_foreign, name);
+    let is_in_formatting = is_in_formatting(around.is_in_formatting, group);
     Ok(Element {
         name,
-        group: group_in(form, around.is_foreign, name),
+        group,
         language: language.written,
         has_references: language.has_references,
         is_apart,
         is_translated,
         is_foreign: holds_foreign(around.is_foreign, name),
+        is_in_drawing: around.is_in_drawing || is_foreign_root(name),
+        is_in_noscript: around.is_in_noscript || is_same_name(name, b"noscript"),
+        is_in_template: around.is_in_template || is_same_name(name, b"template"),
+        is_in_formatting,
+        is_altered: is_altered(form, is_in_formatting, around.is_altered, &attributes),
         is_left_alone: is_apart || !is_translated,
     })
 }
 
 /// The number of elements that stay open where one of a group begins.
 #[tactic(auto, using(crate::proofs::Limits::kept_at_limit))]
-fn before_new(elements: &[Element<'_>], new: Group) -> usize
+pub(crate) fn before_new(elements: &[Element<'_>], new: Group) -> usize
     ensures kept { as_elements (take result elements.now) ≡ before_new new (as_elements elements.now) }
     ensures within { result ≤ length elements.now }
 {
@@ -394,52 +440,48 @@ fn is_closed_by_slash(form: Form, foreign: bool, name: &[u8]) -> bool
     form.is_xml() || foreign || is_foreign_root(name)
 }
 
-/// Opens and closes elements of `nest`, as a piece says.
+/// The group of the element that a tag begins or ends, within another one.
+pub(crate) fn group_by(form: Form, around: Element<'_>, piece: Piece<'_>) -> Group
+    ensures { result ≡ group_by form (as_element around.entry) piece.entry.kind piece.entry.text.now }
+{
+    match piece.kind {
+        Kind::StartTag | Kind::EmptyTag | Kind::EndTag => {
+            group_in(form, around.is_foreign, name_of(piece.text.as_bytes()))
+        }
+        _ => Group::Ordinary,
+    }
+}
+
+/// Opens and closes elements of `nest`, as a piece says whose element is of a group.
 ///
 /// The text of elements with the class `class` is left as it is. The only error is that memory was refused; `nest` is
 /// then unchanged.
-pub fn pass<'t>(
+pub(crate) fn pass<'t>(
     nest: &mut Vec<Element<'t>>,
     alloc: Global,
     form: Form,
     class: &[u8],
     page: Element<'t>,
+    group: Group,
     piece: Piece<'t>,
 ) -> Result<(), AllocError>
-    ensures passed { OnOk result (Passes form class.now (as_element page.entry) (as_piece piece.entry)
+    ensures passed { OnOk result (Passes form class.now group (as_piece piece.entry) (as_element page.entry)
         nest.old.items nest.new.items) }
     ensures unchanged_on_error { OnErr result (nest.new.items ≡ nest.old.items) }
 {
     let tag = piece.text.as_bytes();
-    let foreign = innermost(page, nest).is_foreign;
     match piece.kind {
-        Kind::StartTag => begin(
-            nest,
-            alloc,
-            form,
-            class,
-            page,
-            group_in(form, foreign, name_of(tag)),
-            tag,
-        ),
+        Kind::StartTag => begin(nest, alloc, form, class, page, group, tag),
         Kind::EmptyTag => {
+            let foreign = innermost(page, nest).is_foreign;
             if is_closed_by_slash(form, foreign, name_of(tag)) {
                 Ok(())
             } else {
-                begin(
-                    nest,
-                    alloc,
-                    form,
-                    class,
-                    page,
-                    group_in(form, foreign, name_of(tag)),
-                    tag,
-                )
+                begin(nest, alloc, form, class, page, group, tag)
             }
         }
         Kind::EndTag => {
-            let name = name_of(tag);
-            let kept = around_first(form, nest, name, group_in(form, foreign, name));
+            let kept = around_first(form, nest, name_of(tag), group);
             nest.truncate(kept);
             Ok(())
         }
@@ -459,6 +501,11 @@ pub fn page_element(language: &[u8]) -> Element<'_>
         is_apart: false,
         is_translated: true,
         is_foreign: false,
+        is_in_drawing: false,
+        is_in_noscript: false,
+        is_in_template: false,
+        is_in_formatting: false,
+        is_altered: false,
         is_left_alone: false,
     }
 }

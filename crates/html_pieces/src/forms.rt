@@ -2,7 +2,7 @@
 
 ghost use Rattle.std.specs.Prelude.{◌≡◌, map, IfOk};
 ghost use Rattle.html_pieces.specs.Pieces.{as_piece, pieces_of};
-ghost use Rattle.html_pieces.specs.Forms.{after_order_mark, begins_with_declaration, has_declaration, is_start};
+ghost use Rattle.html_pieces.specs.Forms.{begins_with_order_mark, after_order_mark, begins_with_declaration, has_declaration, is_start};
 ghost use Rattle.html_pieces.specs.Forms.{root_tag, has_namespace, form_of};
 
 use crate::bytes::{Form, is_white_space};
@@ -17,11 +17,18 @@ pub struct CutPage<'t> {
     pub pieces: Vec<Piece<'t>>,
 }
 
+/// Whether bytes begin with U+FEFF, which is the byte order mark at the beginning of a page.
+pub fn begins_with_order_mark(bytes: &[u8]) -> bool
+    ensures { result ≡ begins_with_order_mark bytes.now }
+{
+    bytes.starts_with(b"\xef\xbb\xbf")
+}
+
 /// The bytes of a page without a byte order mark.
-fn after_order_mark(page: &[u8]) -> &[u8]
+pub(crate) fn after_order_mark(page: &[u8]) -> &[u8]
     ensures { result.now ≡ after_order_mark page.now }
 {
-    if page.starts_with(b"\xef\xbb\xbf") {
+    if begins_with_order_mark(page) {
         &page[3..]
     } else {
         page
@@ -41,7 +48,7 @@ fn has_declaration(page: &[u8]) -> bool
     begins_with_declaration(after_order_mark(page))
 }
 
-const fn is_start(kind: Kind) -> bool
+pub(crate) const fn is_start(kind: Kind) -> bool
     ensures { result ≡ is_start kind }
 {
     matches!(kind, Kind::StartTag | Kind::EmptyTag)

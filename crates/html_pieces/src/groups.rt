@@ -19,7 +19,7 @@ pub enum Group {
     Formatting,
     /// `p`
     Paragraph,
-    /// `address` and `div`, past which items of lists are looked for.
+    /// `address`, `dialog` and `div`, past which items of lists are looked for.
     Division,
     /// `h1` to `h6`
     Heading,
@@ -83,7 +83,7 @@ fn is_section(name: &[u8]) -> bool
         || is_same_name(name, b"section")
 }
 
-fn is_heading_name(name: &[u8]) -> bool
+pub(crate) fn is_heading_name(name: &[u8]) -> bool
     ensures { result ≡ is_one_of heading_names name.now }
 {
     is_same_name(name, b"h1")
@@ -100,7 +100,6 @@ fn is_block(name: &[u8]) -> bool
     is_same_name(name, b"blockquote")
         || is_same_name(name, b"center")
         || is_same_name(name, b"details")
-        || is_same_name(name, b"dialog")
         || is_same_name(name, b"dir")
         || is_same_name(name, b"dl")
         || is_same_name(name, b"fieldset")
@@ -189,7 +188,10 @@ pub fn group_of(name: &[u8]) -> Group
 {
     if is_same_name(name, b"p") {
         Group::Paragraph
-    } else if is_same_name(name, b"div") || is_same_name(name, b"address") {
+    } else if is_same_name(name, b"div")
+        || is_same_name(name, b"address")
+        || is_same_name(name, b"dialog")
+    {
         Group::Division
     } else if is_same_name(name, b"li") {
         Group::Item
@@ -282,7 +284,7 @@ const fn is_in_head(new: Group) -> bool
     matches!(new, Group::HeadContent | Group::HeadVoid | Group::Template)
 }
 
-const fn is_table_part(new: Group) -> bool
+pub(crate) const fn is_table_part(new: Group) -> bool
     ensures { result ≡ is_table_part new }
 {
     matches!(
@@ -371,7 +373,15 @@ const fn is_boundary(other: Group) -> bool
 const fn is_passed_by_items(other: Group) -> bool
     ensures { result ≡ is_passed_by_items other }
 {
-    matches!(other, Group::Ordinary | Group::Formatting | Group::Division)
+    matches!(
+        other,
+        Group::Ordinary
+            | Group::Formatting
+            | Group::Division
+            | Group::Choice
+            | Group::Choices
+            | Group::Ruby
+    )
 }
 
 /// Whether an element of a group that begins looks no further than an open one for those that it ends.
@@ -425,7 +435,7 @@ const fn ends_item_scope(other: Group) -> bool
     matches!(other, Group::Listing) || ends_scope(other)
 }
 
-const fn is_special(other: Group) -> bool
+pub(crate) const fn is_special(other: Group) -> bool
     ensures { result ≡ is_special other }
 {
     !matches!(

@@ -6,6 +6,7 @@ pub mod elements;
 pub mod forms;
 pub mod groups;
 pub mod laws;
+pub mod readings;
 pub mod references;
 pub mod tags;
 pub mod tokenizer;

@@ -96,7 +96,7 @@ pub struct Piece<'t> {
 
 impl RawElement {
     /// The element's end tag, as far as its name.
-    const fn end_tag(self) -> &'static [u8]
+    pub(crate) const fn end_tag(self) -> &'static [u8]
         ensures { result.now ≡ raw_end_tag self }
     {
         match self {
@@ -458,7 +458,7 @@ pub fn name_of(tag: &[u8]) -> &[u8]
 
 /// The element of this name, if its content is no markup.
 #[tactic(auto, unfolding(crate::specs::Names::raw_element))]
-fn raw_element(name: &[u8]) -> Option<RawElement>
+pub(crate) fn raw_element(name: &[u8]) -> Option<RawElement>
     ensures { result ≡ raw_element name.now }
 {
     if is_same_name(name, b"script") {

@@ -11,4 +11,5 @@ pub mod MarkedPages
 pub mod MarksInText
 pub mod WordEdges
 pub mod SecondRun
+pub mod Contents
 pub mod SecondPages

@@ -4,7 +4,8 @@ use Rattle.std.specs.Prelude.{All}
 use Rattle.std.proofs.lemmas.List.Elements.{All-nil, All-cons}
 use Rattle.html_pieces.specs.declared.bytes.Form.{Form}
 use Rattle.html_pieces.specs.Pieces.{Piece, pieces_of}
-use Rattle.html_pieces.specs.Elements.{Element, innermost, elements_after, page_element}
+use Rattle.html_pieces.specs.Elements.{Element, page_element}
+use Rattle.html_pieces.specs.Readings.{Reading, at_start, standing, reading_after}
 use Rattle.html_pieces.specs.Laws.{joined_pieces, AreUtf8}
 use Rattle.html_pieces.specs.declared.tokenizer.Kind.{Kind}
 use Rattle.html_pieces.specs.declared.tokenizer.Kind.TheVariants.{Text, Reference, StartTag, EmptyTag, EndTag, Other}
@@ -57,13 +58,13 @@ piece_in_text languages element before after p ps EmptyTag k w = tt
 piece_in_text languages element before after p ps EndTag k w = tt
 piece_in_text languages element before after p ps Other k w = tt
 
-pieces_in_text : (laws : Laws) (languages : List Language) (form : Form) (class : List ℕ) (page : Element) (elements : List Element) (before : Bool) (ps : List Piece) → AllFit languages → AreUtf8 ps
-    → Each (IsInText ps) (pieces_places languages form class page elements before ps)
-pieces_in_text laws languages form class page elements before [] f u = tt
-pieces_in_text laws languages form class page elements before (p ∷ ps) f u =
-    each_append (IsInText (p ∷ ps)) (piece_places languages (innermost page elements) before (touched_after ps) p.kind p.bytes) (shifted (length p.bytes) (pieces_places languages form class page (elements_after form class page elements p) (touched_before before p.kind p.bytes) ps))
-    (piece_in_text languages (innermost page elements) before (touched_after ps) p ps p.kind refl (piece_marked laws languages [] (innermost page elements) before (touched_after ps) p.kind p.bytes f u.0).within)
-    (each_later p ps (pieces_places languages form class page (elements_after form class page elements p) (touched_before before p.kind p.bytes) ps) (pieces_in_text laws languages form class page (elements_after form class page elements p) (touched_before before p.kind p.bytes) ps f u.1))
+pieces_in_text : (laws : Laws) (languages : List Language) (form : Form) (class : List ℕ) (page : Element) (reading : Reading) (before : Bool) (ps : List Piece) → AllFit languages → AreUtf8 ps
+    → Each (IsInText ps) (pieces_places languages form class page reading before ps)
+pieces_in_text laws languages form class page reading before [] f u = tt
+pieces_in_text laws languages form class page reading before (p ∷ ps) f u =
+    each_append (IsInText (p ∷ ps)) (piece_places languages (standing form page reading) before (touched_after ps) p.kind p.bytes) (shifted (length p.bytes) (pieces_places languages form class page (reading_after form class page reading p) (touched_before before p.kind p.bytes) ps))
+    (piece_in_text languages (standing form page reading) before (touched_after ps) p ps p.kind refl (piece_marked laws languages [] (standing form page reading) before (touched_after ps) p.kind p.bytes f u.0).within)
+    (each_later p ps (pieces_places languages form class page (reading_after form class page reading p) (touched_before before p.kind p.bytes) ps) (pieces_in_text laws languages form class page (reading_after form class page reading p) (touched_before before p.kind p.bytes) ps f u.1))
 
 all_of : (P : ℕ → Type 0) (places : List ℕ) → Each P places → All P places
 all_of P [] e = All-nil P
@@ -71,4 +72,4 @@ all_of P (place ∷ places) e = All-cons P place places e.0 (all_of P places e.1
 
 pub page_in_text : (laws : Laws) (languages : List Language) (form : Form) (class language page : List ℕ) → AllFit languages → AreUtf8 (pieces_of form page) → All (IsInText (pieces_of form page)) (places_of languages form class language page)
 page_in_text laws languages form class language page f u =
-    all_of (IsInText (pieces_of form page)) (places_of languages form class language page) (pieces_in_text laws languages form class (page_element language) [] false (pieces_of form page) f u)
+    all_of (IsInText (pieces_of form page)) (places_of languages form class language page) (pieces_in_text laws languages form class (page_element language) (at_start form (pieces_of form page)) false (pieces_of form page) f u)

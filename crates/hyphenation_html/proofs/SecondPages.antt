@@ -1,40 +1,43 @@
 -- A page that has its marks has no places left, where it is cut as it was without them.
-use Rattle.std.proofs.Common.{◌≡◌, ℕ, ◌==◌, Bool, true, false, List, [], ◌∷◌, ◌++◌, length, take, drop, suc, zero, arith, refl, ap, sym, ◌∙◌, subst, Option, Some, None, if◌then◌else◌}
+use Rattle.std.proofs.Common.{◌≡◌, ℕ, ◌==◌, ◌||◌, ◌&&◌, Bool, true, false, not, nat_lt, List, [], ◌∷◌, ◌++◌, length, take, drop, suc, zero, arith, refl, ap, sym, ◌∙◌, subst, Option, Some, None, if◌then◌else◌}
 use Rattle.std.specs.Option.{option_map_or}
 use Rattle.std.proofs.lemmas.Bool.Decides.{nat_tests}
 use Rattle.std.specs.Str.{IsUtf8}
 use Rattle.html_pieces.specs.declared.bytes.Form.{Form}
 use Rattle.html_pieces.specs.Pieces.{Piece, pieces_of}
-use Rattle.html_pieces.specs.Elements.{Element, innermost, elements_after, page_element}
+use Rattle.html_pieces.specs.Bytes.{is_xml}
+use Rattle.html_pieces.specs.Elements.{Element, page_element, innermost, depth_limit}
+use Rattle.html_pieces.specs.Readings.{Reading, started, at_start, standing, reading_after, has_text, body_unless, is_hidden, is_content_here, is_root_start, is_read_text, has_late_root}
 use Rattle.html_pieces.specs.Laws.{joined_pieces, AreUtf8, IsPlain, begins_alike, IsOtherText, HaveOtherTexts}
 use Rattle.html_pieces.specs.declared.tokenizer.Kind.{Kind}
 use Rattle.html_pieces.specs.declared.tokenizer.Kind.TheVariants.{Text, Reference, StartTag, EmptyTag, EndTag, Other}
 use Rattle.hyphenation_segments.specs.Laws.{with_marks}
 use Rattle.hyphenation_html.specs.Languages.{Language, best_of}
 use Rattle.hyphenation_html.specs.Laws.{soft_hyphen}
-use Rattle.hyphenation_html.specs.Places.{shifted, text_places, places_in, piece_places, pieces_places, places_of}
+use Rattle.hyphenation_html.specs.Places.{is_left_alone, shifted, text_places, places_in, piece_places, pieces_places, places_of}
 use Rattle.hyphenation_html.specs.Touching.{goes_on_over, begins_touching, ends_touching, touched_after, touched_before}
 use Rattle.hyphenation_html.specs.Private.Fit.{AllFit}
 use Rattle.hyphenation_html.specs.Private.Marked.{marked_text, marked_in, marked_piece, marked_pieces}
 use Rattle.hyphenation_html.proofs.MarkedPages.{IfChosen, chosen, piece_marked}
+use Rattle.hyphenation_html.proofs.Contents.{same_text}
 use Rattle.hyphenation_html.proofs.MarkedTexts.{Laws}
 use Rattle.hyphenation_html.proofs.SecondRun.{Implies, or_left, or_right, none_left}
 use Rattle.hyphenation_html.proofs.WordEdges.{still_begins, still_ends}
 
 -- The pieces of a page, each with its marks.
-abbrev pub marked_list : List Language → Form → List ℕ → Element → List Element → Bool → List Piece → List Piece
-marked_list languages form class page elements before [] = []
-marked_list languages form class page elements before (p ∷ ps) =
-    record { kind = p.kind; bytes = marked_piece languages soft_hyphen (innermost page elements) before (touched_after ps) p.kind p.bytes }
-    ∷ marked_list languages form class page (elements_after form class page elements p) (touched_before before p.kind p.bytes) ps
+abbrev pub marked_list : List Language → Form → List ℕ → Element → Reading → Bool → List Piece → List Piece
+marked_list languages form class page reading before [] = []
+marked_list languages form class page reading before (p ∷ ps) =
+    record { kind = p.kind; bytes = marked_piece languages soft_hyphen (standing form page reading) before (touched_after ps) p.kind p.bytes }
+    ∷ marked_list languages form class page (reading_after form class page reading p) (touched_before before p.kind p.bytes) ps
 
-pub marked_list-joins : (languages : List Language) (form : Form) (class : List ℕ) (page : Element) (elements : List Element) (before : Bool) (ps : List Piece)
-    → joined_pieces (marked_list languages form class page elements before ps) ≡ marked_pieces languages soft_hyphen form class page elements before ps
+pub marked_list-joins : (languages : List Language) (form : Form) (class : List ℕ) (page : Element) (reading : Reading) (before : Bool) (ps : List Piece)
+    → joined_pieces (marked_list languages form class page reading before ps) ≡ marked_pieces languages soft_hyphen form class page reading before ps
 unfolding marked_pieces
-marked_list-joins languages form class page elements before [] = refl
-marked_list-joins languages form class page elements before (p ∷ ps) =
-    ap (λ xs. marked_piece languages soft_hyphen (innermost page elements) before (touched_after ps) p.kind p.bytes ++ xs)
-    (marked_list-joins languages form class page (elements_after form class page elements p) (touched_before before p.kind p.bytes) ps)
+marked_list-joins languages form class page reading before [] = refl
+marked_list-joins languages form class page reading before (p ∷ ps) =
+    ap (λ xs. marked_piece languages soft_hyphen (standing form page reading) before (touched_after ps) p.kind p.bytes ++ xs)
+    (marked_list-joins languages form class page (reading_after form class page reading p) (touched_before before p.kind p.bytes) ps)
 
 -- ---- a piece
 
@@ -43,16 +46,24 @@ none_by_language : (laws : Laws) (before after before' after' : Bool) (text : Li
 none_by_language laws before after before' after' text None f i j u = refl
 none_by_language laws before after before' after' text (Some language) f i j u = none_left laws language.1 before after before' after' [] text i j f u tt
 
-none_in_cases : (c : Bool) (o : Option Language) (before after before' after' : Bool) (text : List ℕ)
+none_in_either : (c : Bool) (xs : List ℕ) → xs ≡ [] → (if c then [] else xs) ≡ []
+none_in_either true xs e = refl
+none_in_either false xs e = e
+
+none_in_cases : (element : Element) (c : Bool) (o : Option Language) (before after before' after' : Bool) (text : List ℕ) → is_left_alone element text ≡ c
     → option_map_or (λ language. text_places language.1 before' after' (option_map_or (λ l. marked_text l.1 soft_hyphen before after text) o text)) o [] ≡ []
-    → (if c then [] else option_map_or (λ language. text_places language.1 before' after' (if c then text else option_map_or (λ l. marked_text l.1 soft_hyphen before after text) o text)) o []) ≡ []
-none_in_cases true o before after before' after' text e = refl
-none_in_cases false o before after before' after' text e = e
+    → (if is_left_alone element (if c then text else option_map_or (λ l. marked_text l.1 soft_hyphen before after text) o text) then []
+    else option_map_or (λ language. text_places language.1 before' after' (if c then text else option_map_or (λ l. marked_text l.1 soft_hyphen before after text) o text)) o []) ≡ []
+none_in_cases element true o before after before' after' text alone e =
+    ap (λ c. if c then [] else option_map_or (λ language. text_places language.1 before' after' text) o []) alone
+none_in_cases element false o before after before' after' text alone e =
+    none_in_either (is_left_alone element (option_map_or (λ l. marked_text l.1 soft_hyphen before after text) o text))
+    (option_map_or (λ language. text_places language.1 before' after' (option_map_or (λ l. marked_text l.1 soft_hyphen before after text) o text)) o []) e
 
 none_in : (laws : Laws) (languages : List Language) (element : Element) (before after before' after' : Bool) (text : List ℕ) → AllFit languages → Implies before before' → Implies after after' → IsUtf8 text
     → places_in languages element before' after' (marked_in languages soft_hyphen element before after text) ≡ []
 none_in laws languages element before after before' after' text f i j u =
-    none_in_cases element.is_left_alone (best_of element.language languages) before after before' after' text
+    none_in_cases element (is_left_alone element text) (best_of element.language languages) before after before' after' text refl
     (none_by_language laws before after before' after' text (best_of element.language languages) (chosen element.language None languages tt f) i j u)
 
 piece_done : (laws : Laws) (languages : List Language) (element : Element) (before after before' after' : Bool) (kind : Kind) (bytes : List ℕ) → AllFit languages → Implies before before' → Implies after after' → IsUtf8 bytes
@@ -102,15 +113,15 @@ either_implies : (c : Bool) (a a' b b' : Bool) → Implies a a' → Implies b b'
 either_implies true a a' b b' i j = i
 either_implies false a a' b b' i j = j
 
-still_after : (laws : Laws) (languages : List Language) (form : Form) (class : List ℕ) (page : Element) (elements : List Element) (before : Bool) (ps : List Piece) → AllFit languages → AreUtf8 ps
-    → Implies (touched_after ps) (touched_after (marked_list languages form class page elements before ps))
-still_after laws languages form class page elements before [] f u = λ e. e
-still_after laws languages form class page elements before (p ∷ ps) f u =
-    let element = innermost page elements in
+still_after : (laws : Laws) (languages : List Language) (form : Form) (class : List ℕ) (page : Element) (reading : Reading) (before : Bool) (ps : List Piece) → AllFit languages → AreUtf8 ps
+    → Implies (touched_after ps) (touched_after (marked_list languages form class page reading before ps))
+still_after laws languages form class page reading before [] f u = λ e. e
+still_after laws languages form class page reading before (p ∷ ps) f u =
+    let element = standing form page reading in
     let bytes = marked_piece languages soft_hyphen element before (touched_after ps) p.kind p.bytes in
-    let rest = marked_list languages form class page (elements_after form class page elements p) (touched_before before p.kind p.bytes) ps in
+    let rest = marked_list languages form class page (reading_after form class page reading p) (touched_before before p.kind p.bytes) ps in
     let here = either_implies (goes_on_over p.kind p.bytes) (touched_after ps) (touched_after rest) (begins_touching p.kind p.bytes) (begins_touching p.kind bytes)
-    (still_after laws languages form class page (elements_after form class page elements p) (touched_before before p.kind p.bytes) ps f u.1)
+    (still_after laws languages form class page (reading_after form class page reading p) (touched_before before p.kind p.bytes) ps f u.1)
     (still_begins_touching laws languages element before (touched_after ps) p.kind p.bytes f u.0) in
     λ e. ap (λ c. if c then touched_after rest else begins_touching p.kind bytes) (same_over languages element before (touched_after ps) p.kind p.bytes) ∙ here e
 
@@ -123,27 +134,72 @@ still_before laws languages element before before' after kind bytes f u i =
 
 -- ---- pieces
 
-same_elements : (languages : List Language) (form : Form) (class : List ℕ) (page : Element) (elements : List Element) (before after : Bool) (kind : Kind) (bytes : List ℕ)
-    → elements_after form class page elements (record { kind = kind; bytes = marked_piece languages soft_hyphen (innermost page elements) before after kind bytes }) ≡ elements_after form class page elements (record { kind = kind; bytes = bytes })
-same_elements languages form class page elements before after Text bytes = refl
-same_elements languages form class page elements before after Reference bytes = refl
-same_elements languages form class page elements before after StartTag bytes = refl
-same_elements languages form class page elements before after EmptyTag bytes = refl
-same_elements languages form class page elements before after EndTag bytes = refl
-same_elements languages form class page elements before after Other bytes = refl
+-- the reading after a text, by whether it has more than white space
+abbrev after_content : Form → Element → Reading → Bool → Reading
+after_content form page reading c =
+    if reading.is_certain
+    then record {
+      elements = reading.elements;
+      phase = body_unless (is_hidden (innermost page reading.elements) || not c) reading.phase;
+      is_standard = reading.is_standard;
+      is_certain = nat_lt (length reading.elements) depth_limit && true && (if is_xml form then true else not c || is_content_here (innermost page reading.elements));
+    }
+    else reading
 
-pieces_done : (laws : Laws) (languages : List Language) (form : Form) (class : List ℕ) (page : Element) (elements : List Element) (before before' : Bool) (ps : List Piece) → AllFit languages → AreUtf8 ps → Implies before before'
-    → pieces_places languages form class page elements before' (marked_list languages form class page elements before ps) ≡ []
-pieces_done laws languages form class page elements before before' [] f u i = refl
-pieces_done laws languages form class page elements before before' (p ∷ ps) f u i =
-    let element = innermost page elements in
+same_reading : (laws : Laws) (languages : List Language) (form : Form) (class : List ℕ) (page : Element) (reading : Reading) (before after : Bool) (kind : Kind) (bytes : List ℕ) → AllFit languages → IsUtf8 bytes
+    → reading_after form class page reading (record { kind = kind; bytes = marked_piece languages soft_hyphen (standing form page reading) before after kind bytes }) ≡ reading_after form class page reading (record { kind = kind; bytes = bytes })
+same_reading laws languages form class page reading before after Text bytes f u =
+    let element = standing form page reading in
+    let m = piece_marked laws languages soft_hyphen element before after Text bytes f u in
+    ap (after_content form page reading) (ap has_text m.is ∙ same_text languages element before after bytes)
+same_reading laws languages form class page reading before after Reference bytes f u = refl
+same_reading laws languages form class page reading before after StartTag bytes f u = refl
+same_reading laws languages form class page reading before after EmptyTag bytes f u = refl
+same_reading laws languages form class page reading before after EndTag bytes f u = refl
+same_reading laws languages form class page reading before after Other bytes f u = refl
+
+root_as_well : (languages : List Language) (element : Element) (before after : Bool) (kind : Kind) (bytes : List ℕ)
+    → is_root_start kind (marked_piece languages soft_hyphen element before after kind bytes) ≡ is_root_start kind bytes
+root_as_well languages element before after Text bytes = refl
+root_as_well languages element before after Reference bytes = refl
+root_as_well languages element before after StartTag bytes = refl
+root_as_well languages element before after EmptyTag bytes = refl
+root_as_well languages element before after EndTag bytes = refl
+root_as_well languages element before after Other bytes = refl
+
+read_as_well : (laws : Laws) (languages : List Language) (element : Element) (before after : Bool) (kind : Kind) (bytes : List ℕ) → AllFit languages → IsUtf8 bytes
+    → is_read_text kind (marked_piece languages soft_hyphen element before after kind bytes) ≡ is_read_text kind bytes
+read_as_well laws languages element before after Text bytes f u =
+    ap has_text (piece_marked laws languages soft_hyphen element before after Text bytes f u).is ∙ same_text languages element before after bytes
+read_as_well laws languages element before after Reference bytes f u = refl
+read_as_well laws languages element before after StartTag bytes f u = refl
+read_as_well laws languages element before after EmptyTag bytes f u = refl
+read_as_well laws languages element before after EndTag bytes f u = refl
+read_as_well laws languages element before after Other bytes f u = refl
+
+late_as_well : (laws : Laws) (languages : List Language) (form : Form) (class : List ℕ) (page : Element) (reading : Reading) (before seen : Bool) (ps : List Piece) → AllFit languages → AreUtf8 ps
+    → has_late_root seen (marked_list languages form class page reading before ps) ≡ has_late_root seen ps
+late_as_well laws languages form class page reading before seen [] f u = refl
+late_as_well laws languages form class page reading before seen (p ∷ ps) f u =
+    let element = standing form page reading in
     let bytes = marked_piece languages soft_hyphen element before (touched_after ps) p.kind p.bytes in
-    let later = elements_after form class page elements p in
+    let rest = marked_list languages form class page (reading_after form class page reading p) (touched_before before p.kind p.bytes) ps in
+    ap (λ c. seen && c || has_late_root (seen || is_read_text p.kind bytes) rest) (root_as_well languages element before (touched_after ps) p.kind p.bytes)
+    ∙ ap (λ c. seen && is_root_start p.kind p.bytes || has_late_root (seen || c) rest) (read_as_well laws languages element before (touched_after ps) p.kind p.bytes f u.0)
+    ∙ ap (λ c. seen && is_root_start p.kind p.bytes || c) (late_as_well laws languages form class page (reading_after form class page reading p) (touched_before before p.kind p.bytes) (seen || is_read_text p.kind p.bytes) ps f u.1)
+
+pieces_done : (laws : Laws) (languages : List Language) (form : Form) (class : List ℕ) (page : Element) (reading : Reading) (before before' : Bool) (ps : List Piece) → AllFit languages → AreUtf8 ps → Implies before before'
+    → pieces_places languages form class page reading before' (marked_list languages form class page reading before ps) ≡ []
+pieces_done laws languages form class page reading before before' [] f u i = refl
+pieces_done laws languages form class page reading before before' (p ∷ ps) f u i =
+    let element = standing form page reading in
+    let bytes = marked_piece languages soft_hyphen element before (touched_after ps) p.kind p.bytes in
+    let later = reading_after form class page reading p in
     let next = touched_before before p.kind p.bytes in
     let rest = marked_list languages form class page later next ps in
-    ap (λ xs. xs ++ shifted (length bytes) (pieces_places languages form class page (elements_after form class page elements (record { kind = p.kind; bytes = bytes })) (touched_before before' p.kind bytes) rest))
+    ap (λ xs. xs ++ shifted (length bytes) (pieces_places languages form class page (reading_after form class page reading (record { kind = p.kind; bytes = bytes })) (touched_before before' p.kind bytes) rest))
     (piece_done laws languages element before (touched_after ps) before' (touched_after rest) p.kind p.bytes f i (still_after laws languages form class page later next ps f u.1) u.0)
-    ∙ ap (λ es. shifted (length bytes) (pieces_places languages form class page es (touched_before before' p.kind bytes) rest)) (same_elements languages form class page elements before (touched_after ps) p.kind p.bytes)
+    ∙ ap (λ es. shifted (length bytes) (pieces_places languages form class page es (touched_before before' p.kind bytes) rest)) (same_reading laws languages form class page reading before (touched_after ps) p.kind p.bytes f u.0)
     ∙ ap (shifted (length bytes)) (pieces_done laws languages form class page later next (touched_before before' p.kind bytes) ps f u.1
     (still_before laws languages element before before' (touched_after ps) p.kind p.bytes f u.0 i))
 
@@ -191,23 +247,26 @@ other_text laws languages element before after EmptyTag bytes f u = refl
 other_text laws languages element before after EndTag bytes f u = refl
 other_text laws languages element before after Other bytes f u = refl
 
-other_texts : (laws : Laws) (languages : List Language) (form : Form) (class : List ℕ) (page : Element) (elements : List Element) (before : Bool) (ps : List Piece) → AllFit languages → AreUtf8 ps
-    → HaveOtherTexts ps (marked_list languages form class page elements before ps)
-other_texts laws languages form class page elements before [] f u = tt
-other_texts laws languages form class page elements before (p ∷ ps) f u = (
-  record { kind = refl; bytes = other_text laws languages (innermost page elements) before (touched_after ps) p.kind p.bytes f u.0 },
-  other_texts laws languages form class page (elements_after form class page elements p) (touched_before before p.kind p.bytes) ps f u.1,
+other_texts : (laws : Laws) (languages : List Language) (form : Form) (class : List ℕ) (page : Element) (reading : Reading) (before : Bool) (ps : List Piece) → AllFit languages → AreUtf8 ps
+    → HaveOtherTexts ps (marked_list languages form class page reading before ps)
+other_texts laws languages form class page reading before [] f u = tt
+other_texts laws languages form class page reading before (p ∷ ps) f u = (
+  record { kind = refl; bytes = other_text laws languages (standing form page reading) before (touched_after ps) p.kind p.bytes f u.0 },
+  other_texts laws languages form class page (reading_after form class page reading p) (touched_before before p.kind p.bytes) ps f u.1,
 )
 
 -- A page that was written with soft hyphens has no places left.
 pub page_done : (laws : Laws) (languages : List Language) (form : Form) (class language page output : List ℕ) → AllFit languages → AreUtf8 (pieces_of form page)
     → ((others : List Piece) → HaveOtherTexts (pieces_of form page) others → pieces_of form (joined_pieces others) ≡ others)
-    → output ≡ marked_pieces languages soft_hyphen form class (page_element language) [] false (pieces_of form page)
+    → output ≡ marked_pieces languages soft_hyphen form class (page_element language) (at_start form (pieces_of form page)) false (pieces_of form page)
     → places_of languages form class language output ≡ []
 page_done laws languages form class language page output f u cut e =
     let around = page_element language in
-    let others = marked_list languages form class around [] false (pieces_of form page) in
-    let joined : output ≡ joined_pieces others = e ∙ sym (marked_list-joins languages form class around [] false (pieces_of form page)) in
+    let pieces = pieces_of form page in
+    let start = at_start form pieces in
+    let others = marked_list languages form class around start false pieces in
+    let joined : output ≡ joined_pieces others = e ∙ sym (marked_list-joins languages form class around start false pieces) in
     ap (places_of languages form class language) joined
-    ∙ ap (pieces_places languages form class around [] false) (cut others (other_texts laws languages form class around [] false (pieces_of form page) f u))
-    ∙ pieces_done laws languages form class around [] false false (pieces_of form page) f u (λ h. h)
+    ∙ ap (λ ps. pieces_places languages form class around (at_start form ps) false ps) (cut others (other_texts laws languages form class around start false pieces f u))
+    ∙ ap (λ c. pieces_places languages form class around (started (is_xml form || not c)) false others) (late_as_well laws languages form class around start false false pieces f u)
+    ∙ pieces_done laws languages form class around start false false pieces f u (λ h. h)

@@ -5,9 +5,10 @@ use Rattle.std.specs.Option.{option_map_or}
 use Rattle.unicode_segmentation.specs.Word.{word_bounds}
 use Rattle.html_pieces.specs.Bytes.{is_white_space}
 use Rattle.html_pieces.specs.declared.bytes.Form.{Form}
-use Rattle.html_pieces.specs.Forms.{form_of}
+use Rattle.html_pieces.specs.Forms.{begins_with_order_mark, form_of}
 use Rattle.html_pieces.specs.Pieces.{Piece, pieces_of}
-use Rattle.html_pieces.specs.Elements.{Element, innermost, elements_after, page_element}
+use Rattle.html_pieces.specs.Elements.{Element, page_element}
+use Rattle.html_pieces.specs.Readings.{Reading, at_start, standing, reading_after}
 use Rattle.html_pieces.specs.declared.tokenizer.Kind.{Kind}
 use Rattle.html_pieces.specs.declared.tokenizer.Kind.TheVariants.{Text}
 use Rattle.hyphenation_segments.specs.Laws.{with_marks}
@@ -45,10 +46,14 @@ tokens_places breaks before after front (b ∷ bs) =
 abbrev pub text_places : Breaks → Bool → Bool → List ℕ → List ℕ
 text_places breaks before after text = tokens_places breaks before after [] text
 
+-- A text is left alone by its element, or begins with U+FEFF: before the byte order mark of a page there is no mark.
+abbrev pub is_left_alone : Element → List ℕ → Bool
+is_left_alone element text = element.is_left_alone || begins_with_order_mark text
+
 -- The breaks of a text in an element: by the dictionary of its language, if there is one and the text is not left alone.
 abbrev pub places_in : List Language → Element → Bool → Bool → List ℕ → List ℕ
 places_in languages element before after text =
-    if element.is_left_alone then []
+    if is_left_alone element text then []
     else option_map_or (λ language. text_places language.1 before after text) (best_of element.language languages) []
 
 -- The breaks of a piece: none but of text.
@@ -56,20 +61,20 @@ abbrev pub piece_places : List Language → Element → Bool → Bool → Kind �
 piece_places languages element before after Text text = places_in languages element before after text
 piece_places languages element before after _ text = []
 
--- The breaks of pieces, within open elements, where something may touch the first piece from before. `class` is the class
+-- The breaks of pieces, by a reading, where something may touch the first piece from before. `class` is the class
 -- whose elements are left alone.
-abbrev pub pieces_places : List Language → Form → List ℕ → Element → List Element → Bool → List Piece → List ℕ
-pieces_places languages form class page elements before [] = []
-pieces_places languages form class page elements before (p ∷ ps) =
-    piece_places languages (innermost page elements) before (touched_after ps) p.kind p.bytes
+abbrev pub pieces_places : List Language → Form → List ℕ → Element → Reading → Bool → List Piece → List ℕ
+pieces_places languages form class page reading before [] = []
+pieces_places languages form class page reading before (p ∷ ps) =
+    piece_places languages (standing form page reading) before (touched_after ps) p.kind p.bytes
     ++ shifted (length p.bytes)
-    (pieces_places languages form class page (elements_after form class page elements p)
+    (pieces_places languages form class page (reading_after form class page reading p)
     (touched_before before p.kind p.bytes) ps)
 
 -- The breaks of a page, in a language that holds where the page names none.
 abbrev pub places_of : List Language → Form → List ℕ → List ℕ → List ℕ → List ℕ
 places_of languages form class language page =
-    pieces_places languages form class (page_element language) [] false (pieces_of form page)
+    pieces_places languages form class (page_element language) (at_start form (pieces_of form page)) false (pieces_of form page)
 
 -- The breaks of a page that is read in a form, by dictionaries and settings.
 abbrev pub places_in_form : Settings → List LanguageDictionary → Form → List ℕ → List ℕ → List ℕ

@@ -6,7 +6,7 @@ ghost use Rattle.html_pieces.specs.Pieces.{as_piece, pieces_of};
 ghost use Rattle.html_pieces.specs.Forms.{form_of};
 ghost use Rattle.html_pieces.specs.Elements.{as_element};
 ghost use Rattle.hyphenation_html.specs.Languages.{languages_by};
-ghost use Rattle.hyphenation_html.specs.Places.{page_places, marked_page, IsDone};
+ghost use Rattle.hyphenation_html.specs.Places.{is_left_alone, page_places, marked_page, IsDone};
 ghost use Rattle.hyphenation_html.specs.Touching.{touched_after};
 ghost use Rattle.hyphenation_html.specs.Laws.{IsPageWithMarks, IsInText, soft_hyphen};
 ghost use Rattle.hyphenation_html.specs.Private.Fit.{AllFit};
@@ -19,9 +19,10 @@ use crate::settings::Settings;
 use crate::text::push_text;
 use crate::touching::{touched_after, touched_before};
 use html_pieces::bytes::Form;
-use html_pieces::elements::{Element, innermost, page_element, pass};
-use html_pieces::forms::cut;
+use html_pieces::elements::{Element, page_element};
+use html_pieces::forms::{begins_with_order_mark, cut};
 use html_pieces::laws::{other_texts_are_cut_alike, pieces_are_utf8, pieces_join};
+use html_pieces::readings::{Reading, pass, standing};
 use html_pieces::references::read;
 use html_pieces::tokenizer::{Kind, Piece};
 use hyphenation_hyphenator::hyphenator::laws::plain_breaks_fit_where_ascending;
@@ -96,6 +97,13 @@ fn push_read(
     }
 }
 
+// Whether a text is left alone by its element, or begins with U+FEFF.
+fn is_left_alone(element: Element<'_>, text: &str) -> bool
+    ensures { result ≡ is_left_alone (as_element element.entry) text.now }
+{
+    element.is_left_alone || begins_with_order_mark(text.as_bytes())
+}
+
 // Appends a text of an element, with the mark at the breaks of its words by the dictionary of its language.
 fn push_in(
     output: &mut String,
@@ -110,7 +118,7 @@ fn push_in(
     ensures { OnOk result (string_bytes output.new ≡ string_bytes output.old
         ++ marked_in_by settings.now languages.now element.entry before after text.now) }
 {
-    if element.is_left_alone {
+    if is_left_alone(element, text) {
         output.push_str(text)
     } else {
         push_read(
@@ -163,7 +171,7 @@ fn text_touched_after(kind: Kind, rest: &[Piece<'_>]) -> bool
     is_text(kind) && touched_after(rest)
 }
 
-// Appends the pieces of a page, each in the elements that are open there.
+// Appends the pieces of a page, each in the element that it stands in.
 fn push_pieces<'t>(
     output: &mut String,
     alloc: Global,
@@ -176,17 +184,17 @@ fn push_pieces<'t>(
     ensures { OnOk result (string_bytes output.new ≡ string_bytes output.old
         ++ marked_pieces_by settings.now languages.now form around.entry pieces.now) }
 {
-    let mut elements = Vec::new(alloc);
+    let mut reading = Reading::new(alloc, form, pieces);
     let mut before = false;
     for i in 0..pieces.len() {
         let piece = piece_at(pieces, i);
         let after = text_touched_after(piece.kind, &pieces[i + 1..]);
-        let element = innermost(around, &elements);
+        let element = standing(form, around, &reading);
         push_piece(
             output, alloc, languages, settings, element, piece, before, after,
         )?;
         pass(
-            &mut elements,
+            &mut reading,
             alloc,
             form,
             settings.class.as_bytes(),

@@ -1,7 +1,8 @@
 //! Pages and the languages of their texts, as the HTML Living Standard nests the elements.
 
 use html_pieces::bytes::Form;
-use html_pieces::elements::{innermost, page_element, pass};
+use html_pieces::elements::page_element;
+use html_pieces::readings::{Reading, pass, standing};
 use html_pieces::tokenizer::{Kind, pieces};
 use std::alloc::{AllocError, Global};
 use std::test::Fail;
@@ -10,17 +11,18 @@ use test_support::expect_text_in;
 // The texts of a page in the language `-`, each after its language, and in brackets unless it is left alone.
 fn languages_shown(alloc: Global, form: Form, page: &str) -> Result<String, AllocError> {
     let mut all = String::new(alloc);
-    let mut elements = Vec::new(alloc);
+    let pieces = pieces(alloc, form, page)?;
+    let mut reading = Reading::new(alloc, form, &pieces);
     let around = page_element(b"-");
-    for piece in &pieces(alloc, form, page)? {
+    for piece in &pieces {
         if piece.kind == Kind::Text {
-            let element = innermost(around, &elements);
+            let element = standing(form, around, &reading);
             all.push_str(&String::from_utf8_lossy(alloc, element.language)?)?;
             all.push_str(if element.is_left_alone { "(" } else { "[" })?;
             all.push_str(piece.text)?;
             all.push_str(if element.is_left_alone { ")" } else { "]" })?;
         }
-        pass(&mut elements, alloc, form, b"apart", around, *piece)?;
+        pass(&mut reading, alloc, form, b"apart", around, *piece)?;
     }
     Ok(all)
 }
@@ -35,10 +37,10 @@ const LANGUAGES: &[(&str, Form, &str, &str)] = &[
         "de[a]-[b]-[c]-[d]",
     ),
     (
-        "a list ends a paragraph with the elements in it",
+        "a list ends a paragraph with the readings in it",
         Form::Html,
-        "<p lang=de>a<em>b<ul><li>c</ul>d",
-        "de[a]de[b]-[c]-[d]",
+        "<p lang=de>a<ruby>b<rt>c</ruby><ul><li>d</ul>e",
+        "de[a]de[b]de[c]-[d]-[e]",
     ),
     (
         "an item ends before the next one of its own list",
@@ -95,28 +97,10 @@ const LANGUAGES: &[(&str, Form, &str, &str)] = &[
         "fr[a]de[b]",
     ),
     (
-        "an end tag in a cell ends nothing around its table",
-        Form::Html,
-        "<div lang=de><table><td>a</div>b</table>c</div>d",
-        "de[a]de[b]de[c]-[d]",
-    ),
-    (
         "an end tag without its start tag ends nothing, and a void element has no text",
         Form::Html,
         "<i lang=de>a</b>b</i>c<br lang=fr>d<wbr/>e",
         "de[a]de[b]-[c]-[d]-[e]",
-    ),
-    (
-        "an end tag in an inner list ends no item around it",
-        Form::Html,
-        "<ul><li lang=de>a<ul></li>b</ul>c</ul>d",
-        "de[a]de[b]de[c]-[d]",
-    ),
-    (
-        "an end tag in a paragraph ends nothing around it",
-        Form::Html,
-        "<span lang=de>a<p lang=fr>b</span>c</p>d</span>e",
-        "de[a]fr[b]fr[c]de[d]-[e]",
     ),
     (
         "the end tag of another heading ends a heading",
@@ -134,19 +118,19 @@ const LANGUAGES: &[(&str, Form, &str, &str)] = &[
         "a paragraph of XML may stand in another",
         Form::Xml,
         "<p lang='de'>a<p>b</p>c</p>d",
-        "de[a]de[b]de[c]-[d]",
+        "de[a]de[b]de[c]-(d)",
     ),
     (
         "a slash ends any element of XML, and any may have a text",
         Form::Xml,
-        "<i lang='de'/>a<br lang='fr'>b</br>c",
+        "<a><i lang='de'/>a<br lang='fr'>b</br>c</a>",
         "-[a]fr[b]-[c]",
     ),
     (
         "capitals make other names of XML",
         Form::Xml,
-        "<i lang='de'>a</I>b</i>c<i LANG='fr'>d</i>",
-        "de[a]de[b]-[c]-[d]",
+        "<a><i lang='de'>a<I LANG='fr'>b</I>c</i>d</a>",
+        "de[a]de[b]de[c]-[d]",
     ),
     (
         "in XML `xml:lang` goes before `lang`",
@@ -185,6 +169,319 @@ const LANGUAGES: &[(&str, Form, &str, &str)] = &[
         "-(a)-[b]-(c)-[d]",
     ),
 ];
+
+// Pages that are left alone from where their tree has to be known, or where not all parsers read them alike. The first
+// text is read in each form of the page, and the last one is left alone.
+const UNCERTAIN: &[(&str, Form, &str, &str)] = &[
+    (
+        "an end tag in a cell may be that of an element around its table",
+        Form::Html,
+        "<div lang=de>a<table><td></div>b",
+        "de[a]de(b)",
+    ),
+    (
+        "an end tag in an inner list may be that of an item around it",
+        Form::Html,
+        "<ul><li lang=de>a<ul></li>b",
+        "de[a]de(b)",
+    ),
+    (
+        "an end tag in a paragraph may be that of an element around it",
+        Form::Html,
+        "<span lang=de>a<p></span>b",
+        "de[a]de(b)",
+    ),
+    (
+        "an element that is not closed goes on after its paragraph",
+        Form::Html,
+        "<p>a<b lang=de>b<p>c",
+        "-[a]de[b]-(c)",
+    ),
+    (
+        "a formatting element is closed across a paragraph",
+        Form::Html,
+        "<p lang=de><b>a</p>b</b>c",
+        "de[a]-(b)-(c)",
+    ),
+    (
+        "a paragraph in a formatting element that names a language may be put out of it",
+        Form::Html,
+        "<b lang=de>a<p lang=fr>b</b>c",
+        "de[a]fr(b)fr(c)",
+    ),
+    (
+        "text between the parts of a table stands before it",
+        Form::Html,
+        "a<table lang=de>b<td>c",
+        "-[a]de(b)de(c)",
+    ),
+    (
+        "a paragraph between the parts of a table stands before it",
+        Form::Html,
+        "a<table lang=de><tr><p>b",
+        "-[a]de(b)",
+    ),
+    (
+        "a cell outside of a table is none",
+        Form::Html,
+        "a<td lang=de>b",
+        "-[a]de(b)",
+    ),
+    (
+        "without the document type of HTML a table does not end a paragraph",
+        Form::Html,
+        "<p lang=de>a<table><td>b",
+        "de[a]-(b)",
+    ),
+    (
+        "a body after text gives its language to that text",
+        Form::Html,
+        "a<body lang=de>b",
+        "-(a)-(b)",
+    ),
+    (
+        "a second start tag of the page gives its language to all",
+        Form::Html,
+        "<html><body>a<p>b<html lang=de>c",
+        "-(a)-(b)-(c)",
+    ),
+    (
+        "a paragraph in a formatting element may be put out of what names its language",
+        Form::Html,
+        "<b><span lang=de>a<p>b</b>c",
+        "de[a]de(b)de(c)",
+    ),
+    (
+        "a second head is none",
+        Form::Html,
+        "<head><title>x</title></head><head lang=de><body>a",
+        "-(a)",
+    ),
+    (
+        "text in a head ends it",
+        Form::Html,
+        "<head lang=de><meta name=a>a",
+        "de(a)",
+    ),
+    (
+        "a form in a form is none",
+        Form::Html,
+        "<form>a<form lang=de>b",
+        "-[a]de(b)",
+    ),
+    (
+        "a link in a link ends it",
+        Form::Html,
+        "<a href=b>a<i><a lang=de>b",
+        "-[a]de(b)",
+    ),
+    (
+        "a heading in a heading ends it",
+        Form::Html,
+        "<h1 lang=de>a<h2>b",
+        "de[a]de(b)",
+    ),
+    (
+        "an element in a selection is none",
+        Form::Html,
+        "<select lang=de>a<p lang=fr>b",
+        "de[a]fr(b)",
+    ),
+    (
+        "a frameset takes the place of the body",
+        Form::Html,
+        "<frameset lang=de>a",
+        "de(a)",
+    ),
+    (
+        "a paragraph in a drawing ends it",
+        Form::Html,
+        "a<svg><p lang=de></p></svg>b",
+        "-[a]de(b)",
+    ),
+    (
+        "an end tag of a paragraph in a drawing ends it",
+        Form::Html,
+        "a<svg></p></svg>b",
+        "-[a]-(b)",
+    ),
+    (
+        "a script in HTML within a drawing is raw text",
+        Form::Html,
+        "a<svg><foreignObject><script></script></foreignObject></svg>b",
+        "-[a]-(b)",
+    ),
+    (
+        "a title in a formula is no title of a drawing",
+        Form::Html,
+        "a<math><title></title></math>b",
+        "-[a]-(b)",
+    ),
+    (
+        "an annotation of a formula may hold HTML",
+        Form::Html,
+        "a<math><annotation-xml encoding='text/html'></annotation-xml></math>b",
+        "-[a]-(b)",
+    ),
+    (
+        "a section in HTML within a drawing ends at the first `>`",
+        Form::Html,
+        "a<svg><desc><![CDATA[>]]></desc></svg>b",
+        "-[a]-(b)",
+    ),
+    (
+        "without scripting an attribute of a noscript may have its end tag",
+        Form::Html,
+        "a<noscript><a title='</noscript>'></a></noscript>b",
+        "-[a]-(b)",
+    ),
+    (
+        "a document type with a part in brackets ends elsewhere in XML",
+        Form::Html,
+        "<!DOCTYPE a [<!ENTITY b '>a",
+        "-(a)",
+    ),
+    (
+        "an identifier of a document type may have a `>` in XML",
+        Form::Html,
+        "<!DOCTYPE a SYSTEM 'b>a",
+        "-(a)",
+    ),
+    (
+        "a comment before the root may end elsewhere in XML",
+        Form::Html,
+        "<!-->a",
+        "-(a)",
+    ),
+    (
+        "a name may begin with `_` in XML",
+        Form::Html,
+        "<_b>a",
+        "-(_b>a)",
+    ),
+    (
+        "an instruction of HTML ends at its first `>`",
+        Form::Xml,
+        "<a>a<?b > c?>d</a>",
+        "-[a]-(d)",
+    ),
+    (
+        "a section of XML ends at its first `>` in HTML",
+        Form::Xml,
+        "<a>a<![CDATA[>]]>b</a>",
+        "-[a]-(b)",
+    ),
+    (
+        "a script with a slash is not ended in HTML",
+        Form::Xml,
+        "<a>a<script/>b</a>",
+        "-[a]-(b)",
+    ),
+    (
+        "a script of XML may have an end tag in a section, and HTML ends at it",
+        Form::Xml,
+        "<a>a<script><![CDATA[</script>]]></script>b</a>",
+        "-[a]-(b)",
+    ),
+    (
+        "an end tag of another element is no XML",
+        Form::Xml,
+        "<a>a<b></a>b",
+        "-[a]-(b)",
+    ),
+];
+
+// Pages that are read alike by all parsers, whose texts keep their marks.
+const CERTAIN: &[(&str, Form, &str, &str)] = &[
+    (
+        "by the document type of HTML a table ends a paragraph",
+        Form::Html,
+        "<!DOCTYPE html><p lang=de>a<table><tr><td>b</table>c",
+        "de[a]-[b]-[c]",
+    ),
+    (
+        "a head and a body come each once, with white space and comments between",
+        Form::Html,
+        "<!doctype html>\n<!-- c -->\n<html lang=de>\n<head>\n<title>x</title>\n</head>\n<body lang=fr>\na</body></html>\n",
+        "-[\n]-[\n]de[\n]de(\n)de(\n)de[\n]fr[\na]fr[\n]",
+    ),
+    (
+        "a byte order mark and white space may come first",
+        Form::Html,
+        "\u{feff}\n<!DOCTYPE html><html lang=de><body>a",
+        "-[\u{feff}\n]de[a]",
+    ),
+    (
+        "a block in a link, and a phrase in another language that has no block",
+        Form::Html,
+        "<a href=b><div><h2>a</h2></div></a><b>b<i lang=de>c<br>d</i></b>e",
+        "-[a]-[b]de[c]de[d]-[e]",
+    ),
+    (
+        "scripts, styles and templates may stand in a table",
+        Form::Html,
+        "<table><script>x</script><tr><style>x</style><td>a<template><td>b</td></template></table>c",
+        "-[a]-(b)-[c]",
+    ),
+    (
+        "texts and shapes of a drawing, and its title and style",
+        Form::Html,
+        "a<svg viewBox='0'><title>x</title><style>p > b<![CDATA[ > ]]></style><g><path d=m /><text>y</text></g></svg>b",
+        "-[a]-(x)-(p > b)-(y)-[b]",
+    ),
+    (
+        "HTML in a drawing that has all its end tags",
+        Form::Html,
+        "a<svg><foreignObject><div><p>x</p><br></div></foreignObject></svg>b",
+        "-[a]-(x)-[b]",
+    ),
+    (
+        "a formula, its texts and its annotations",
+        Form::Html,
+        "a<math><semantics><mi>x</mi><mtext>y</mtext><annotation encoding='a'>z</annotation></semantics></math>b",
+        "-[a]-(x)-(y)-(z)-[b]",
+    ),
+    (
+        "the text of a noscript is left alone, in a head and in a body",
+        Form::Html,
+        "<head><noscript><img src=a></noscript><body>a<noscript><p>b</p></noscript>c",
+        "-[a]-(b)-[c]",
+    ),
+    (
+        "an end tag of a paragraph without one, and an end tag without an element",
+        Form::Html,
+        "<p lang=de>a<div>b</div></p>c</i>d",
+        "de[a]-[b]-[c]-[d]",
+    ),
+    (
+        "a link in a list in a link that is closed, and a dialog in an item",
+        Form::Html,
+        "<ul><li lang=de><a>a</a><li><a>b</a><dialog>c</dialog>d</ul>e",
+        "de[a]-[b]-[c]-[d]-[e]",
+    ),
+    (
+        "a script of XML with a section that is one in a script of HTML too",
+        Form::Xml,
+        "<a><script>//<![CDATA[\nif (a > b) c(\"</p>\");\n//]]></script>b</a>",
+        "-(//)-[b]",
+    ),
+];
+
+#[test]
+fn a_page_is_left_alone_from_where_parsers_may_differ(rt: HostRuntime) -> Result<(), Fail> {
+    for (shows, form, page, wanted) in UNCERTAIN {
+        expect_text_in(*shows, languages_shown(rt.alloc(), *form, page), wanted)?;
+    }
+    Ok(())
+}
+
+#[test]
+fn a_page_that_all_parsers_read_alike_is_not_left_alone(rt: HostRuntime) -> Result<(), Fail> {
+    for (shows, form, page, wanted) in CERTAIN {
+        expect_text_in(*shows, languages_shown(rt.alloc(), *form, page), wanted)?;
+    }
+    Ok(())
+}
 
 #[test]
 fn texts_have_the_language_of_the_innermost_open_element(rt: HostRuntime) -> Result<(), Fail> {

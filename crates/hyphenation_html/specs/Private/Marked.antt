@@ -7,7 +7,8 @@ use Rattle.html_pieces.specs.Bytes.{is_white_space}
 use Rattle.html_pieces.specs.declared.bytes.Form.{Form}
 use Rattle.html_pieces.specs.Forms.{form_of}
 use Rattle.html_pieces.specs.Pieces.{Piece, as_piece, pieces_of}
-use Rattle.html_pieces.specs.Elements.{Element, as_element, innermost, elements_after, page_element}
+use Rattle.html_pieces.specs.Elements.{Element, as_element, page_element}
+use Rattle.html_pieces.specs.Readings.{Reading, at_start, standing, reading_after}
 use Rattle.html_pieces.specs.declared.elements.Element as held
 use Rattle.html_pieces.specs.declared.tokenizer.Piece as cut
 use Rattle.html_pieces.specs.declared.tokenizer.Kind.{Kind}
@@ -15,6 +16,7 @@ use Rattle.html_pieces.specs.declared.tokenizer.Kind.TheVariants.{Text}
 use Rattle.hyphenation_segments.specs.Laws.{with_marks}
 use Rattle.hyphenation_html.specs.Dictionaries.{Breaks}
 use Rattle.hyphenation_html.specs.Languages.{Language, best_of, breaks_under, languages_by}
+use Rattle.hyphenation_html.specs.Places.{is_left_alone}
 use Rattle.hyphenation_html.specs.Touching.{touched_after, touched_before}
 use Rattle.hyphenation_html.specs.Words.{is_left_whole}
 use Rattle.any_dictionary.specs.declared.AnyDictionary.{AnyDictionary}
@@ -45,7 +47,7 @@ marked_text breaks mark before after text = marked_tokens breaks mark before aft
 -- A text of an element with its marks.
 abbrev pub marked_in : List Language → List ℕ → Element → Bool → Bool → List ℕ → List ℕ
 marked_in languages mark element before after text =
-    if element.is_left_alone then text
+    if is_left_alone element text then text
     else option_map_or (λ language. marked_text language.1 mark before after text) (best_of element.language languages) text
 
 -- A piece is text.
@@ -58,12 +60,12 @@ abbrev pub marked_piece : List Language → List ℕ → Element → Bool → Bo
 marked_piece languages mark element before after Text text = marked_in languages mark element before after text
 marked_piece languages mark element before after _ text = text
 
--- Pieces with their marks, within open elements.
-unfoldable pub marked_pieces : List Language → List ℕ → Form → List ℕ → Element → List Element → Bool → List Piece → List ℕ
-marked_pieces languages mark form class page elements before [] = []
-marked_pieces languages mark form class page elements before (p ∷ ps) =
-    marked_piece languages mark (innermost page elements) before (touched_after ps) p.kind p.bytes
-    ++ marked_pieces languages mark form class page (elements_after form class page elements p)
+-- Pieces with their marks, by a reading.
+unfoldable pub marked_pieces : List Language → List ℕ → Form → List ℕ → Element → Reading → Bool → List Piece → List ℕ
+marked_pieces languages mark form class page reading before [] = []
+marked_pieces languages mark form class page reading before (p ∷ ps) =
+    marked_piece languages mark (standing form page reading) before (touched_after ps) p.kind p.bytes
+    ++ marked_pieces languages mark form class page (reading_after form class page reading p)
     (touched_before before p.kind p.bytes) ps
 
 -- ---- the same by the settings and dictionaries of a call
@@ -110,11 +112,12 @@ marked_piece_by settings languages element before after piece =
 -- All pieces of a page with their marks.
 abbrev pub marked_pieces_by : Settings → List LanguageDictionary → Form → held.Element → List cut.Piece → List ℕ
 marked_pieces_by settings languages form page pieces =
-    marked_pieces (languages_by settings languages) settings.mark.now form settings.class.now (as_element page) [] false
+    marked_pieces (languages_by settings languages) settings.mark.now form settings.class.now (as_element page)
+    (at_start form (map as_piece pieces)) false
     (map as_piece pieces)
 
 -- A page with its marks.
 abbrev pub marked_page_by : Settings → List LanguageDictionary → List ℕ → List ℕ → List ℕ
 marked_page_by settings languages language page =
     marked_pieces (languages_by settings languages) settings.mark.now (form_of page) settings.class.now
-    (page_element language) [] false (pieces_of (form_of page) page)
+    (page_element language) (at_start (form_of page) (pieces_of (form_of page) page)) false (pieces_of (form_of page) page)

@@ -3,6 +3,7 @@ use Rattle.std.specs.String.{string_bytes}
 use Rattle.html_pieces.specs.Forms.{form_of}
 use Rattle.html_pieces.specs.Elements.{page_element}
 use Rattle.html_pieces.specs.Pieces.{pieces_of}
+use Rattle.html_pieces.specs.Readings.{at_start}
 use Rattle.std.proofs.lemmas.Result.{IfOk-weaker}
 use Rattle.hyphenation_segments.specs.Laws.{with_marks}
 use Rattle.hyphenation_html.specs.Languages.{languages_by}
@@ -46,4 +47,4 @@ returns-clause-twice c = λ e.
     IfOk-weaker c.written.result _ _
     (λ output is. page_done laws _ (form_of c.args.page.now) settings.class.now c.args.language.now c.args.page.now (string_bytes output) c.all_fit.ensures
     (c.pieces_are_utf8.ensures (form_of c.args.page.now) c.args.page.now c.utf8.page) (c.other_texts_are_cut_alike.ensures (form_of c.args.page.now) c.args.page.now)
-    (is ∙ ap (λ m. marked_pieces (languages_by settings c.args.languages.now) m (form_of c.args.page.now) settings.class.now around [] false pieces) e)) c.written.ensures
+    (is ∙ ap (λ m. marked_pieces (languages_by settings c.args.languages.now) m (form_of c.args.page.now) settings.class.now around (at_start (form_of c.args.page.now) pieces) false pieces) e)) c.written.ensures

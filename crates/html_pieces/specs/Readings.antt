@@ -1,0 +1,637 @@
+-- How far a page is read alike by all parsers: those of HTML with scripting on and off, and for XML those of XML too.
+-- Source: HTML Living Standard, 13.2.4.1 (the insertion mode), 13.2.5 and 13.2.6; Extensible Markup Language 1.0, 2.4 to 2.8.
+-- From the first piece on that may be read otherwise without the whole tree, the page is uncertain up to its end.
+use Rattle.std.specs.Prelude.{ℕ, ◌-◌, ◌==◌, ◌||◌, ◌&&◌, Bool, true, false, not, List, [], ◌∷◌, length, take, codes, nat_eq, nat_lt, Option, Some, None, if◌then◌else◌}
+use Rattle.std.specs.Option.{is_some, option_map_or}
+use Rattle.std.specs.List.{starts_with, ends_with}
+use Rattle.std.specs.Cmp.Lexicographic.{pointwise}
+use Rattle.html_pieces.specs.Bytes.{is_white_space, is_alpha, is_same_name, is_xml}
+use Rattle.html_pieces.specs.Names.{name_of, raw_element, raw_end_tag, is_foreign_root}
+use Rattle.html_pieces.specs.Forms.{after_order_mark, is_start}
+use Rattle.html_pieces.specs.Pieces.{Piece, is_script}
+use Rattle.html_pieces.specs.References.{has_ampersand}
+use Rattle.html_pieces.specs.Groups.{is_one_of, heading_names, ends, stops, bounds, is_table_part, is_heading, is_root, is_special, is_void}
+use Rattle.html_pieces.specs.Elements.{Element, as_elements, innermost, before_new, elements_by, group_by, depth_limit}
+use Rattle.html_pieces.specs.declared.bytes.Form.{Form}
+use Rattle.html_pieces.specs.declared.groups.Group.{Group}
+use Rattle.html_pieces.specs.declared.groups.Group.TheVariants.{Ordinary, Formatting, Paragraph, Division, Heading, Listing, Block, Rule, Item, Term, Choice, Choices, Ruby, Cell, Row, Rows, Caption, Columns, Column, Table, Scope, Root, Head, HeadContent, HeadVoid, Template, Void}
+use Rattle.html_pieces.specs.declared.readings.Phase.{Phase}
+use Rattle.html_pieces.specs.declared.readings.Phase.TheVariants as reached
+use Rattle.html_pieces.specs.declared.readings.Reading as declared
+use Rattle.html_pieces.specs.declared.tokenizer.Kind.{Kind}
+use Rattle.html_pieces.specs.declared.tokenizer.Kind.TheVariants.{Text, Reference, StartTag, EmptyTag, EndTag, Other}
+use Rattle.html_pieces.specs.declared.tokenizer.RawElement.{RawElement}
+
+-- The facts known of a page at a place: the open elements, how far its parts have come, whether its document type is that
+-- of HTML, and whether all parsers have read it alike so far.
+pub record Reading : Type 0 where
+  pub elements : List Element
+  pub phase : Phase
+  pub is_standard : Bool
+  pub is_certain : Bool
+
+-- The same of a reading as the code holds it.
+abbrev pub as_reading : declared.Reading → Reading
+as_reading held = record {
+  elements = as_elements held.elements.items;
+  phase = held.phase;
+  is_standard = held.is_standard;
+  is_certain = held.is_certain;
+}
+
+-- Before the first piece, where a page may be certain.
+abbrev pub started : Bool → Reading
+started certain = record { elements = []; phase = reached.Start; is_standard = false; is_certain = certain }
+
+-- ---- bytes
+
+-- Bytes begin with a word, where ASCII capitals and small letters are alike.
+abbrev pub begins_with_word : List ℕ → List ℕ → Bool
+begins_with_word word bytes = is_same_name (take (length word) bytes) word
+
+-- A word stands somewhere in bytes.
+abbrev pub mentions : List ℕ → List ℕ → Bool
+mentions word [] = false
+mentions word (b ∷ bs) = begins_with_word word (b ∷ bs) || mentions word bs
+
+-- Bytes begin with an ASCII letter.
+abbrev pub begins_with_letter : List ℕ → Bool
+begins_with_letter [] = false
+begins_with_letter (b ∷ bs) = is_alpha b
+
+-- A byte other than white space is in a text.
+abbrev pub has_content : List ℕ → Bool
+has_content [] = false
+has_content (b ∷ bs) = not (is_white_space b) || has_content bs
+
+-- A text has more than white space, but for the byte order mark that it may begin with.
+abbrev pub has_text : List ℕ → Bool
+has_text text = has_content (after_order_mark text)
+
+-- The first ">" is the last byte.
+abbrev pub ends_at_first : List ℕ → Bool
+ends_at_first [] = false
+ends_at_first (b ∷ bs) = if b == 62 then length bs == 0 else ends_at_first bs
+
+-- The byte that quotes what comes next, after one more byte: 0 where nothing is quoted.
+abbrev pub quote_after : ℕ → ℕ → ℕ
+quote_after quote b =
+    if quote == 0 then (if b == 34 || b == 39 then b else 0)
+    else if b == quote then 0
+    else quote
+
+-- A document type has no part in brackets, and each of its identifiers ends before it ends.
+abbrev pub has_closed_quotes : ℕ → List ℕ → Bool
+has_closed_quotes quote [] = quote == 0
+has_closed_quotes quote (b ∷ bs) = not (b == 91) && has_closed_quotes (quote_after quote b) bs
+
+-- ---- pieces that are neither text nor tags
+
+-- A document type.
+abbrev pub is_doctype : List ℕ → Bool
+is_doctype bytes = begins_with_word (codes "<!doctype") bytes
+
+-- The document type of HTML, by which a table ends a paragraph (13.2.6.4.1, no-quirks mode).
+abbrev pub is_html_doctype : List ℕ → Bool
+is_html_doctype bytes = is_same_name bytes (codes "<!doctype html>")
+
+-- A comment that ends in HTML where it does in XML.
+abbrev pub is_comment_alike : List ℕ → Bool
+is_comment_alike bytes =
+    not (starts_with nat_eq bytes (codes "<!-->")) && not (starts_with nat_eq bytes (codes "<!--->"))
+    && not (ends_with nat_eq bytes (codes "--!>"))
+
+-- A piece that is neither text nor tag ends in HTML where it does in XML, outside of raw text. A "<" that begins nothing in
+-- HTML may begin a tag in XML.
+unfoldable pub is_other_alike : List ℕ → Bool
+is_other_alike bytes =
+    if starts_with nat_eq bytes (codes "<!--") then is_comment_alike bytes
+    else if starts_with nat_eq bytes (codes "<?") then ends_at_first bytes && ends_with nat_eq bytes (codes "?>")
+    else if is_doctype bytes then ends_at_first bytes && has_closed_quotes 0 bytes
+    else ends_at_first bytes
+
+-- A "<" alone, which is text.
+abbrev pub is_sign : List ℕ → Bool
+is_sign bytes = pointwise nat_eq bytes (codes "<")
+
+-- ---- elements
+
+-- An element of this name is open, or a heading where the name is that of one.
+abbrev pub is_open : List ℕ → Group → List Element → Bool
+is_open name group [] = false
+is_open name group (e ∷ es) = is_same_name e.name name || is_heading group && is_heading e.group || is_open name group es
+
+-- The nearest drawing or formula around is a drawing.
+abbrev pub is_in_svg : List Element → Bool
+is_in_svg [] = false
+is_in_svg (e ∷ es) = is_same_name e.name (codes "svg") || not (is_same_name e.name (codes "math")) && is_in_svg es
+
+-- The content of an element of this name is raw text, in HTML at least with scripting on.
+abbrev pub is_read_raw : List ℕ → Bool
+is_read_raw name = is_some (raw_element name) || is_same_name name (codes "plaintext") || is_same_name name (codes "noscript")
+
+-- Text in such an element stands elsewhere in the tree (13.2.6.1, foster parents; 13.2.6.4.4, "in head").
+abbrev pub holds_no_text : Group → Bool
+holds_no_text Table = true
+holds_no_text Rows = true
+holds_no_text Row = true
+holds_no_text Columns = true
+holds_no_text Head = true
+holds_no_text _ = false
+
+-- The end tag of an element of a group may be left out.
+abbrev pub may_be_left_out : Group → Bool
+may_be_left_out Paragraph = true
+may_be_left_out Item = true
+may_be_left_out Term = true
+may_be_left_out Choice = true
+may_be_left_out Choices = true
+may_be_left_out Ruby = true
+may_be_left_out Cell = true
+may_be_left_out Row = true
+may_be_left_out Rows = true
+may_be_left_out Caption = true
+may_be_left_out Columns = true
+may_be_left_out Head = true
+may_be_left_out _ = false
+
+-- The element is a paragraph.
+abbrev pub is_paragraph : Group → Bool
+is_paragraph Paragraph = true
+is_paragraph _ = false
+
+-- The element is a table.
+abbrev pub is_whole_table : Group → Bool
+is_whole_table Table = true
+is_whole_table _ = false
+
+-- The end tag of an open element may be left out where one of the first group begins. A table ends a paragraph by the
+-- document type of HTML alone.
+abbrev pub is_left_out_before : Bool → Group → Group → Bool
+is_left_out_before standard new other =
+    may_be_left_out other && (standard || not (is_paragraph other && is_whole_table new))
+
+-- All that an element of a group ends where it begins, among the `left` next ones, has end tags that may be left out. So it is
+-- with those up to the last one that it ends (`so_far`), and with all that were looked at (`all`).
+abbrev pub ends_alike_from : Bool → Group → ℕ → Bool → Bool → List Element → Bool
+ends_alike_from standard new left so_far all [] = so_far
+ends_alike_from standard new left so_far all (e ∷ es) =
+    if left == 0 then so_far
+    else if ends new e.group
+    then ends_alike_from standard new (left - 1) (all && is_left_out_before standard new e.group)
+    (all && is_left_out_before standard new e.group) es
+    else if stops new e.group then so_far
+    else ends_alike_from standard new (left - 1) so_far (all && is_left_out_before standard new e.group) es
+
+-- All that an element of a group ends where it begins has end tags that may be left out.
+abbrev pub ends_alike : Bool → Group → List Element → Bool
+ends_alike standard new elements = ends_alike_from standard new depth_limit true true elements
+
+-- ---- start tags of HTML
+
+-- Tags in SVG and MathML that end these (13.2.6.5): of elements that stand within a line, and of others.
+abbrev pub leaving_phrase_names : List (List ℕ)
+leaving_phrase_names =
+    codes "b" ∷ codes "big" ∷ codes "br" ∷ codes "code" ∷ codes "em" ∷ codes "embed" ∷ codes "font" ∷ codes "i" ∷ codes "img"
+    ∷ codes "nobr" ∷ codes "ruby" ∷ codes "s" ∷ codes "small" ∷ codes "span" ∷ codes "strike" ∷ codes "strong" ∷ codes "sub"
+    ∷ codes "sup" ∷ codes "tt" ∷ codes "u" ∷ codes "var" ∷ []
+
+-- The others of these tags, but for those of headings.
+abbrev pub leaving_block_names : List (List ℕ)
+leaving_block_names =
+    codes "blockquote" ∷ codes "body" ∷ codes "center" ∷ codes "dd" ∷ codes "div" ∷ codes "dl" ∷ codes "dt" ∷ codes "head"
+    ∷ codes "hr" ∷ codes "li" ∷ codes "listing" ∷ codes "menu" ∷ codes "meta" ∷ codes "ol" ∷ codes "p" ∷ codes "pre"
+    ∷ codes "table" ∷ codes "ul" ∷ []
+
+-- A tag of such a name ends SVG and MathML.
+abbrev pub is_leaving : List ℕ → Bool
+is_leaving name = is_one_of leaving_phrase_names name || is_one_of leaving_block_names name || is_one_of heading_names name
+
+-- The integration points of SVG.
+abbrev pub svg_points : List (List ℕ)
+svg_points = codes "desc" ∷ codes "foreignObject" ∷ codes "title" ∷ []
+
+-- The integration points of MathML by their names.
+abbrev pub math_points : List (List ℕ)
+math_points = codes "mi" ∷ codes "mn" ∷ codes "mo" ∷ codes "ms" ∷ codes "mtext" ∷ []
+
+-- An annotation of MathML whose content may be HTML, by its tag.
+abbrev pub may_hold_html : List ℕ → List ℕ → Bool
+may_hold_html name tag = is_same_name name (codes "annotation-xml") && (mentions (codes "html") tag || has_ampersand tag)
+
+-- A start tag in SVG or MathML opens an element there. An integration point is one of its own namespace.
+unfoldable pub is_foreign_start_alike : List Element → List ℕ → List ℕ → Bool
+is_foreign_start_alike elements name tag =
+    if is_leaving name then false
+    else if is_one_of svg_points name then is_in_svg elements
+    else if is_one_of math_points name then not (is_in_svg elements)
+    else not (may_hold_html name tag)
+
+-- Names of elements that HTML reads otherwise than others of their group.
+abbrev pub odd_names : List (List ℕ)
+odd_names =
+    codes "frameset" ∷ codes "image" ∷ codes "malignmark" ∷ codes "mglyph" ∷ codes "rb" ∷ codes "rtc" ∷ []
+
+-- The element is an option, or a group of them.
+abbrev pub is_choice : Group → Bool
+is_choice Choice = true
+is_choice Choices = true
+is_choice _ = false
+
+-- Elements may begin that are no parts of tables or selections: `around` is the innermost element before what the new one
+-- ends, and `within` the one after it.
+abbrev pub takes_content : Element → Element → Bool
+takes_content around within =
+    not (is_choice around.group) && not (holds_no_text within.group) && not (is_same_name within.name (codes "select"))
+
+-- It is a template.
+abbrev pub is_template : Group → Bool
+is_template Template = true
+is_template _ = false
+
+-- It is the element of a head.
+abbrev pub is_head : Group → Bool
+is_head Head = true
+is_head _ = false
+
+-- An element that a head may have may begin: where content may, in a head, and some in a table.
+abbrev pub takes_head_content : Element → Element → Group → List ℕ → Bool
+takes_head_content around within new name =
+    not (is_choice around.group) && not (is_same_name within.name (codes "select"))
+    && (not (holds_no_text within.group) || is_head within.group || is_template new || is_same_name name (codes "script")
+    || is_same_name name (codes "style"))
+
+-- Where cells, rows, row groups or captions, groups of columns, and columns may begin.
+abbrev pub takes_cells : Group → Bool
+takes_cells Table = true
+takes_cells Rows = true
+takes_cells Row = true
+takes_cells Template = true
+takes_cells _ = false
+
+-- Where a row may begin.
+abbrev pub takes_rows : Group → Bool
+takes_rows Table = true
+takes_rows Rows = true
+takes_rows Template = true
+takes_rows _ = false
+
+-- Where a row group or a caption may begin.
+abbrev pub takes_row_groups : Group → Bool
+takes_row_groups Table = true
+takes_row_groups Template = true
+takes_row_groups _ = false
+
+-- Where a column may begin.
+abbrev pub takes_columns : Group → Bool
+takes_columns Table = true
+takes_columns Columns = true
+takes_columns _ = false
+
+-- Nothing has come but a document type, comments and white space.
+abbrev pub is_before_root : Phase → Bool
+is_before_root reached.Start = true
+is_before_root reached.Typed = true
+is_before_root _ = false
+
+-- Nothing has come of a head.
+abbrev pub is_before_head : Phase → Bool
+is_before_head reached.Start = true
+is_before_head reached.Typed = true
+is_before_head reached.Root = true
+is_before_head _ = false
+
+-- Nothing has come of a body.
+abbrev pub is_before_body : Phase → Bool
+is_before_body reached.Body = false
+is_before_body _ = true
+
+-- The element of the page or its body may begin: each once, before all that it holds.
+abbrev pub takes_root : Phase → Element → List ℕ → Bool
+takes_root phase within name =
+    if is_same_name name (codes "html") then is_before_root phase else is_before_body phase && is_root within.group
+
+-- Elements that may not stand within one of their own name, in three groups.
+abbrev pub button_names : List (List ℕ)
+button_names = codes "button" ∷ []
+
+-- A form may not stand within another one.
+abbrev pub form_names : List (List ℕ)
+form_names = codes "form" ∷ []
+
+-- A link may not stand within another one.
+abbrev pub link_names : List (List ℕ)
+link_names = codes "a" ∷ codes "nobr" ∷ []
+
+-- An element of a name is not open, where it may not stand within another one.
+abbrev pub is_alone : List (List ℕ) → List ℕ → List Element → Bool
+is_alone names name elements = not (is_one_of names name && is_open name Ordinary elements)
+
+-- An element of a group may begin where it does: all parsers put it there. `standard` is the document type of HTML.
+unfoldable pub is_expected : Phase → Element → Element → List Element → Group → List ℕ → Bool
+is_expected phase around within elements Root name = takes_root phase within name
+is_expected phase around within elements Head name = is_before_head phase && is_root within.group
+is_expected phase around within elements HeadContent name = takes_head_content around within HeadContent name
+is_expected phase around within elements HeadVoid name = takes_head_content around within HeadVoid name
+is_expected phase around within elements Template name = takes_head_content around within Template name
+is_expected phase around within elements Cell name = takes_cells within.group
+is_expected phase around within elements Row name = takes_rows within.group
+is_expected phase around within elements Rows name = takes_row_groups within.group
+is_expected phase around within elements Caption name = takes_row_groups within.group
+is_expected phase around within elements Columns name = is_whole_table within.group
+is_expected phase around within elements Column name = takes_columns within.group
+is_expected phase around within elements Choice name = not (holds_no_text within.group)
+is_expected phase around within elements Choices name = is_same_name within.name (codes "select")
+is_expected phase around within elements Ruby name = is_same_name within.name (codes "ruby")
+is_expected phase around within elements Heading name = takes_content around within && not (is_heading within.group)
+is_expected phase around within elements Scope name = takes_content around within && is_alone button_names name elements
+is_expected phase around within elements Block name = takes_content around within && is_alone form_names name elements
+is_expected phase around within elements Formatting name =
+    takes_content around within && is_alone link_names name elements
+is_expected phase around within elements Ordinary name = takes_content around within && not (is_one_of odd_names name)
+is_expected phase around within elements _ name = takes_content around within
+
+-- The content of an element is read alike by all: within a drawing it is no raw text, and `noscript` is not within another one.
+abbrev pub is_content_alike : Element → List ℕ → Bool
+is_content_alike around name =
+    not (around.is_in_drawing && is_read_raw name) && not (around.is_in_noscript && is_same_name name (codes "noscript"))
+
+-- The text of an element of a group may be put elsewhere by the end tag of a formatting element around it (13.2.6.4.7, the
+-- adoption agency algorithm), where a language is named between the two.
+abbrev pub may_be_adopted : Element → Group → List ℕ → Bool
+may_be_adopted within new name =
+    within.is_altered && not within.is_in_drawing && is_special new && not (is_void new) && not (is_foreign_root name)
+
+-- A start tag of HTML is read alike by all parsers, outside of SVG and MathML.
+abbrev pub is_html_start_alike : Element → Reading → Group → List ℕ → Bool
+is_html_start_alike page reading new name =
+    is_content_alike (innermost page reading.elements) name && ends_alike reading.is_standard new reading.elements
+    && not (may_be_adopted (innermost page (before_new new reading.elements)) new name)
+    && is_expected reading.phase (innermost page reading.elements) (innermost page (before_new new reading.elements))
+    reading.elements new name
+
+-- A start tag of a page in HTML is read alike by all parsers.
+abbrev pub is_start_alike : Element → Reading → Group → List ℕ → Bool
+is_start_alike page reading new tag =
+    if (innermost page reading.elements).is_foreign then is_foreign_start_alike reading.elements (name_of tag) tag
+    else is_html_start_alike page reading new (name_of tag)
+
+-- ---- end tags of HTML
+
+-- An end tag of the group closes paragraphs, items and terms that are in its element: "generate implied end tags".
+abbrev pub closes_blocks : Group → Bool
+closes_blocks Root = false
+closes_blocks Head = false
+closes_blocks HeadContent = false
+closes_blocks HeadVoid = false
+closes_blocks Columns = false
+closes_blocks tag = is_special tag
+
+-- An end tag of the group closes cells; rows too; row groups, captions and groups of columns too.
+abbrev pub closes_cells : Group → Bool
+closes_cells Row = true
+closes_cells Rows = true
+closes_cells Table = true
+closes_cells Template = true
+closes_cells _ = false
+
+-- An end tag of the group closes rows.
+abbrev pub closes_rows : Group → Bool
+closes_rows Rows = true
+closes_rows Table = true
+closes_rows Template = true
+closes_rows _ = false
+
+-- An end tag of the first group closes an element of the second that is in its own and has no end tag.
+unfoldable pub is_left_out_in : Group → Group → Bool
+is_left_out_in tag Ruby = true
+is_left_out_in tag Choice = true
+is_left_out_in tag Choices = true
+is_left_out_in tag Paragraph = closes_blocks tag
+is_left_out_in tag Item = closes_blocks tag
+is_left_out_in tag Term = closes_blocks tag
+is_left_out_in tag Cell = closes_cells tag
+is_left_out_in tag Row = closes_rows tag
+is_left_out_in tag Rows = takes_row_groups tag
+is_left_out_in tag Caption = takes_row_groups tag
+is_left_out_in tag Columns = takes_row_groups tag
+is_left_out_in tag _ = false
+
+-- All that an end tag closes in its element, among the `left` next ones, has no end tag by these rules; none where its element
+-- is not found. `all` says so of those before.
+abbrev pub closes_alike_from : List ℕ → Group → ℕ → Bool → List Element → Option Bool
+closes_alike_from name tag left all [] = None
+closes_alike_from name tag left all (e ∷ es) =
+    if left == 0 then None
+    else if is_same_name e.name name || is_heading tag && is_heading e.group then Some all
+    else if bounds tag e.group then None
+    else closes_alike_from name tag (left - 1) (all && is_left_out_in tag e.group) es
+
+-- An end tag without an element is passed by: none of its name is open, and it is no part of a table, no "br", and no
+-- paragraph where none may stand.
+abbrev pub is_passed_by : Element → Group → List ℕ → List Element → Bool
+is_passed_by around tag name elements =
+    not (is_table_part tag) && not (is_same_name name (codes "br")) && not (is_paragraph tag && holds_no_text around.group)
+    && not (is_open name tag elements)
+
+-- An element is read otherwise with scripting than without, or stands in a template: what it holds begins no body.
+abbrev pub is_hidden : Element → Bool
+is_hidden e = e.is_in_noscript || e.is_in_template
+
+-- An end tag of HTML is read alike by all parsers, outside of SVG and MathML.
+abbrev pub is_html_end_alike : Element → Group → List ℕ → List Element → Bool
+is_html_end_alike around tag name elements =
+    if is_root tag then not (is_hidden around)
+    else option_map_or (λ all. all) (closes_alike_from name tag depth_limit true elements) (is_passed_by around tag name elements)
+
+-- An end tag of a page in HTML is read alike by all parsers. In a drawing it is that of the innermost element.
+abbrev pub is_end_alike : Element → Reading → Group → List ℕ → Bool
+is_end_alike page reading tag name =
+    if (innermost page reading.elements).is_in_drawing then is_same_name (innermost page reading.elements).name name
+    else is_html_end_alike (innermost page reading.elements) tag name reading.elements
+
+-- ---- other pieces of HTML
+
+-- Text stands where it is read.
+abbrev pub is_content_here : Element → Bool
+is_content_here around = not (holds_no_text around.group)
+
+-- A section of CDATA in a drawing's text in HTML, which is none there.
+abbrev pub is_odd_section : Element → List ℕ → Bool
+is_odd_section around bytes = around.is_in_drawing && not around.is_foreign && starts_with nat_eq bytes (codes "<![CDATA[")
+
+-- A piece of HTML that is neither text nor tag is read alike by all parsers: before the root by those of XML too.
+abbrev pub is_html_other_alike : Element → Phase → List ℕ → Bool
+is_html_other_alike around phase bytes =
+    if is_before_root phase then is_other_alike bytes
+    else if is_sign bytes then is_content_here around
+    else not (is_odd_section around bytes)
+
+-- A piece of a page in HTML is read alike by all parsers.
+abbrev pub is_html_alike : Element → Reading → Group → Kind → List ℕ → Bool
+is_html_alike page reading group Text bytes = not (has_text bytes) || is_content_here (innermost page reading.elements)
+is_html_alike page reading group Reference bytes = is_content_here (innermost page reading.elements)
+is_html_alike page reading group StartTag bytes = is_start_alike page reading group bytes
+is_html_alike page reading group EmptyTag bytes = is_start_alike page reading group bytes
+is_html_alike page reading group EndTag bytes = is_end_alike page reading group (name_of bytes)
+is_html_alike page reading group Other bytes = is_html_other_alike (innermost page reading.elements) reading.phase bytes
+
+-- ---- pieces of XML
+
+-- Raw text in HTML goes on over a piece: it has no end tag of the element, and a script has no tag of one.
+abbrev pub stays_raw : RawElement → List ℕ → Bool
+stays_raw element bytes =
+    not (mentions (raw_end_tag element) bytes) && not (is_script element && mentions (codes "<script") bytes)
+
+-- A start tag of XML begins as one of HTML does, and opens no content there that it does not hold here.
+abbrev pub is_xml_start_alike : Element → List ℕ → Bool
+is_xml_start_alike around name =
+    begins_with_letter name && not (is_some (raw_element around.name)) && not (is_same_name name (codes "plaintext"))
+    && not (is_same_name name (codes "frameset")) && not (around.is_in_noscript && is_same_name name (codes "noscript"))
+
+-- A tag of XML with "/>".
+abbrev pub is_xml_empty_alike : Element → List ℕ → Bool
+is_xml_empty_alike around name = is_xml_start_alike around name && not (is_read_raw name)
+
+-- A piece of XML that is neither text nor tag.
+abbrev pub is_xml_other_alike : Element → List ℕ → Bool
+is_xml_other_alike around bytes =
+    option_map_or (λ element. stays_raw element bytes) (raw_element around.name) (is_other_alike bytes)
+
+-- A piece of XML is read alike by all parsers. Each end tag is that of the innermost element.
+abbrev pub is_xml_alike : Element → Kind → List ℕ → Bool
+is_xml_alike around Text bytes = true
+is_xml_alike around Reference bytes = true
+is_xml_alike around StartTag bytes = is_xml_start_alike around (name_of bytes)
+is_xml_alike around EmptyTag bytes = is_xml_empty_alike around (name_of bytes)
+is_xml_alike around EndTag bytes = pointwise nat_eq around.name (name_of bytes)
+is_xml_alike around Other bytes = is_xml_other_alike around bytes
+
+-- ---- all pieces
+
+-- With scripting on, the text of a `noscript` goes on over a piece.
+abbrev pub is_in_raw_noscript : Element → List ℕ → Bool
+is_in_raw_noscript around bytes = not (around.is_in_noscript && mentions (codes "</noscript") bytes)
+
+-- With scripting on, the text of a `noscript` goes on over a piece, or ends with its end tag.
+abbrev pub stays_in_noscript : Element → Kind → List ℕ → Bool
+stays_in_noscript around Text bytes = true
+stays_in_noscript around Reference bytes = true
+stays_in_noscript around EndTag bytes =
+    is_same_name (name_of bytes) (codes "noscript") || is_in_raw_noscript around bytes
+stays_in_noscript around _ bytes = is_in_raw_noscript around bytes
+
+-- A piece is read alike by all parsers.
+abbrev pub is_alike_by : Form → Element → Reading → Group → Kind → List ℕ → Bool
+is_alike_by form page reading group kind bytes =
+    nat_lt (length reading.elements) depth_limit
+    && stays_in_noscript (innermost page reading.elements) kind bytes
+    && (if is_xml form then is_xml_alike (innermost page reading.elements) kind bytes
+    else is_html_alike page reading group kind bytes)
+
+-- ---- how far a page has come
+
+-- After text, and all that a body alone has.
+abbrev pub body_unless : Bool → Phase → Phase
+body_unless is_kept phase = if is_kept then phase else reached.Body
+
+-- After an element that a head may have.
+abbrev pub head_from : Phase → Phase
+head_from reached.Body = reached.Body
+head_from _ = reached.Head
+
+-- After a start tag, whose element is of a group.
+abbrev pub phase_after_start : Bool → Phase → Group → List ℕ → Phase
+phase_after_start hidden phase Root name = if is_same_name name (codes "html") then reached.Root else reached.Body
+phase_after_start hidden phase Head name = reached.Head
+phase_after_start hidden phase HeadContent name = if hidden then phase else head_from phase
+phase_after_start hidden phase HeadVoid name = if hidden then phase else head_from phase
+phase_after_start hidden phase Template name = if hidden then phase else head_from phase
+phase_after_start hidden phase _ name = body_unless hidden phase
+
+-- After a document type, a "<" that is text, or another piece.
+abbrev pub phase_after_other : Element → Phase → List ℕ → Phase
+phase_after_other around reached.Start bytes = if is_doctype bytes then reached.Typed else reached.Start
+phase_after_other around phase bytes =
+    body_unless (is_hidden around || is_some (raw_element around.name) || not (is_sign bytes)) phase
+
+-- After a piece.
+abbrev pub phase_after : Element → Phase → Group → Kind → List ℕ → Phase
+phase_after around phase group Text bytes = body_unless (is_hidden around || not (has_text bytes)) phase
+phase_after around phase group Reference bytes = body_unless (is_hidden around) phase
+phase_after around phase group StartTag bytes = phase_after_start (is_hidden around) phase group (name_of bytes)
+phase_after around phase group EmptyTag bytes = phase_after_start (is_hidden around) phase group (name_of bytes)
+phase_after around phase group EndTag bytes = body_unless (not (is_root group)) phase
+phase_after around phase group Other bytes = phase_after_other around phase bytes
+
+-- After a document type, a comment or the like.
+abbrev pub standard_after_other : Bool → Phase → List ℕ → Bool
+standard_after_other standard reached.Start bytes = is_html_doctype bytes
+standard_after_other standard _ bytes = standard
+
+-- The document type of HTML has come, before all else.
+abbrev pub standard_after : Bool → Phase → Kind → List ℕ → Bool
+standard_after standard phase Other bytes = standard_after_other standard phase bytes
+standard_after standard phase _ bytes = standard
+
+-- The reading after a piece of one kind, whose element is of a group.
+abbrev pub read_by : Form → List ℕ → Element → Reading → Group → Piece → Reading
+read_by form class page reading group p = record {
+  elements = elements_by form class group p.kind p.bytes page reading.elements;
+  phase = phase_after (innermost page reading.elements) reading.phase group p.kind p.bytes;
+  is_standard = standard_after reading.is_standard reading.phase p.kind p.bytes;
+  is_certain = is_alike_by form page reading group p.kind p.bytes;
+}
+
+-- The reading after a piece. Once it is uncertain, it stays as it is.
+abbrev pub reading_after : Form → List ℕ → Element → Reading → Piece → Reading
+reading_after form class page reading p =
+    if reading.is_certain
+    then read_by form class page reading (group_by form (innermost page reading.elements) p.kind p.bytes) p
+    else reading
+
+-- A piece is text of the body, whatever is around it.
+abbrev pub is_read_text : Kind → List ℕ → Bool
+is_read_text Text bytes = has_text bytes
+is_read_text Reference bytes = true
+is_read_text _ bytes = false
+
+-- A start tag of the element of the page, or of its body.
+abbrev pub is_root_start : Kind → List ℕ → Bool
+is_root_start kind bytes =
+    is_start kind && (is_same_name (name_of bytes) (codes "html") || is_same_name (name_of bytes) (codes "body"))
+
+-- The start tag of the page or its body comes after text (`seen`), and gives its attributes to what is around that text.
+abbrev pub has_late_root : Bool → List Piece → Bool
+has_late_root seen [] = false
+has_late_root seen (p ∷ ps) = seen && is_root_start p.kind p.bytes || has_late_root (seen || is_read_text p.kind p.bytes) ps
+
+-- Before the first of the pieces of a page.
+abbrev pub at_start : Form → List Piece → Reading
+at_start form pieces = started (is_xml form || not (has_late_root false pieces))
+
+-- A text is left alone where the reading is uncertain, where it stands elsewhere in the tree, and in XML outside of the root.
+abbrev pub is_unread : Form → Reading → Element → Bool
+is_unread form reading around =
+    not reading.is_certain || holds_no_text around.group || is_xml form && length reading.elements == 0
+
+-- The element that a text stands in, by a reading.
+abbrev pub standing_in : Form → Reading → Element → Element
+standing_in form reading around = record {
+  name = around.name;
+  group = around.group;
+  language = around.language;
+  is_apart = around.is_apart;
+  is_translated = around.is_translated;
+  is_foreign = around.is_foreign;
+  is_in_drawing = around.is_in_drawing;
+  is_in_noscript = around.is_in_noscript;
+  is_in_template = around.is_in_template;
+  is_in_formatting = around.is_in_formatting;
+  is_altered = around.is_altered;
+  is_left_alone = around.is_left_alone || is_unread form reading around;
+}
+
+-- The element that a text stands in.
+abbrev pub standing : Form → Element → Reading → Element
+standing form page reading = standing_in form reading (innermost page reading.elements)

@@ -1,0 +1,1085 @@
+//! How far a page is read alike by all parsers, whatever its tree is.
+
+ghost use Rattle.std.specs.Prelude.{◌≡◌, ◌==◌, ◌||◌, ◌&&◌, not, map, Bool, OnOk, OnErr};
+ghost use Rattle.std.specs.Option.{option_map_or};
+ghost use Rattle.html_pieces.specs.Groups.{is_one_of};
+ghost use Rattle.html_pieces.specs.Elements.{as_element, as_elements, depth_limit};
+ghost use Rattle.html_pieces.specs.Readings.{as_reading, at_start, has_text, may_be_adopted, is_read_text, is_root_start, has_late_root};
+ghost use Rattle.html_pieces.specs.Readings.{begins_with_word, mentions, begins_with_letter, has_content};
+ghost use Rattle.html_pieces.specs.Readings.{ends_at_first, quote_after, has_closed_quotes, is_doctype, is_html_doctype};
+ghost use Rattle.html_pieces.specs.Readings.{is_comment_alike, is_other_alike, is_sign, is_open, is_in_svg, is_read_raw};
+ghost use Rattle.html_pieces.specs.Readings.{holds_no_text, may_be_left_out, is_paragraph, is_whole_table, is_left_out_before};
+ghost use Rattle.html_pieces.specs.Readings.{ends_alike, ends_alike_from, svg_points, math_points, may_hold_html};
+ghost use Rattle.html_pieces.specs.Readings.{leaving_phrase_names, leaving_block_names, is_leaving};
+ghost use Rattle.html_pieces.specs.Readings.{is_foreign_start_alike, odd_names, is_choice, takes_content, is_template, is_head};
+ghost use Rattle.html_pieces.specs.Readings.{takes_head_content, takes_cells, takes_rows, takes_row_groups, takes_columns};
+ghost use Rattle.html_pieces.specs.Readings.{is_before_root, is_before_head, is_before_body, takes_root, is_alone, is_expected};
+ghost use Rattle.html_pieces.specs.Readings.{button_names, form_names, link_names};
+ghost use Rattle.html_pieces.specs.Readings.{is_content_alike, is_html_start_alike, is_start_alike, closes_blocks, closes_cells};
+ghost use Rattle.html_pieces.specs.Readings.{closes_rows, is_left_out_in, closes_alike_from, is_passed_by, is_hidden};
+ghost use Rattle.html_pieces.specs.Readings.{is_html_end_alike, is_end_alike, is_content_here, is_odd_section, is_html_other_alike};
+ghost use Rattle.html_pieces.specs.Readings.{is_html_alike, stays_raw, is_xml_start_alike, is_xml_empty_alike, is_xml_other_alike};
+ghost use Rattle.html_pieces.specs.Readings.{is_xml_alike, is_in_raw_noscript, stays_in_noscript, is_alike_by, body_unless, head_from};
+ghost use Rattle.html_pieces.specs.Readings.{phase_after_start, phase_after_other, phase_after, reading_after};
+ghost use Rattle.html_pieces.specs.Readings.{standard_after_other, standard_after, is_unread, standing};
+ghost use Rattle.html_pieces.specs.Pieces.{as_piece, is_script};
+
+use crate::bytes::{Form, is_alpha, is_same_name, is_white_space};
+use crate::elements::{DEPTH_LIMIT, Element, before_new, group_by, innermost};
+use crate::forms::{after_order_mark, is_start};
+use crate::groups::{
+    Group, bounds, ends, is_heading, is_heading_name, is_root, is_special, is_table_part, is_void,
+    stops,
+};
+use crate::references::has_ampersand;
+use crate::tokenizer::{Kind, Piece, RawElement, is_foreign_root, name_of, raw_element};
+use std::alloc::{AllocError, Global};
+
+/// How far the parts of a page have come.
+#[derive(Clone, Copy, Debug, PartialEq, Eq)]
+pub enum Phase {
+    /// Nothing has come but comments and white space.
+    Start,
+    /// A document type has come.
+    Typed,
+    /// The start tag of `html` has come.
+    Root,
+    /// A part of the head has come.
+    Head,
+    /// A part of the body has come.
+    Body,
+}
+
+/// The facts that are known of a page at a place.
+#[derive(Debug, Drop)]
+pub struct Reading<'t> {
+    /// The open elements, the innermost one last.
+    pub elements: Vec<Element<'t>>,
+    pub phase: Phase,
+    /// Whether the document type is that of HTML.
+    pub is_standard: bool,
+    /// Whether all parsers have read the page alike so far.
+    pub is_certain: bool,
+}
+
+impl<'t> Reading<'t> {
+    /// Returns what is known before the first of the pieces of a page.
+    pub fn new(alloc: Global, form: Form, pieces: &[Piece<'t>]) -> Reading<'t>
+        ensures { as_reading result ≡ at_start form (map as_piece pieces.now) }
+    {
+        Reading {
+            elements: Vec::new(alloc),
+            phase: Phase::Start,
+            is_standard: false,
+            is_certain: form.is_xml() || !has_late_root(pieces),
+        }
+    }
+}
+
+// ---- bytes
+
+fn begins_with_word(word: &[u8], bytes: &[u8]) -> bool
+    ensures { result ≡ begins_with_word word.now bytes.now }
+{
+    if bytes.len() < word.len() {
+        is_same_name(bytes, word)
+    } else {
+        is_same_name(&bytes[..word.len()], word)
+    }
+}
+
+/// Whether a word stands somewhere in bytes.
+fn mentions(word: &[u8], bytes: &[u8]) -> bool
+    ensures { result ≡ mentions word.now bytes.now }
+{
+    for i in 0..bytes.len() {
+        if begins_with_word(word, &bytes[i..]) {
+            return true;
+        }
+    }
+    false
+}
+
+fn begins_with_letter(bytes: &[u8]) -> bool
+    ensures { result ≡ begins_with_letter bytes.now }
+{
+    match bytes {
+        [] => false,
+        [first, ..] => is_alpha(*first),
+    }
+}
+
+/// Whether a byte other than white space is in a text.
+fn has_content(text: &[u8]) -> bool
+    ensures { result ≡ has_content text.now }
+{
+    for byte in text {
+        if !is_white_space(*byte) {
+            return true;
+        }
+    }
+    false
+}
+
+/// Whether a text has more than white space, but for the byte order mark that it may begin with.
+fn has_text(text: &[u8]) -> bool
+    ensures { result ≡ has_text text.now }
+{
+    has_content(after_order_mark(text))
+}
+
+/// Whether the first `>` is the last byte.
+fn ends_at_first(bytes: &[u8]) -> bool
+    ensures { result ≡ ends_at_first bytes.now }
+{
+    for i in 0..bytes.len() {
+        if bytes[i] == b'>' {
+            return i + 1 == bytes.len();
+        }
+    }
+    false
+}
+
+fn quote_after(quote: u8, byte: u8) -> u8
+    ensures { result ≡ quote_after quote byte }
+{
+    if quote == 0 {
+        if byte == b'"' || byte == b'\'' {
+            byte
+        } else {
+            0
+        }
+    } else if byte == quote {
+        0
+    } else {
+        quote
+    }
+}
+
+/// Whether a document type has no part in brackets, and each of its identifiers ends before it does.
+fn has_closed_quotes(bytes: &[u8]) -> bool
+    ensures { result ≡ has_closed_quotes 0 bytes.now }
+{
+    let mut quote = 0;
+    for byte in bytes {
+        if *byte == b'[' {
+            return false;
+        }
+        quote = quote_after(quote, *byte);
+    }
+    quote == 0
+}
+
+// ---- pieces that are neither text nor tags
+
+fn is_doctype(bytes: &[u8]) -> bool
+    ensures { result ≡ is_doctype bytes.now }
+{
+    begins_with_word(b"<!doctype", bytes)
+}
+
+fn is_html_doctype(bytes: &[u8]) -> bool
+    ensures { result ≡ is_html_doctype bytes.now }
+{
+    is_same_name(bytes, b"<!doctype html>")
+}
+
+fn is_comment_alike(bytes: &[u8]) -> bool
+    ensures { result ≡ is_comment_alike bytes.now }
+{
+    !bytes.starts_with(b"<!-->") && !bytes.starts_with(b"<!--->") && !bytes.ends_with(b"--!>")
+}
+
+/// Whether a piece that is neither text nor tag ends in HTML where it does in XML.
+#[tactic(auto, unfolding(crate::specs::Readings::is_other_alike))]
+fn is_other_alike(bytes: &[u8]) -> bool
+    ensures { result ≡ is_other_alike bytes.now }
+{
+    if bytes.starts_with(b"<!--") {
+        is_comment_alike(bytes)
+    } else if bytes.starts_with(b"<?") {
+        ends_at_first(bytes) && bytes.ends_with(b"?>")
+    } else if is_doctype(bytes) {
+        ends_at_first(bytes) && has_closed_quotes(bytes)
+    } else {
+        ends_at_first(bytes)
+    }
+}
+
+/// Whether a piece is a `<` alone.
+fn is_sign(bytes: &[u8]) -> bool
+    ensures { result ≡ is_sign bytes.now }
+{
+    bytes == b"<".as_slice()
+}
+
+// ---- elements
+
+/// Whether an element of a name is open, or a heading where the name is that of one.
+fn is_open(name: &[u8], group: Group, elements: &[Element<'_>]) -> bool
+    ensures { result ≡ is_open name.now group (as_elements elements.now) }
+{
+    let mut i = elements.len();
+    while i > 0 {
+        i -= 1;
+        if is_same_name(elements[i].name, name)
+            || is_heading(group) && is_heading(elements[i].group)
+        {
+            return true;
+        }
+    }
+    false
+}
+
+/// Whether the nearest drawing or formula around is a drawing.
+fn is_in_svg(elements: &[Element<'_>]) -> bool
+    ensures { result ≡ is_in_svg (as_elements elements.now) }
+{
+    let mut i = elements.len();
+    while i > 0 {
+        i -= 1;
+        if is_same_name(elements[i].name, b"svg") {
+            return true;
+        }
+        if is_same_name(elements[i].name, b"math") {
+            return false;
+        }
+    }
+    false
+}
+
+/// Whether the content of an element of this name is raw text, in HTML at least with scripting on.
+fn is_read_raw(name: &[u8]) -> bool
+    ensures { result ≡ is_read_raw name.now }
+{
+    raw_element(name).is_some()
+        || is_same_name(name, b"plaintext")
+        || is_same_name(name, b"noscript")
+}
+
+const fn holds_no_text(group: Group) -> bool
+    ensures { result ≡ holds_no_text group }
+{
+    matches!(
+        group,
+        Group::Table | Group::Rows | Group::Row | Group::Columns | Group::Head
+    )
+}
+
+const fn may_be_left_out(group: Group) -> bool
+    ensures { result ≡ may_be_left_out group }
+{
+    matches!(
+        group,
+        Group::Paragraph
+            | Group::Item
+            | Group::Term
+            | Group::Choice
+            | Group::Choices
+            | Group::Ruby
+            | Group::Cell
+            | Group::Row
+            | Group::Rows
+            | Group::Caption
+            | Group::Columns
+            | Group::Head
+    )
+}
+
+const fn is_paragraph(group: Group) -> bool
+    ensures { result ≡ is_paragraph group }
+{
+    matches!(group, Group::Paragraph)
+}
+
+const fn is_whole_table(group: Group) -> bool
+    ensures { result ≡ is_whole_table group }
+{
+    matches!(group, Group::Table)
+}
+
+/// Whether the end tag of an open element may be left out where one of a group begins.
+const fn is_left_out_before(standard: bool, new: Group, other: Group) -> bool
+    ensures { result ≡ is_left_out_before standard new other }
+{
+    may_be_left_out(other) && (standard || !(is_paragraph(other) && is_whole_table(new)))
+}
+
+/// Whether all that an element of a group ends where it begins has end tags that may be left out.
+#[tactic(auto, using(crate::proofs::Limits::so_far_at_limit))]
+fn ends_alike(standard: bool, new: Group, elements: &[Element<'_>]) -> bool
+    ensures { result ≡ ends_alike standard new (as_elements elements.now) }
+{
+    let mut so_far = true;
+    let mut all = true;
+    let mut left = DEPTH_LIMIT;
+    let mut i = elements.len();
+    while i > 0 {
+        if left == 0 {
+            return so_far;
+        }
+        i -= 1;
+        left -= 1;
+        let other = elements[i].group;
+        all = all && is_left_out_before(standard, new, other);
+        if ends(new, other) {
+            so_far = all;
+        } else if stops(new, other) {
+            return so_far;
+        }
+    }
+    so_far
+}
+
+// ---- start tags of HTML
+
+/// Whether a tag of an element within a line ends SVG and MathML.
+fn is_leaving_phrase(name: &[u8]) -> bool
+    ensures { result ≡ is_one_of leaving_phrase_names name.now }
+{
+    is_same_name(name, b"b")
+        || is_same_name(name, b"big")
+        || is_same_name(name, b"br")
+        || is_same_name(name, b"code")
+        || is_same_name(name, b"em")
+        || is_same_name(name, b"embed")
+        || is_same_name(name, b"font")
+        || is_same_name(name, b"i")
+        || is_same_name(name, b"img")
+        || is_same_name(name, b"nobr")
+        || is_same_name(name, b"ruby")
+        || is_same_name(name, b"s")
+        || is_same_name(name, b"small")
+        || is_same_name(name, b"span")
+        || is_same_name(name, b"strike")
+        || is_same_name(name, b"strong")
+        || is_same_name(name, b"sub")
+        || is_same_name(name, b"sup")
+        || is_same_name(name, b"tt")
+        || is_same_name(name, b"u")
+        || is_same_name(name, b"var")
+}
+
+/// Whether a tag of another element ends SVG and MathML.
+fn is_leaving_block(name: &[u8]) -> bool
+    ensures { result ≡ is_one_of leaving_block_names name.now }
+{
+    is_same_name(name, b"blockquote")
+        || is_same_name(name, b"body")
+        || is_same_name(name, b"center")
+        || is_same_name(name, b"dd")
+        || is_same_name(name, b"div")
+        || is_same_name(name, b"dl")
+        || is_same_name(name, b"dt")
+        || is_same_name(name, b"head")
+        || is_same_name(name, b"hr")
+        || is_same_name(name, b"li")
+        || is_same_name(name, b"listing")
+        || is_same_name(name, b"menu")
+        || is_same_name(name, b"meta")
+        || is_same_name(name, b"ol")
+        || is_same_name(name, b"p")
+        || is_same_name(name, b"pre")
+        || is_same_name(name, b"table")
+        || is_same_name(name, b"ul")
+}
+
+/// Whether a tag of a name ends SVG and MathML.
+fn is_leaving(name: &[u8]) -> bool
+    ensures { result ≡ is_leaving name.now }
+{
+    is_leaving_phrase(name) || is_leaving_block(name) || is_heading_name(name)
+}
+
+fn is_svg_point(name: &[u8]) -> bool
+    ensures { result ≡ is_one_of svg_points name.now }
+{
+    is_same_name(name, b"desc")
+        || is_same_name(name, b"foreignObject")
+        || is_same_name(name, b"title")
+}
+
+fn is_math_point(name: &[u8]) -> bool
+    ensures { result ≡ is_one_of math_points name.now }
+{
+    is_same_name(name, b"mi")
+        || is_same_name(name, b"mn")
+        || is_same_name(name, b"mo")
+        || is_same_name(name, b"ms")
+        || is_same_name(name, b"mtext")
+}
+
+/// Whether a tag is that of an annotation of MathML whose content may be HTML.
+fn may_hold_html(name: &[u8], tag: &[u8]) -> bool
+    ensures { result ≡ may_hold_html name.now tag.now }
+{
+    is_same_name(name, b"annotation-xml") && (mentions(b"html", tag) || has_ampersand(tag))
+}
+
+/// Whether a start tag in SVG or MathML opens an element there.
+#[tactic(auto, unfolding(crate::specs::Readings::is_foreign_start_alike))]
+fn is_foreign_start_alike(elements: &[Element<'_>], name: &[u8], tag: &[u8]) -> bool
+    ensures { result ≡ is_foreign_start_alike (as_elements elements.now) name.now tag.now }
+{
+    if is_leaving(name) {
+        false
+    } else if is_svg_point(name) {
+        is_in_svg(elements)
+    } else if is_math_point(name) {
+        !is_in_svg(elements)
+    } else {
+        !may_hold_html(name, tag)
+    }
+}
+
+/// Whether HTML reads elements of a name otherwise than others of their group.
+fn is_odd(name: &[u8]) -> bool
+    ensures { result ≡ is_one_of odd_names name.now }
+{
+    is_same_name(name, b"frameset")
+        || is_same_name(name, b"image")
+        || is_same_name(name, b"malignmark")
+        || is_same_name(name, b"mglyph")
+        || is_same_name(name, b"rb")
+        || is_same_name(name, b"rtc")
+}
+
+const fn is_choice(group: Group) -> bool
+    ensures { result ≡ is_choice group }
+{
+    matches!(group, Group::Choice | Group::Choices)
+}
+
+const fn is_template(group: Group) -> bool
+    ensures { result ≡ is_template group }
+{
+    matches!(group, Group::Template)
+}
+
+const fn is_head(group: Group) -> bool
+    ensures { result ≡ is_head group }
+{
+    matches!(group, Group::Head)
+}
+
+/// Whether elements may begin that are no parts of tables or selections.
+fn takes_content(around: Element<'_>, within: Element<'_>) -> bool
+    ensures { result ≡ takes_content (as_element around.entry) (as_element within.entry) }
+{
+    !is_choice(around.group)
+        && !holds_no_text(within.group)
+        && !is_same_name(within.name, b"select")
+}
+
+/// Whether an element that a head may have may begin.
+fn takes_head_content(around: Element<'_>, within: Element<'_>, new: Group, name: &[u8]) -> bool
+    ensures { result ≡ takes_head_content (as_element around.entry) (as_element within.entry) new name.now }
+{
+    !is_choice(around.group)
+        && !is_same_name(within.name, b"select")
+        && (!holds_no_text(within.group)
+            || is_head(within.group)
+            || is_template(new)
+            || is_same_name(name, b"script")
+            || is_same_name(name, b"style"))
+}
+
+const fn takes_cells(group: Group) -> bool
+    ensures { result ≡ takes_cells group }
+{
+    matches!(
+        group,
+        Group::Table | Group::Rows | Group::Row | Group::Template
+    )
+}
+
+const fn takes_rows(group: Group) -> bool
+    ensures { result ≡ takes_rows group }
+{
+    matches!(group, Group::Table | Group::Rows | Group::Template)
+}
+
+const fn takes_row_groups(group: Group) -> bool
+    ensures { result ≡ takes_row_groups group }
+{
+    matches!(group, Group::Table | Group::Template)
+}
+
+const fn takes_columns(group: Group) -> bool
+    ensures { result ≡ takes_columns group }
+{
+    matches!(group, Group::Table | Group::Columns)
+}
+
+const fn is_before_root(phase: Phase) -> bool
+    ensures { result ≡ is_before_root phase }
+{
+    matches!(phase, Phase::Start | Phase::Typed)
+}
+
+const fn is_before_head(phase: Phase) -> bool
+    ensures { result ≡ is_before_head phase }
+{
+    matches!(phase, Phase::Start | Phase::Typed | Phase::Root)
+}
+
+const fn is_before_body(phase: Phase) -> bool
+    ensures { result ≡ is_before_body phase }
+{
+    !matches!(phase, Phase::Body)
+}
+
+/// Whether the element of the page or its body may begin.
+fn takes_root(phase: Phase, within: Element<'_>, name: &[u8]) -> bool
+    ensures { result ≡ takes_root phase (as_element within.entry) name.now }
+{
+    if is_same_name(name, b"html") {
+        is_before_root(phase)
+    } else {
+        is_before_body(phase) && is_root(within.group)
+    }
+}
+
+/// Whether no button is around, where the name is that of one.
+fn is_button_alone(name: &[u8], elements: &[Element<'_>]) -> bool
+    ensures { result ≡ is_alone button_names name.now (as_elements elements.now) }
+{
+    !(is_same_name(name, b"button") && is_open(name, Group::Ordinary, elements))
+}
+
+/// Whether no form is around, where the name is that of one.
+fn is_form_alone(name: &[u8], elements: &[Element<'_>]) -> bool
+    ensures { result ≡ is_alone form_names name.now (as_elements elements.now) }
+{
+    !(is_same_name(name, b"form") && is_open(name, Group::Ordinary, elements))
+}
+
+/// Whether no element of the name is around, where it is one that ends such an element.
+fn is_link_alone(name: &[u8], elements: &[Element<'_>]) -> bool
+    ensures { result ≡ is_alone link_names name.now (as_elements elements.now) }
+{
+    !((is_same_name(name, b"a") || is_same_name(name, b"nobr"))
+        && is_open(name, Group::Ordinary, elements))
+}
+
+/// Whether an element of a group may begin where it does: all parsers put it there.
+#[tactic(auto, unfolding(crate::specs::Readings::is_expected))]
+fn is_expected(
+    phase: Phase,
+    around: Element<'_>,
+    within: Element<'_>,
+    elements: &[Element<'_>],
+    new: Group,
+    name: &[u8],
+) -> bool
+    ensures { result ≡ is_expected phase (as_element around.entry) (as_element within.entry) (as_elements elements.now) new name.now }
+{
+    match new {
+        Group::Root => takes_root(phase, within, name),
+        Group::Head => is_before_head(phase) && is_root(within.group),
+        Group::HeadContent | Group::HeadVoid | Group::Template => {
+            takes_head_content(around, within, new, name)
+        }
+        Group::Cell => takes_cells(within.group),
+        Group::Row => takes_rows(within.group),
+        Group::Rows | Group::Caption => takes_row_groups(within.group),
+        Group::Columns => is_whole_table(within.group),
+        Group::Column => takes_columns(within.group),
+        Group::Choice => !holds_no_text(within.group),
+        Group::Choices => is_same_name(within.name, b"select"),
+        Group::Ruby => is_same_name(within.name, b"ruby"),
+        Group::Heading => takes_content(around, within) && !is_heading(within.group),
+        Group::Scope => takes_content(around, within) && is_button_alone(name, elements),
+        Group::Block => takes_content(around, within) && is_form_alone(name, elements),
+        Group::Formatting => takes_content(around, within) && is_link_alone(name, elements),
+        Group::Ordinary => takes_content(around, within) && !is_odd(name),
+        _ => takes_content(around, within),
+    }
+}
+
+/// Whether the content of an element is read alike by all.
+fn is_content_alike(around: Element<'_>, name: &[u8]) -> bool
+    ensures { result ≡ is_content_alike (as_element around.entry) name.now }
+{
+    !(around.is_in_drawing && is_read_raw(name))
+        && !(around.is_in_noscript && is_same_name(name, b"noscript"))
+}
+
+/// Whether the text of an element may be put elsewhere by the end tag of a formatting element around it.
+fn may_be_adopted(within: Element<'_>, new: Group, name: &[u8]) -> bool
+    ensures { result ≡ may_be_adopted (as_element within.entry) new name.now }
+{
+    within.is_altered
+        && !within.is_in_drawing
+        && is_special(new)
+        && !is_void(new)
+        && !is_foreign_root(name)
+}
+
+/// Whether a start tag of HTML is read alike by all parsers, outside of SVG and MathML.
+fn is_html_start_alike<'t>(
+    page: Element<'t>,
+    reading: &Reading<'t>,
+    new: Group,
+    name: &[u8],
+) -> bool
+    ensures { result ≡ is_html_start_alike (as_element page.entry) (as_reading reading.now) new name.now }
+{
+    let elements = reading.elements.as_slice();
+    let around = innermost(page, elements);
+    let kept = before_new(elements, new);
+    let within = innermost(page, &elements[..kept]);
+    is_content_alike(around, name)
+        && ends_alike(reading.is_standard, new, elements)
+        && !may_be_adopted(within, new, name)
+        && is_expected(reading.phase, around, within, elements, new, name)
+}
+
+/// Whether a start tag of a page in HTML is read alike by all parsers.
+fn is_start_alike<'t>(page: Element<'t>, reading: &Reading<'t>, new: Group, tag: &[u8]) -> bool
+    ensures { result ≡ is_start_alike (as_element page.entry) (as_reading reading.now) new tag.now }
+{
+    let elements = reading.elements.as_slice();
+    if innermost(page, elements).is_foreign {
+        is_foreign_start_alike(elements, name_of(tag), tag)
+    } else {
+        is_html_start_alike(page, reading, new, name_of(tag))
+    }
+}
+
+// ---- end tags of HTML
+
+const fn closes_blocks(tag: Group) -> bool
+    ensures { result ≡ closes_blocks tag }
+{
+    match tag {
+        Group::Root | Group::Head | Group::HeadContent | Group::HeadVoid | Group::Columns => false,
+        _ => is_special(tag),
+    }
+}
+
+const fn closes_cells(tag: Group) -> bool
+    ensures { result ≡ closes_cells tag }
+{
+    matches!(
+        tag,
+        Group::Row | Group::Rows | Group::Table | Group::Template
+    )
+}
+
+const fn closes_rows(tag: Group) -> bool
+    ensures { result ≡ closes_rows tag }
+{
+    matches!(tag, Group::Rows | Group::Table | Group::Template)
+}
+
+/// Whether an end tag of a group closes an element in its own that has no end tag.
+#[tactic(auto, unfolding(crate::specs::Readings::is_left_out_in))]
+fn is_left_out_in(tag: Group, other: Group) -> bool
+    ensures { result ≡ is_left_out_in tag other }
+{
+    match other {
+        Group::Ruby | Group::Choice | Group::Choices => true,
+        Group::Paragraph | Group::Item | Group::Term => closes_blocks(tag),
+        Group::Cell => closes_cells(tag),
+        Group::Row => closes_rows(tag),
+        Group::Rows | Group::Caption | Group::Columns => takes_row_groups(tag),
+        _ => false,
+    }
+}
+
+/// Whether all that an end tag closes in its element has no end tag by these rules; none where the element is not found.
+#[tactic(auto, using(crate::proofs::Limits::none_alike_at_limit))]
+fn closes_alike(elements: &[Element<'_>], name: &[u8], tag: Group) -> Option<bool>
+    ensures { result ≡ closes_alike_from name.now tag depth_limit Bool.true (as_elements elements.now) }
+{
+    let mut all = true;
+    let mut left = DEPTH_LIMIT;
+    let mut i = elements.len();
+    while i > 0 {
+        if left == 0 {
+            return None;
+        }
+        i -= 1;
+        left -= 1;
+        let other = elements[i].group;
+        if is_same_name(elements[i].name, name) || is_heading(tag) && is_heading(other) {
+            return Some(all);
+        }
+        if bounds(tag, other) {
+            return None;
+        }
+        all = all && is_left_out_in(tag, other);
+    }
+    None
+}
+
+/// Whether an end tag without an element is passed by.
+fn is_passed_by(around: Element<'_>, tag: Group, name: &[u8], elements: &[Element<'_>]) -> bool
+    ensures { result ≡ is_passed_by (as_element around.entry) tag name.now (as_elements elements.now) }
+{
+    !is_table_part(tag)
+        && !is_same_name(name, b"br")
+        && !(is_paragraph(tag) && holds_no_text(around.group))
+        && !is_open(name, tag, elements)
+}
+
+fn is_hidden(element: Element<'_>) -> bool
+    ensures { result ≡ is_hidden (as_element element.entry) }
+{
+    element.is_in_noscript || element.is_in_template
+}
+
+/// Whether an end tag of HTML is read alike by all parsers, outside of SVG and MathML.
+fn is_html_end_alike(around: Element<'_>, tag: Group, name: &[u8], elements: &[Element<'_>]) -> bool
+    ensures { result ≡ is_html_end_alike (as_element around.entry) tag name.now (as_elements elements.now) }
+{
+    if is_root(tag) {
+        return !is_hidden(around);
+    }
+    match closes_alike(elements, name, tag) {
+        Some(all) => all,
+        None => is_passed_by(around, tag, name, elements),
+    }
+}
+
+/// Whether an end tag of a page in HTML is read alike by all parsers.
+fn is_end_alike<'t>(page: Element<'t>, reading: &Reading<'t>, tag: Group, name: &[u8]) -> bool
+    ensures { result ≡ is_end_alike (as_element page.entry) (as_reading reading.now) tag name.now }
+{
+    let elements = reading.elements.as_slice();
+    let around = innermost(page, elements);
+    if around.is_in_drawing {
+        is_same_name(around.name, name)
+    } else {
+        is_html_end_alike(around, tag, name, elements)
+    }
+}
+
+// ---- other pieces of HTML
+
+fn is_content_here(around: Element<'_>) -> bool
+    ensures { result ≡ is_content_here (as_element around.entry) }
+{
+    !holds_no_text(around.group)
+}
+
+/// Whether a piece is a section of CDATA in a drawing's text in HTML, which is none there.
+fn is_odd_section(around: Element<'_>, bytes: &[u8]) -> bool
+    ensures { result ≡ is_odd_section (as_element around.entry) bytes.now }
+{
+    around.is_in_drawing && !around.is_foreign && bytes.starts_with(b"<![CDATA[")
+}
+
+/// Whether a piece of HTML that is neither text nor tag is read alike by all parsers.
+fn is_html_other_alike(around: Element<'_>, phase: Phase, bytes: &[u8]) -> bool
+    ensures { result ≡ is_html_other_alike (as_element around.entry) phase bytes.now }
+{
+    if is_before_root(phase) {
+        is_other_alike(bytes)
+    } else if is_sign(bytes) {
+        is_content_here(around)
+    } else {
+        !is_odd_section(around, bytes)
+    }
+}
+
+/// Whether a piece of a page in HTML is read alike by all parsers.
+fn is_html_alike<'t>(
+    page: Element<'t>,
+    reading: &Reading<'t>,
+    group: Group,
+    piece: Piece<'_>,
+) -> bool
+    ensures { result ≡ is_html_alike (as_element page.entry) (as_reading reading.now) group piece.entry.kind piece.entry.text.now }
+{
+    let bytes = piece.text.as_bytes();
+    let around = innermost(page, &reading.elements);
+    match piece.kind {
+        Kind::Text => !has_text(bytes) || is_content_here(around),
+        Kind::Reference => is_content_here(around),
+        Kind::StartTag | Kind::EmptyTag => is_start_alike(page, reading, group, bytes),
+        Kind::EndTag => is_end_alike(page, reading, group, name_of(bytes)),
+        Kind::Other => is_html_other_alike(around, reading.phase, bytes),
+    }
+}
+
+// ---- pieces of XML
+
+/// Whether raw text in HTML goes on over a piece.
+fn stays_raw(element: RawElement, bytes: &[u8]) -> bool
+    ensures { result ≡ stays_raw element bytes.now }
+{
+    !mentions(element.end_tag(), bytes)
+        && !(element == RawElement::Script && mentions(b"<script", bytes))
+}
+
+/// Whether a start tag of XML begins as one of HTML does, and opens no content there that it does not hold here.
+fn is_xml_start_alike(around: Element<'_>, name: &[u8]) -> bool
+    ensures { result ≡ is_xml_start_alike (as_element around.entry) name.now }
+{
+    begins_with_letter(name)
+        && !raw_element(around.name).is_some()
+        && !is_same_name(name, b"plaintext")
+        && !is_same_name(name, b"frameset")
+        && !(around.is_in_noscript && is_same_name(name, b"noscript"))
+}
+
+fn is_xml_empty_alike(around: Element<'_>, name: &[u8]) -> bool
+    ensures { result ≡ is_xml_empty_alike (as_element around.entry) name.now }
+{
+    is_xml_start_alike(around, name) && !is_read_raw(name)
+}
+
+fn is_xml_other_alike(around: Element<'_>, bytes: &[u8]) -> bool
+    ensures { result ≡ is_xml_other_alike (as_element around.entry) bytes.now }
+{
+    match raw_element(around.name) {
+        Some(element) => stays_raw(element, bytes),
+        None => is_other_alike(bytes),
+    }
+}
+
+/// Whether a piece of XML is read alike by all parsers.
+fn is_xml_alike(around: Element<'_>, piece: Piece<'_>) -> bool
+    ensures { result ≡ is_xml_alike (as_element around.entry) piece.entry.kind piece.entry.text.now }
+{
+    let bytes = piece.text.as_bytes();
+    match piece.kind {
+        Kind::Text | Kind::Reference => true,
+        Kind::StartTag => is_xml_start_alike(around, name_of(bytes)),
+        Kind::EmptyTag => is_xml_empty_alike(around, name_of(bytes)),
+        Kind::EndTag => around.name == name_of(bytes),
+        Kind::Other => is_xml_other_alike(around, bytes),
+    }
+}
+
+// ---- all pieces
+
+/// Whether the text of a `noscript` goes on over a piece with scripting on.
+fn is_in_raw_noscript(around: Element<'_>, bytes: &[u8]) -> bool
+    ensures { result ≡ is_in_raw_noscript (as_element around.entry) bytes.now }
+{
+    !(around.is_in_noscript && mentions(b"</noscript", bytes))
+}
+
+/// Whether the text of a `noscript` goes on over a piece with scripting on, or ends with its end tag.
+fn stays_in_noscript(around: Element<'_>, piece: Piece<'_>) -> bool
+    ensures { result ≡ stays_in_noscript (as_element around.entry) piece.entry.kind piece.entry.text.now }
+{
+    let bytes = piece.text.as_bytes();
+    match piece.kind {
+        Kind::Text | Kind::Reference => true,
+        Kind::EndTag => {
+            is_same_name(name_of(bytes), b"noscript") || is_in_raw_noscript(around, bytes)
+        }
+        _ => is_in_raw_noscript(around, bytes),
+    }
+}
+
+/// Whether a piece is read alike by all parsers.
+#[tactic(auto, using(crate::proofs::Limits::as_many))]
+fn is_alike<'t>(
+    form: Form,
+    page: Element<'t>,
+    reading: &Reading<'t>,
+    group: Group,
+    piece: Piece<'_>,
+) -> bool
+    ensures { result ≡ is_alike_by form (as_element page.entry) (as_reading reading.now) group piece.entry.kind piece.entry.text.now }
+{
+    let around = innermost(page, &reading.elements);
+    if reading.elements.len() >= DEPTH_LIMIT || !stays_in_noscript(around, piece) {
+        return false;
+    }
+    if form.is_xml() {
+        is_xml_alike(around, piece)
+    } else {
+        is_html_alike(page, reading, group, piece)
+    }
+}
+
+// ---- how far a page has come
+
+const fn body_unless(is_kept: bool, phase: Phase) -> Phase
+    ensures { result ≡ body_unless is_kept phase }
+{
+    if is_kept { phase } else { Phase::Body }
+}
+
+const fn head_from(phase: Phase) -> Phase
+    ensures { result ≡ head_from phase }
+{
+    match phase {
+        Phase::Body => Phase::Body,
+        _ => Phase::Head,
+    }
+}
+
+/// The phase after a start tag, whose element is of a group.
+fn phase_after_start(hidden: bool, phase: Phase, group: Group, name: &[u8]) -> Phase
+    ensures { result ≡ phase_after_start hidden phase group name.now }
+{
+    match group {
+        Group::Root => {
+            if is_same_name(name, b"html") {
+                Phase::Root
+            } else {
+                Phase::Body
+            }
+        }
+        Group::Head => Phase::Head,
+        Group::HeadContent | Group::HeadVoid | Group::Template => {
+            if hidden { phase } else { head_from(phase) }
+        }
+        _ => body_unless(hidden, phase),
+    }
+}
+
+/// The phase after a piece that is neither text nor tag.
+fn phase_after_other(around: Element<'_>, phase: Phase, bytes: &[u8]) -> Phase
+    ensures { result ≡ phase_after_other (as_element around.entry) phase bytes.now }
+{
+    match phase {
+        Phase::Start => {
+            if is_doctype(bytes) {
+                Phase::Typed
+            } else {
+                Phase::Start
+            }
+        }
+        _ => body_unless(
+            is_hidden(around) || raw_element(around.name).is_some() || !is_sign(bytes),
+            phase,
+        ),
+    }
+}
+
+/// The phase after a piece.
+fn phase_after(around: Element<'_>, phase: Phase, group: Group, piece: Piece<'_>) -> Phase
+    ensures { result ≡ phase_after (as_element around.entry) phase group piece.entry.kind piece.entry.text.now }
+{
+    let bytes = piece.text.as_bytes();
+    match piece.kind {
+        Kind::Text => body_unless(is_hidden(around) || !has_text(bytes), phase),
+        Kind::Reference => body_unless(is_hidden(around), phase),
+        Kind::StartTag | Kind::EmptyTag => {
+            phase_after_start(is_hidden(around), phase, group, name_of(bytes))
+        }
+        Kind::EndTag => body_unless(!is_root(group), phase),
+        Kind::Other => phase_after_other(around, phase, bytes),
+    }
+}
+
+/// Whether the document type of HTML has come, after a piece that is neither text nor tag.
+fn standard_after_other(standard: bool, phase: Phase, bytes: &[u8]) -> bool
+    ensures { result ≡ standard_after_other standard phase bytes.now }
+{
+    match phase {
+        Phase::Start => is_html_doctype(bytes),
+        _ => standard,
+    }
+}
+
+/// Whether the document type of HTML has come, before all else.
+fn standard_after(standard: bool, phase: Phase, piece: Piece<'_>) -> bool
+    ensures { result ≡ standard_after standard phase piece.entry.kind piece.entry.text.now }
+{
+    match piece.kind {
+        Kind::Other => standard_after_other(standard, phase, piece.text.as_bytes()),
+        _ => standard,
+    }
+}
+
+/// Goes on in a reading, over a piece.
+///
+/// The text of elements with the class `class` is left as it is. The only error is that memory was refused; the reading
+/// is then unchanged.
+pub fn pass<'t>(
+    reading: &mut Reading<'t>,
+    alloc: Global,
+    form: Form,
+    class: &[u8],
+    page: Element<'t>,
+    piece: Piece<'t>,
+) -> Result<(), AllocError>
+    ensures passed { OnOk result (as_reading reading.new
+        ≡ reading_after form class.now (as_element page.entry) (as_reading reading.old) (as_piece piece.entry)) }
+    ensures unchanged_on_error { OnErr result (as_reading reading.new ≡ as_reading reading.old) }
+{
+    if !reading.is_certain {
+        return Ok(());
+    }
+    let around = innermost(page, &reading.elements);
+    let group = group_by(form, around, piece);
+    let is_certain = is_alike(form, page, reading, group, piece);
+    crate::elements::pass(
+        &mut reading.elements,
+        alloc,
+        form,
+        class,
+        page,
+        group,
+        piece,
+    )?;
+    reading.is_standard = standard_after(reading.is_standard, reading.phase, piece);
+    reading.phase = phase_after(around, reading.phase, group, piece);
+    reading.is_certain = is_certain;
+    Ok(())
+}
+
+/// Whether a piece is text of the body, whatever is around it.
+fn is_read_text(piece: Piece<'_>) -> bool
+    ensures { result ≡ is_read_text piece.entry.kind piece.entry.text.now }
+{
+    match piece.kind {
+        Kind::Text => has_text(piece.text.as_bytes()),
+        Kind::Reference => true,
+        _ => false,
+    }
+}
+
+/// Whether a piece is a start tag of the element of the page, or of its body.
+fn is_root_start(piece: Piece<'_>) -> bool
+    ensures { result ≡ is_root_start piece.entry.kind piece.entry.text.now }
+{
+    let name = name_of(piece.text.as_bytes());
+    is_start(piece.kind) && (is_same_name(name, b"html") || is_same_name(name, b"body"))
+}
+
+/// Whether the start tag of the page or its body comes after text.
+fn has_late_root(pieces: &[Piece<'_>]) -> bool
+    ensures { result ≡ has_late_root Bool.false (map as_piece pieces.now) }
+{
+    let mut seen = false;
+    for piece in pieces {
+        if seen && is_root_start(*piece) {
+            return true;
+        }
+        seen = seen || is_read_text(*piece);
+    }
+    false
+}
+
+/// Whether a text is left alone where it stands, by a reading.
+fn is_unread(form: Form, reading: &Reading<'_>, around: Element<'_>) -> bool
+    ensures { result ≡ is_unread form (as_reading reading.now) (as_element around.entry) }
+{
+    !reading.is_certain
+        || holds_no_text(around.group)
+        || form.is_xml() && reading.elements.is_empty()
+}
+
+/// The element that a text stands in.
+///
+/// Its text is left as it is where the reading is uncertain, where the text stands elsewhere in the tree, and in XML
+/// outside of the root.
+pub fn standing<'t>(form: Form, page: Element<'t>, reading: &Reading<'t>) -> Element<'t>
+    ensures { as_element result ≡ standing form (as_element page.entry) (as_reading reading.now) }
+{
+    let around = innermost(page, &reading.elements);
+    Element {
+        is_left_alone: around.is_left_alone || is_unread(form, reading, around),
+        ..around
+    }
+}
