@@ -14,7 +14,7 @@ pub enum Form {
 }
 
 impl Form {
-    /// Whether the page is XML.
+    /// Reports whether the page is XML.
     pub const fn is_xml(self) -> bool
         ensures { result ≡ is_xml self }
     {
@@ -50,21 +50,21 @@ pub const fn is_continuation(byte: u8) -> bool
     128 <= byte && byte < 192
 }
 
-/// Whether a byte ends the name of a tag.
+/// Reports whether a byte ends the name of a tag.
 pub const fn ends_name(byte: u8) -> bool
     ensures { result ≡ ends_name byte }
 {
     is_white_space(byte) || byte == b'/' || byte == b'>'
 }
 
-/// Whether two names are one, where ASCII capitals and small letters are alike.
+/// Reports whether two names are one, where ASCII capitals and small letters are alike.
 pub fn is_same_name(a: &[u8], b: &[u8]) -> bool
     ensures { result ≡ is_same_name a.now b.now }
 {
     a.eq_ignore_ascii_case(b)
 }
 
-/// Whether a byte begins the name of a tag.
+/// Reports whether a byte begins the name of a tag.
 pub const fn is_name_start(form: Form, byte: u8) -> bool
     ensures { result ≡ is_name_start form byte }
 {
@@ -74,7 +74,7 @@ pub const fn is_name_start(form: Form, byte: u8) -> bool
     }
 }
 
-/// Whether two names are one in a form of pages.
+/// Reports whether two names are one in a form of pages.
 #[tactic(auto, unfolding(crate::specs::Bytes::is_same_in))]
 pub fn is_same_in(form: Form, a: &[u8], b: &[u8]) -> bool
     ensures { result ≡ is_same_in form a.now b.now }

@@ -17,7 +17,7 @@ pub struct CutPage<'t> {
     pub pieces: Vec<Piece<'t>>,
 }
 
-/// Whether bytes begin with U+FEFF, which is the byte order mark at the beginning of a page.
+/// Reports whether bytes begin with U+FEFF, which is the byte order mark at the beginning of a page.
 pub fn begins_with_order_mark(bytes: &[u8]) -> bool
     ensures { result ≡ begins_with_order_mark bytes.now }
 {
@@ -41,7 +41,7 @@ fn begins_with_declaration(page: &[u8]) -> bool
     page.starts_with(b"<?xml") && page.len() > 5 && is_white_space(page[5])
 }
 
-/// Whether a page begins with an XML declaration.
+/// Reports whether a page begins with an XML declaration.
 fn has_declaration(page: &[u8]) -> bool
     ensures { result ≡ has_declaration page.now }
 {
@@ -66,7 +66,7 @@ fn root_tag<'t>(pieces: &[Piece<'t>]) -> &'t [u8]
     &[]
 }
 
-/// Whether a tag has the attribute `xmlns`.
+/// Reports whether a tag has the attribute `xmlns`.
 fn has_namespace(alloc: Global, tag: &[u8]) -> Result<bool, AllocError>
     ensures { IfOk result (λ has. has ≡ has_namespace tag.now) }
 {

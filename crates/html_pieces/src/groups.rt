@@ -251,7 +251,7 @@ pub fn group_of(name: &[u8]) -> Group
     }
 }
 
-/// Whether the elements of a group have no content.
+/// Reports whether the elements of a group have no content.
 pub const fn is_void(group: Group) -> bool
     ensures { result ≡ is_void group }
 {
@@ -332,7 +332,7 @@ const fn ends_choices(new: Group) -> bool
     matches!(new, Group::Choices | Group::Rule)
 }
 
-/// Whether an element of a group that begins ends an open one: the end tag of that one may be left out.
+/// Reports whether an element of a group that begins ends an open one: the end tag of that one may be left out.
 #[tactic(auto, unfolding(crate::specs::Groups::ends))]
 pub fn ends(new: Group, other: Group) -> bool
     ensures { result ≡ ends new other }
@@ -384,7 +384,7 @@ const fn is_passed_by_items(other: Group) -> bool
     )
 }
 
-/// Whether an element of a group that begins looks no further than an open one for those that it ends.
+/// Reports whether an element of a group that begins looks no further than an open one for those that it ends.
 #[tactic(auto, unfolding(crate::specs::Groups::stops))]
 pub fn stops(new: Group, other: Group) -> bool
     ensures { result ≡ stops new other }
@@ -444,7 +444,7 @@ pub(crate) const fn is_special(other: Group) -> bool
     )
 }
 
-/// Whether an end tag of a group looks no further than an open element for its own.
+/// Reports whether an end tag of a group looks no further than an open element for its own.
 #[tactic(auto, unfolding(crate::specs::Groups::bounds))]
 pub fn bounds(tag: Group, other: Group) -> bool
     ensures { result ≡ bounds tag other }
@@ -462,14 +462,14 @@ pub fn bounds(tag: Group, other: Group) -> bool
     }
 }
 
-/// Whether the elements of a group are headings.
+/// Reports whether the elements of a group are headings.
 pub const fn is_heading(group: Group) -> bool
     ensures { result ≡ is_heading group }
 {
     matches!(group, Group::Heading)
 }
 
-/// Whether the end tags of a group close nothing.
+/// Reports whether the end tags of a group close nothing.
 pub const fn is_root(tag: Group) -> bool
     ensures { result ≡ is_root tag }
 {

@@ -88,7 +88,7 @@ fn begins_with_word(word: &[u8], bytes: &[u8]) -> bool
     }
 }
 
-/// Whether a word stands somewhere in bytes.
+/// Reports whether a word stands somewhere in bytes.
 fn mentions(word: &[u8], bytes: &[u8]) -> bool
     ensures { result ≡ mentions word.now bytes.now }
 {
@@ -109,7 +109,7 @@ fn begins_with_letter(bytes: &[u8]) -> bool
     }
 }
 
-/// Whether a byte other than white space is in a text.
+/// Reports whether a byte other than white space is in a text.
 fn has_content(text: &[u8]) -> bool
     ensures { result ≡ has_content text.now }
 {
@@ -121,14 +121,14 @@ fn has_content(text: &[u8]) -> bool
     false
 }
 
-/// Whether a text has more than white space, but for the byte order mark that it may begin with.
+/// Reports whether a text has more than white space, but for the byte order mark that it may begin with.
 fn has_text(text: &[u8]) -> bool
     ensures { result ≡ has_text text.now }
 {
     has_content(after_order_mark(text))
 }
 
-/// Whether the first `>` is the last byte.
+/// Reports whether the first `>` is the last byte.
 fn ends_at_first(bytes: &[u8]) -> bool
     ensures { result ≡ ends_at_first bytes.now }
 {
@@ -156,7 +156,7 @@ fn quote_after(quote: u8, byte: u8) -> u8
     }
 }
 
-/// Whether a document type has no part in brackets, and each of its identifiers ends before it does.
+/// Reports whether a document type has no part in brackets, and each of its identifiers ends before it does.
 fn has_closed_quotes(bytes: &[u8]) -> bool
     ensures { result ≡ has_closed_quotes 0 bytes.now }
 {
@@ -190,7 +190,7 @@ fn is_comment_alike(bytes: &[u8]) -> bool
     !bytes.starts_with(b"<!-->") && !bytes.starts_with(b"<!--->") && !bytes.ends_with(b"--!>")
 }
 
-/// Whether a piece that is neither text nor tag ends in HTML where it does in XML.
+/// Reports whether a piece that is neither text nor tag ends in HTML where it does in XML.
 #[tactic(auto, unfolding(crate::specs::Readings::is_other_alike))]
 fn is_other_alike(bytes: &[u8]) -> bool
     ensures { result ≡ is_other_alike bytes.now }
@@ -206,7 +206,7 @@ fn is_other_alike(bytes: &[u8]) -> bool
     }
 }
 
-/// Whether a piece is a `<` alone.
+/// Reports whether a piece is a `<` alone.
 fn is_sign(bytes: &[u8]) -> bool
     ensures { result ≡ is_sign bytes.now }
 {
@@ -215,7 +215,7 @@ fn is_sign(bytes: &[u8]) -> bool
 
 // ---- elements
 
-/// Whether an element of a name is open, or a heading where the name is that of one.
+/// Reports whether an element of a name is open, or a heading where the name is that of one.
 fn is_open(name: &[u8], group: Group, elements: &[Element<'_>]) -> bool
     ensures { result ≡ is_open name.now group (as_elements elements.now) }
 {
@@ -231,7 +231,7 @@ fn is_open(name: &[u8], group: Group, elements: &[Element<'_>]) -> bool
     false
 }
 
-/// Whether the nearest drawing or formula around is a drawing.
+/// Reports whether the nearest drawing or formula around is a drawing.
 fn is_in_svg(elements: &[Element<'_>]) -> bool
     ensures { result ≡ is_in_svg (as_elements elements.now) }
 {
@@ -248,7 +248,7 @@ fn is_in_svg(elements: &[Element<'_>]) -> bool
     false
 }
 
-/// Whether the content of an element of this name is raw text, in HTML at least with scripting on.
+/// Reports whether the content of an element of this name is raw text, in HTML at least with scripting on.
 fn is_read_raw(name: &[u8]) -> bool
     ensures { result ≡ is_read_raw name.now }
 {
@@ -298,14 +298,14 @@ const fn is_whole_table(group: Group) -> bool
     matches!(group, Group::Table)
 }
 
-/// Whether the end tag of an open element may be left out where one of a group begins.
+/// Reports whether the end tag of an open element may be left out where one of a group begins.
 const fn is_left_out_before(standard: bool, new: Group, other: Group) -> bool
     ensures { result ≡ is_left_out_before standard new other }
 {
     may_be_left_out(other) && (standard || !(is_paragraph(other) && is_whole_table(new)))
 }
 
-/// Whether all that an element of a group ends where it begins has end tags that may be left out.
+/// Reports whether all that an element of a group ends where it begins has end tags that may be left out.
 #[tactic(auto, using(crate::proofs::Limits::so_far_at_limit))]
 fn ends_alike(standard: bool, new: Group, elements: &[Element<'_>]) -> bool
     ensures { result ≡ ends_alike standard new (as_elements elements.now) }
@@ -333,7 +333,7 @@ fn ends_alike(standard: bool, new: Group, elements: &[Element<'_>]) -> bool
 
 // ---- start tags of HTML
 
-/// Whether a tag of an element within a line ends SVG and MathML.
+/// Reports whether a tag of an element within a line ends SVG and MathML.
 fn is_leaving_phrase(name: &[u8]) -> bool
     ensures { result ≡ is_one_of leaving_phrase_names name.now }
 {
@@ -360,7 +360,7 @@ fn is_leaving_phrase(name: &[u8]) -> bool
         || is_same_name(name, b"var")
 }
 
-/// Whether a tag of another element ends SVG and MathML.
+/// Reports whether a tag of another element ends SVG and MathML.
 fn is_leaving_block(name: &[u8]) -> bool
     ensures { result ≡ is_one_of leaving_block_names name.now }
 {
@@ -384,7 +384,7 @@ fn is_leaving_block(name: &[u8]) -> bool
         || is_same_name(name, b"ul")
 }
 
-/// Whether a tag of a name ends SVG and MathML.
+/// Reports whether a tag of a name ends SVG and MathML.
 fn is_leaving(name: &[u8]) -> bool
     ensures { result ≡ is_leaving name.now }
 {
@@ -409,14 +409,14 @@ fn is_math_point(name: &[u8]) -> bool
         || is_same_name(name, b"mtext")
 }
 
-/// Whether a tag is that of an annotation of MathML whose content may be HTML.
+/// Reports whether a tag is that of an annotation of MathML whose content may be HTML.
 fn may_hold_html(name: &[u8], tag: &[u8]) -> bool
     ensures { result ≡ may_hold_html name.now tag.now }
 {
     is_same_name(name, b"annotation-xml") && (mentions(b"html", tag) || has_ampersand(tag))
 }
 
-/// Whether a start tag in SVG or MathML opens an element there.
+/// Reports whether a start tag in SVG or MathML opens an element there.
 #[tactic(auto, unfolding(crate::specs::Readings::is_foreign_start_alike))]
 fn is_foreign_start_alike(elements: &[Element<'_>], name: &[u8], tag: &[u8]) -> bool
     ensures { result ≡ is_foreign_start_alike (as_elements elements.now) name.now tag.now }
@@ -432,7 +432,7 @@ fn is_foreign_start_alike(elements: &[Element<'_>], name: &[u8], tag: &[u8]) -> 
     }
 }
 
-/// Whether HTML reads elements of a name otherwise than others of their group.
+/// Reports whether HTML reads elements of a name otherwise than others of their group.
 fn is_odd(name: &[u8]) -> bool
     ensures { result ≡ is_one_of odd_names name.now }
 {
@@ -462,7 +462,7 @@ const fn is_head(group: Group) -> bool
     matches!(group, Group::Head)
 }
 
-/// Whether elements may begin that are no parts of tables or selections.
+/// Reports whether elements may begin that are no parts of tables or selections.
 fn takes_content(around: Element<'_>, within: Element<'_>) -> bool
     ensures { result ≡ takes_content (as_element around.entry) (as_element within.entry) }
 {
@@ -471,7 +471,7 @@ fn takes_content(around: Element<'_>, within: Element<'_>) -> bool
         && !is_same_name(within.name, b"select")
 }
 
-/// Whether an element that a head may have may begin.
+/// Reports whether an element that a head may have may begin.
 fn takes_head_content(around: Element<'_>, within: Element<'_>, new: Group, name: &[u8]) -> bool
     ensures { result ≡ takes_head_content (as_element around.entry) (as_element within.entry) new name.now }
 {
@@ -529,7 +529,7 @@ const fn is_before_body(phase: Phase) -> bool
     !matches!(phase, Phase::Body)
 }
 
-/// Whether the element of the page or its body may begin.
+/// Reports whether the element of the page or its body may begin.
 fn takes_root(phase: Phase, within: Element<'_>, name: &[u8]) -> bool
     ensures { result ≡ takes_root phase (as_element within.entry) name.now }
 {
@@ -540,21 +540,21 @@ fn takes_root(phase: Phase, within: Element<'_>, name: &[u8]) -> bool
     }
 }
 
-/// Whether no button is around, where the name is that of one.
+/// Reports whether no button is around, where the name is that of one.
 fn is_button_alone(name: &[u8], elements: &[Element<'_>]) -> bool
     ensures { result ≡ is_alone button_names name.now (as_elements elements.now) }
 {
     !(is_same_name(name, b"button") && is_open(name, Group::Ordinary, elements))
 }
 
-/// Whether no form is around, where the name is that of one.
+/// Reports whether no form is around, where the name is that of one.
 fn is_form_alone(name: &[u8], elements: &[Element<'_>]) -> bool
     ensures { result ≡ is_alone form_names name.now (as_elements elements.now) }
 {
     !(is_same_name(name, b"form") && is_open(name, Group::Ordinary, elements))
 }
 
-/// Whether no element of the name is around, where it is one that ends such an element.
+/// Reports whether no element of the name is around, where it is one that ends such an element.
 fn is_link_alone(name: &[u8], elements: &[Element<'_>]) -> bool
     ensures { result ≡ is_alone link_names name.now (as_elements elements.now) }
 {
@@ -562,7 +562,7 @@ fn is_link_alone(name: &[u8], elements: &[Element<'_>]) -> bool
         && is_open(name, Group::Ordinary, elements))
 }
 
-/// Whether an element of a group may begin where it does: all parsers put it there.
+/// Reports whether an element of a group may begin where it does: all parsers put it there.
 #[tactic(auto, unfolding(crate::specs::Readings::is_expected))]
 fn is_expected(
     phase: Phase,
@@ -597,7 +597,7 @@ fn is_expected(
     }
 }
 
-/// Whether the content of an element is read alike by all.
+/// Reports whether the content of an element is read alike by all.
 fn is_content_alike(around: Element<'_>, name: &[u8]) -> bool
     ensures { result ≡ is_content_alike (as_element around.entry) name.now }
 {
@@ -605,7 +605,7 @@ fn is_content_alike(around: Element<'_>, name: &[u8]) -> bool
         && !(around.is_in_noscript && is_same_name(name, b"noscript"))
 }
 
-/// Whether the text of an element may be put elsewhere by the end tag of a formatting element around it.
+/// Reports whether the text of an element may be put elsewhere by the end tag of a formatting element around it.
 fn may_be_adopted(within: Element<'_>, new: Group, name: &[u8]) -> bool
     ensures { result ≡ may_be_adopted (as_element within.entry) new name.now }
 {
@@ -616,7 +616,7 @@ fn may_be_adopted(within: Element<'_>, new: Group, name: &[u8]) -> bool
         && !is_foreign_root(name)
 }
 
-/// Whether a start tag of HTML is read alike by all parsers, outside of SVG and MathML.
+/// Reports whether a start tag of HTML is read alike by all parsers, outside of SVG and MathML.
 fn is_html_start_alike<'t>(
     page: Element<'t>,
     reading: &Reading<'t>,
@@ -635,7 +635,7 @@ fn is_html_start_alike<'t>(
         && is_expected(reading.phase, around, within, elements, new, name)
 }
 
-/// Whether a start tag of a page in HTML is read alike by all parsers.
+/// Reports whether a start tag of a page in HTML is read alike by all parsers.
 fn is_start_alike<'t>(page: Element<'t>, reading: &Reading<'t>, new: Group, tag: &[u8]) -> bool
     ensures { result ≡ is_start_alike (as_element page.entry) (as_reading reading.now) new tag.now }
 {
@@ -673,7 +673,7 @@ const fn closes_rows(tag: Group) -> bool
     matches!(tag, Group::Rows | Group::Table | Group::Template)
 }
 
-/// Whether an end tag of a group closes an element in its own that has no end tag.
+/// Reports whether an end tag of a group closes an element in its own that has no end tag.
 #[tactic(auto, unfolding(crate::specs::Readings::is_left_out_in))]
 fn is_left_out_in(tag: Group, other: Group) -> bool
     ensures { result ≡ is_left_out_in tag other }
@@ -688,7 +688,7 @@ fn is_left_out_in(tag: Group, other: Group) -> bool
     }
 }
 
-/// Whether all that an end tag closes in its element has no end tag by these rules; none where the element is not found.
+/// Reports whether all that an end tag closes in its element has no end tag by these rules; none where the element is not found.
 #[tactic(auto, using(crate::proofs::Limits::none_alike_at_limit))]
 fn closes_alike(elements: &[Element<'_>], name: &[u8], tag: Group) -> Option<bool>
     ensures { result ≡ closes_alike_from name.now tag depth_limit Bool.true (as_elements elements.now) }
@@ -714,7 +714,7 @@ fn closes_alike(elements: &[Element<'_>], name: &[u8], tag: Group) -> Option<boo
     None
 }
 
-/// Whether an end tag without an element is passed by.
+/// Reports whether an end tag without an element is passed by.
 fn is_passed_by(around: Element<'_>, tag: Group, name: &[u8], elements: &[Element<'_>]) -> bool
     ensures { result ≡ is_passed_by (as_element around.entry) tag name.now (as_elements elements.now) }
 {
@@ -730,7 +730,7 @@ fn is_hidden(element: Element<'_>) -> bool
     element.is_in_noscript || element.is_in_template
 }
 
-/// Whether an end tag of HTML is read alike by all parsers, outside of SVG and MathML.
+/// Reports whether an end tag of HTML is read alike by all parsers, outside of SVG and MathML.
 fn is_html_end_alike(around: Element<'_>, tag: Group, name: &[u8], elements: &[Element<'_>]) -> bool
     ensures { result ≡ is_html_end_alike (as_element around.entry) tag name.now (as_elements elements.now) }
 {
@@ -743,7 +743,7 @@ fn is_html_end_alike(around: Element<'_>, tag: Group, name: &[u8], elements: &[E
     }
 }
 
-/// Whether an end tag of a page in HTML is read alike by all parsers.
+/// Reports whether an end tag of a page in HTML is read alike by all parsers.
 fn is_end_alike<'t>(page: Element<'t>, reading: &Reading<'t>, tag: Group, name: &[u8]) -> bool
     ensures { result ≡ is_end_alike (as_element page.entry) (as_reading reading.now) tag name.now }
 {
@@ -764,14 +764,14 @@ fn is_content_here(around: Element<'_>) -> bool
     !holds_no_text(around.group)
 }
 
-/// Whether a piece is a section of CDATA in a drawing's text in HTML, which is none there.
+/// Reports whether a piece is a section of CDATA in a drawing's text in HTML, which is none there.
 fn is_odd_section(around: Element<'_>, bytes: &[u8]) -> bool
     ensures { result ≡ is_odd_section (as_element around.entry) bytes.now }
 {
     around.is_in_drawing && !around.is_foreign && bytes.starts_with(b"<![CDATA[")
 }
 
-/// Whether a piece of HTML that is neither text nor tag is read alike by all parsers.
+/// Reports whether a piece of HTML that is neither text nor tag is read alike by all parsers.
 fn is_html_other_alike(around: Element<'_>, phase: Phase, bytes: &[u8]) -> bool
     ensures { result ≡ is_html_other_alike (as_element around.entry) phase bytes.now }
 {
@@ -784,7 +784,7 @@ fn is_html_other_alike(around: Element<'_>, phase: Phase, bytes: &[u8]) -> bool
     }
 }
 
-/// Whether a piece of a page in HTML is read alike by all parsers.
+/// Reports whether a piece of a page in HTML is read alike by all parsers.
 fn is_html_alike<'t>(
     page: Element<'t>,
     reading: &Reading<'t>,
@@ -806,7 +806,7 @@ fn is_html_alike<'t>(
 
 // ---- pieces of XML
 
-/// Whether raw text in HTML goes on over a piece.
+/// Reports whether raw text in HTML goes on over a piece.
 fn stays_raw(element: RawElement, bytes: &[u8]) -> bool
     ensures { result ≡ stays_raw element bytes.now }
 {
@@ -814,7 +814,7 @@ fn stays_raw(element: RawElement, bytes: &[u8]) -> bool
         && !(element == RawElement::Script && mentions(b"<script", bytes))
 }
 
-/// Whether a start tag of XML begins as one of HTML does, and opens no content there that it does not hold here.
+/// Reports whether a start tag of XML begins as one of HTML does, and opens no content there that it does not hold here.
 fn is_xml_start_alike(around: Element<'_>, name: &[u8]) -> bool
     ensures { result ≡ is_xml_start_alike (as_element around.entry) name.now }
 {
@@ -840,7 +840,7 @@ fn is_xml_other_alike(around: Element<'_>, bytes: &[u8]) -> bool
     }
 }
 
-/// Whether a piece of XML is read alike by all parsers.
+/// Reports whether a piece of XML is read alike by all parsers.
 fn is_xml_alike(around: Element<'_>, piece: Piece<'_>) -> bool
     ensures { result ≡ is_xml_alike (as_element around.entry) piece.entry.kind piece.entry.text.now }
 {
@@ -856,14 +856,14 @@ fn is_xml_alike(around: Element<'_>, piece: Piece<'_>) -> bool
 
 // ---- all pieces
 
-/// Whether the text of a `noscript` goes on over a piece with scripting on.
+/// Reports whether the text of a `noscript` goes on over a piece with scripting on.
 fn is_in_raw_noscript(around: Element<'_>, bytes: &[u8]) -> bool
     ensures { result ≡ is_in_raw_noscript (as_element around.entry) bytes.now }
 {
     !(around.is_in_noscript && mentions(b"</noscript", bytes))
 }
 
-/// Whether the text of a `noscript` goes on over a piece with scripting on, or ends with its end tag.
+/// Reports whether the text of a `noscript` goes on over a piece with scripting on, or ends with its end tag.
 fn stays_in_noscript(around: Element<'_>, piece: Piece<'_>) -> bool
     ensures { result ≡ stays_in_noscript (as_element around.entry) piece.entry.kind piece.entry.text.now }
 {
@@ -877,7 +877,7 @@ fn stays_in_noscript(around: Element<'_>, piece: Piece<'_>) -> bool
     }
 }
 
-/// Whether a piece is read alike by all parsers.
+/// Reports whether a piece is read alike by all parsers.
 #[tactic(auto, using(crate::proofs::Limits::as_many))]
 fn is_alike<'t>(
     form: Form,
@@ -971,7 +971,7 @@ fn phase_after(around: Element<'_>, phase: Phase, group: Group, piece: Piece<'_>
     }
 }
 
-/// Whether the document type of HTML has come, after a piece that is neither text nor tag.
+/// Reports whether the document type of HTML has come, after a piece that is neither text nor tag.
 fn standard_after_other(standard: bool, phase: Phase, bytes: &[u8]) -> bool
     ensures { result ≡ standard_after_other standard phase bytes.now }
 {
@@ -981,7 +981,7 @@ fn standard_after_other(standard: bool, phase: Phase, bytes: &[u8]) -> bool
     }
 }
 
-/// Whether the document type of HTML has come, before all else.
+/// Reports whether the document type of HTML has come, before all else.
 fn standard_after(standard: bool, phase: Phase, piece: Piece<'_>) -> bool
     ensures { result ≡ standard_after standard phase piece.entry.kind piece.entry.text.now }
 {
@@ -1028,7 +1028,7 @@ pub fn pass<'t>(
     Ok(())
 }
 
-/// Whether a piece is text of the body, whatever is around it.
+/// Reports whether a piece is text of the body, whatever is around it.
 fn is_read_text(piece: Piece<'_>) -> bool
     ensures { result ≡ is_read_text piece.entry.kind piece.entry.text.now }
 {
@@ -1039,7 +1039,7 @@ fn is_read_text(piece: Piece<'_>) -> bool
     }
 }
 
-/// Whether a piece is a start tag of the element of the page, or of its body.
+/// Reports whether a piece is a start tag of the element of the page, or of its body.
 fn is_root_start(piece: Piece<'_>) -> bool
     ensures { result ≡ is_root_start piece.entry.kind piece.entry.text.now }
 {
@@ -1047,7 +1047,7 @@ fn is_root_start(piece: Piece<'_>) -> bool
     is_start(piece.kind) && (is_same_name(name, b"html") || is_same_name(name, b"body"))
 }
 
-/// Whether the start tag of the page or its body comes after text.
+/// Reports whether the start tag of the page or its body comes after text.
 fn has_late_root(pieces: &[Piece<'_>]) -> bool
     ensures { result ≡ has_late_root Bool.false (map as_piece pieces.now) }
 {
@@ -1061,7 +1061,7 @@ fn has_late_root(pieces: &[Piece<'_>]) -> bool
     false
 }
 
-/// Whether a text is left alone where it stands, by a reading.
+/// Reports whether a text is left alone where it stands, by a reading.
 fn is_unread(form: Form, reading: &Reading<'_>, around: Element<'_>) -> bool
     ensures { result ≡ is_unread form (as_reading reading.now) (as_element around.entry) }
 {
@@ -1070,7 +1070,7 @@ fn is_unread(form: Form, reading: &Reading<'_>, around: Element<'_>) -> bool
         || form.is_xml() && reading.elements.is_empty()
 }
 
-/// The element that a text stands in.
+/// Returns the element that a text stands in.
 ///
 /// Its text is left as it is where the reading is uncertain, where the text stands elsewhere in the tree, and in XML
 /// outside of the root.
