@@ -252,10 +252,10 @@ const UNCERTAIN: &[(&str, Form, &str, &str)] = &[
         "de[a]de(b)de(c)",
     ),
     (
-        "a second head is none",
+        "a page is left alone from a second head on",
         Form::Html,
         "<head><title>x</title></head><head lang=de><body>a",
-        "-(a)",
+        "de(a)",
     ),
     (
         "text in a head ends it",
