@@ -94,8 +94,9 @@ def rest_of(element):
 
 
 def html_tree(page, scripting):
-    """The tree that a browser makes of a page."""
-    return html5lib.HTMLParser(html5lib.getTreeBuilder("etree"), namespaceHTMLElements=True).parse(page, scripting=scripting)
+    """The tree that a browser makes of a page. Its decoder takes the byte order mark away."""
+    parser = html5lib.HTMLParser(html5lib.getTreeBuilder("etree"), namespaceHTMLElements=True)
+    return parser.parse(page[1:] if page.startswith("\ufeff") else page, scripting=scripting)
 
 
 class XmlReader:
