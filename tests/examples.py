@@ -89,7 +89,7 @@ matched = set()
 
 def blocks_of(text):
     """The blocks of a page: the number of the first line of each, its language and its lines."""
-    for found in re.finditer(r"^```(\w*)\n(.*?)^```$", text, re.M | re.S):
+    for found in re.finditer(r"^```([\w+]*)\n(.*?)^```$", text, re.M | re.S):
         yield text.count("\n", 0, found.start()) + 2, found.group(1), found.group(2).splitlines()
 
 
