@@ -1,6 +1,7 @@
 """Builds the wheel: the Python files, the extension where a compiler is, and libhyphenation.so.0 as bindings/c makes it.
 
 HYPHENATION_LIBRARY names another file of the library. With HYPHENATION_CALLS=ctypes the extension is left out.
+HYPHENATION_COPYRIGHT names a file of more licences, such as those of what the library has built in.
 """
 
 import base64
@@ -87,6 +88,16 @@ def _sources():
     return {"hyphenation/" + path.name: path.read_bytes() for path in files}
 
 
+def _licences():
+    """The licences, by their names: those of this repository, and the file that HYPHENATION_COPYRIGHT names."""
+    paths = sorted((HERE.parent.parent if IS_IN_REPOSITORY else HERE).glob("LICENSE-*"))
+    found = {path.name: path.read_bytes() for path in paths}
+    named = os.environ.get("HYPHENATION_COPYRIGHT")
+    if named:
+        found["copyright"] = pathlib.Path(named).read_bytes()
+    return found
+
+
 def write_wheel(folder, name, version, tag, metadata, files):
     """Writes a wheel of files by their names, and returns the name of the wheel."""
     info = "{}-{}.dist-info/".format(name, version)
@@ -116,6 +127,8 @@ def build_wheel(wheel_directory, config_settings=None, metadata_directory=None):
     platform = sysconfig.get_platform().replace("-", "_").replace(".", "_")
     files = _sources()
     files["hyphenation/py.typed"] = b""
+    for name, content in _licences().items():
+        files["{}-{}.dist-info/licenses/{}".format(NAME, VERSION, name)] = content
     files["hyphenation/libhyphenation.so.0"] = _library().read_bytes()
     tag = "py3-none-"
     with tempfile.TemporaryDirectory() as folder:
@@ -132,6 +145,7 @@ def build_sdist(sdist_directory, config_settings=None):
     files = {"src/" + name: content for name, content in _sources().items()}
     files["src/_extension.c"] = (HERE / "src" / "_extension.c").read_bytes()
     files["hyphenation.h"] = HEADER.read_bytes()
+    files.update(_licences())
     for name in "backend.py", "pyproject.toml":
         files[name] = (HERE / name).read_bytes()
     files["PKG-INFO"] = METADATA.encode()
