@@ -4,7 +4,7 @@
 
 ghost use Rattle.addresses.specs.Addresses.{LettersAreNoAddress};
 
-/// A text of letters of ASCII alone is no address.
+/// A text that has only ASCII letters is no address.
 pub fn letters_are_no_address()
     ensures { LettersAreNoAddress }
 {}

@@ -1,4 +1,4 @@
-//! Addresses of the web and of mail, as they stand in texts.
+//! Addresses of the web and of mail in texts.
 //!
 //! [`is_address`] tells them from other parts of a text by a sign: `://`, `www.`, or an `@` between letters or digits.
 #![tactic(auto)]

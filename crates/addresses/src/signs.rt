@@ -3,7 +3,7 @@
 ghost use Rattle.std.specs.Prelude.{◌≡◌, ◌∷◌, ℕ, List, false};
 ghost use Rattle.addresses.specs.Addresses.{is_of_word, begins_with_at, begins_with_sign, is_address};
 
-/// Whether a byte is an ASCII letter or digit, or of a character beyond ASCII.
+/// Reports whether a byte is an ASCII letter or digit, or of a character beyond ASCII.
 pub const fn is_of_word(byte: u8) -> bool
     ensures { result ≡ is_of_word byte }
 {
@@ -26,7 +26,7 @@ fn begins_with_at(before: u8, text: &[u8]) -> bool
     text.len() > 1 && text[0] == b'@' && is_of_word(before) && is_of_word(text[1])
 }
 
-// Whether a text begins with a sign of an address. A byte stands before it.
+// Whether a text begins with a sign of an address. A byte is before it.
 #[tactic(auto, unfolding(crate::specs::Addresses::begins_with_sign))]
 fn begins_with_sign(before: u8, text: &[u8]) -> bool
     ensures { result ≡ begins_with_sign before text.now }
@@ -34,10 +34,10 @@ fn begins_with_sign(before: u8, text: &[u8]) -> bool
     text.starts_with(b"://") || text.starts_with(b"www.") || begins_with_at(before, text)
 }
 
-/// Whether a part of a text is an address of the web or of mail, also with punctuation around it.
+/// Reports whether a part of a text is an address of the web or of mail, also with punctuation around it.
 ///
-/// It is one if it has `://` or `www.`, or an `@` between two ASCII letters or digits or characters beyond ASCII. The part
-/// stands between white space.
+/// It is one if it has `://` or `www.`, or an `@` between two ASCII letters or digits or characters beyond ASCII. The
+/// part is between white space.
 ///
 /// ```text
 /// is_address("<https://example.org/a-b>,")       // true

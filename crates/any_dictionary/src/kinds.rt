@@ -6,7 +6,7 @@ ghost use Rattle.any_dictionary.specs.Kinds.{is_head_of, kind_by_head, kind_in, 
 use hyphenation_grammar::form::{Form, Kind, Version};
 use hyphenation_grammar::lines::{is_head, next_line};
 
-// Tests whether a line is line 1 of a text of that kind.
+// Reports whether a line is line 1 of a text of that kind.
 fn is_head_of(kind: Kind, line: &[u8]) -> bool
     ensures { result ≡ is_head_of kind line.now }
 {

@@ -137,7 +137,7 @@ impl AnyDictionary {
         }
     }
 
-    /// Returns whether the dictionary has the table that [`AnyDictionary::make_table`] makes.
+    /// Reports whether the dictionary has the table that [`AnyDictionary::make_table`] makes.
     pub fn has_table(&self) -> bool {
         match self {
             AnyDictionary::Standard(standard) => standard.has_table(),
@@ -159,9 +159,9 @@ impl AnyDictionary {
         }
     }
 
-    /// Makes the table of the dictionary if it pays for a text of so many bytes. The contents stay as they are.
+    /// Makes the table of the dictionary if it pays for a text of that many bytes. The contents stay as they are.
     ///
-    /// Returns whether the dictionary has one. The only error is out of memory.
+    /// Reports whether the dictionary has one. The only error is out of memory.
     pub fn make_table_for(&mut self, alloc: Global, bytes: usize) -> Result<bool, AllocError>
         ensures { self.new ≡ self.old }
     {
@@ -173,7 +173,7 @@ impl AnyDictionary {
 
     /// Does an edit of the exceptions if it is good: `+WORD PLACES` lists breaks for a word, `-WORD` removes it.
     ///
-    /// Returns whether the edit is good. One that is not changes nothing. The only error is out of memory, and then
+    /// Reports whether the edit is good. One that is not changes nothing. The only error is out of memory, and then
     /// nothing is changed either.
     ///
     /// ```text
@@ -237,8 +237,8 @@ impl AnyDictionary {
 
     /// Returns a word as written, with the breaks that change no letters.
     ///
-    /// A soft hyphen can stand for no other break, since letters change only where a line ends. An error says that
-    /// memory was refused.
+    /// A soft hyphen can mark no other break, since letters change only where a line ends. An error says that memory
+    /// was refused.
     ///
     /// ```text
     /// let word = dictionary.with_plain_breaks(alloc, "Hyphenation")?;      // word.breaks: 2, 6, 7
@@ -258,8 +258,8 @@ impl AnyDictionary {
     }
     /// Puts the places of all breaks of a word as written into a list, in place of what it held.
     ///
-    /// A caller with many words keeps one list: a standard dictionary takes memory for it alone. The only error is out of
-    /// memory, and after it the list is empty.
+    /// A caller with many words keeps one list: a standard dictionary takes memory only for it. The only error is out
+    /// of memory, and after it the list is empty.
     ///
     /// ```text
     /// let mut places = Vec::new(alloc);

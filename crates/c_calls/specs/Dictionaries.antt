@@ -9,7 +9,7 @@ use Rattle.c_calls.specs.declared.changes.BreakChange.{BreakChange}
 use Rattle.c_calls.specs.declared.handle.Handle.{Handle}
 use Rattle.c_calls.specs.declared.loaded.Loaded.{Loaded}
 
--- A break as C reads it: its place, the range that it changes, and how long the two texts are that stand there.
+-- A break as C reads it: its place, the range that it changes, and how long the two texts in its place are.
 unfoldable pub as_change : Break → BreakChange
 as_change b =
     record {

@@ -1,5 +1,5 @@
--- Lists of words as C hands them over, and the places of their breaks, which come back likewise: what belongs to the
--- words one after the other, and the end of what belongs to each word.
+-- Lists of words as C hands them over, and the places of their breaks, which come back likewise. Both are one list of all
+-- words, with the end of each word in it.
 use Rattle.std.specs.Prelude.{◌≡◌, ◌+◌, ◌<◌, ◌≤◌, zero, suc, ℕ, List, ◌∷◌, length, map, take, slice_index, Option, None, Some}
 use Rattle.std.specs.List.{flat_map, range_with_len, slice_range}
 use Rattle.std.specs.Str.{IsUtf8}
@@ -46,9 +46,9 @@ IsNoList Memory text ends = Unit {0}
 IsNoList NotUtf8 text ends = ¬ AreUtf8 text ends
 IsNoList BadEnds text ends = ¬ AreEnds text ends
 
--- 0 and 1: the ends are good, each word is UTF-8, and the two buffers are filled with the places and their ends, or one
--- is too short. 2: out of memory. 4: a word is not UTF-8. 8: a word ends before it begins, or after the text. No other
--- status comes, and from 2 on both buffers and their counts are unchanged.
+-- 0 and 1: the ends are good, and each word is UTF-8. The two buffers are filled with the places and their ends, or one is too
+-- short. 2: out of memory. 4: a word is not UTF-8. 8: a word ends before it begins, or after the text. No other status comes,
+-- and from 2 on both buffers and their counts are unchanged.
 abbrev pub Lists : AnyDictionary → List ℕ → List ℕ → Buffer ℕ → Buffer ℕ → ℕ → Type 0
 Lists dictionary text ends b c zero =
     AreEnds text ends × AreUtf8 text ends

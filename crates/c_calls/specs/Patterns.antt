@@ -45,10 +45,9 @@ abbrev pub IsFaultAt : Option (ℕ × FileCause) → ℕ × ℕ → Type 0
 IsFaultAt (Some (line, cause)) place = place ≡ (line, pattern_cause_number cause)
 IsFaultAt None place = ⊥
 
--- 0: the language is a code, the file has no fault, and the handle holds the dictionary that it gives. 2: out of
--- memory. 4: the language is not UTF-8. 5: the file has its first fault at the line and of the cause that are written.
--- 7: the language is no code. No other status comes. From 1 on the handle is unchanged, and the line and the cause are
--- written with status 5 alone.
+-- 0: the language is a code, the file has no fault, and the handle holds the dictionary that it gives. 2: out of memory. 4: the
+-- language is not UTF-8. 5: the file has its first fault at the line and of the cause that are written. 7: the language is no
+-- code. No other status comes. From 1 on the handle is unchanged, and the line and the cause are written only with status 5.
 abbrev pub MakesAs : List ℕ → Option (ℕ × FileCause) → AnyDictionary → Loading → ℕ → Type 0
 MakesAs language fault given loading zero =
     IsCode language × (fault ≡ None) × (loading.new ≡ Some given) × (loading.after ≡ loading.before)

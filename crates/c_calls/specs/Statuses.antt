@@ -204,9 +204,9 @@ pub record Loading : Type 0 where
 abbrev pub loading : Option AnyDictionary → Option AnyDictionary → ℕ × ℕ → ℕ × ℕ → Loading
 loading old new before after = record { old = old; new = new; before = before; after = after }
 
--- 0: the text is accepted, and the handle holds the dictionary that it gives. 2: out of memory. 5: the text is refused
--- at the line and for the cause that are written. No other status comes. From 1 on the handle is unchanged, and the
--- line and the cause are written with status 5 alone.
+-- 0: the text is accepted, and the handle holds the dictionary that it gives. 2: out of memory. 5: the text is refused at the
+-- line and for the cause that are written. No other status comes. From 1 on the handle is unchanged, and the line and the cause
+-- are written only with status 5.
 abbrev pub LoadsAs : Kind → List ℕ → Loading → ℕ → Type 0
 LoadsAs kind bytes l zero =
     (refusal_of kind bytes ≡ None) × (l.new ≡ Some (contents_as kind bytes)) × (l.after ≡ l.before)

@@ -161,8 +161,8 @@ fn lines_by(
     joined(alloc, &lines)
 }
 
-/// Writes the lines of a text, each with a line feed after it, to the front of a buffer, and returns the status, which
-/// is `OTHER_KIND` for an extended dictionary.
+/// Writes the lines of a text, each with a line feed after it, to the front of a buffer, and returns the status. It is
+/// `OTHER_KIND` for an extended dictionary.
 #[tactic(auto, using(crate::proofs::Finding::finds))]
 pub fn write_lines(
     loaded: &Loaded,

@@ -9,8 +9,8 @@ use hyphenation_breaks::breaks::Break;
 use hyphenation_segments::Word;
 use std::alloc::{AllocError, Global};
 
-/// A break: its place, the range of the word that it changes, and the lengths of the two texts that take the range's
-/// place, before the break and after it. All are numbers of bytes.
+/// A break: its place, the range of the word that it changes, and the lengths of the two texts in place of the range.
+/// One is before the break and one after it. All are numbers of bytes.
 #[repr(C)]
 #[derive(Clone, Copy)]
 pub struct BreakChange {
@@ -20,13 +20,13 @@ pub struct BreakChange {
     pub begin: usize,
     /// The end of the changed range; the place, if nothing is changed.
     pub end: usize,
-    /// The length of the text that stands there at the end of a line.
+    /// The length of the text that is there at the end of a line.
     pub before: usize,
     /// The length of the text that begins the next line.
     pub after: usize,
 }
 
-// A break that stands in a word.
+// A break that is in a word.
 #[tactic(auto, unfolding(crate::specs::Dictionaries::as_change))]
 fn as_change<B: Break>(_word: &str, b: &B) -> BreakChange
     requires { BreakFitsAfter _word.now 0 0 (B.meaning b.now) }

@@ -58,7 +58,7 @@ impl Slot {
     }
 }
 
-/// A dictionary, or none. A handle of zeros alone holds none.
+/// A dictionary, or none. A handle of zeros holds none.
 #[repr(C)]
 #[derive(Drop)]
 pub struct Handle {
@@ -70,7 +70,7 @@ pub struct Handle {
 // A function for types that may go to another thread.
 fn crosses<T: Send>() {}
 
-/// A handle may go to another thread. The call is for a proof, and does nothing.
+/// Says that a handle may go to another thread. The call is for a proof, and does nothing.
 pub fn handles_cross() {
     crosses::<Handle>();
 }
@@ -86,7 +86,7 @@ impl Handle {
         }
     }
 
-    /// The handle without a dictionary.
+    /// Returns the handle without a dictionary.
     pub fn empty() -> Handle
         ensures { result.slot.kept ≡ None }
     {

@@ -134,8 +134,8 @@ pub fn load_dic(
 ///
 /// The form is 0 for a TeX file, and 1 for a plain one. The file of exceptions may be empty. A minimum above 255 is the
 /// one in the head of the TeX file, as those of hyph-utf8 have it; `NO_MINIMA` if none is there. For a refused file
-/// (`REFUSED`) its number is written, which is 0 or 1, with the line of its first fault, counted from 1, and the number
-/// of the cause, from 21 on. With each status but `DONE` the handle is unchanged.
+/// (`REFUSED`) its number is written, which is 0 or 1. So is the line of its first fault, counted from 1, and the
+/// number of the cause, from 21 on. With each status but `DONE` the handle is unchanged.
 pub fn load_patterns(
     alloc: Global,
     kind: u32,
@@ -210,7 +210,7 @@ pub fn share(alloc: Global, handle: &mut Handle, other: &mut Handle) -> u32
     }
 }
 
-/// Edits the exceptions: `+` and an exception as it stands after `e ` in a dictionary text, or `-` and a word.
+/// Edits the exceptions: `+` and an exception as it is written after `e ` in a dictionary text, or `-` and a word.
 ///
 /// Other handles with the same dictionary are unchanged: if there are any, this handle holds an edited copy afterwards.
 /// A faulty edit is `REFUSED`. With each status but `DONE` the dictionary is unchanged.
@@ -228,8 +228,8 @@ pub fn edit(alloc: Global, handle: &mut Handle, edit: &[u8]) -> u32
 /// Makes the table by which a dictionary of either kind breaks words faster, if it can have one. The dictionary's
 /// contents are unchanged.
 ///
-/// Other handles with the same dictionary are unchanged: if there are any, and it has no table, this handle holds a copy
-/// with a table afterwards.
+/// Other handles with the same dictionary are unchanged. If there are any, and it has no table, this handle then holds
+/// a copy with a table.
 pub fn make_table(alloc: Global, handle: &mut Handle) -> u32
     ensures unchanged { holds handle.new ≡ holds handle.old }
     ensures status { MakesTable (holds handle.old) result }
@@ -290,12 +290,11 @@ pub fn write_breaks(
     status
 }
 
-/// Writes the places of the breaks of a list of words to the front of one buffer, and the ends of the words' places to
-/// the front of another one.
+/// Writes the places of the breaks of a list of words to one buffer, and the ends of the words' places to another one.
 ///
-/// The words stand one after the other in a text, and each has its end in it. Places are counted from the beginning of
-/// their word, in bytes. The places of a word end where those of the next one begin. A word that ends before it begins,
-/// or after the text, is `BAD_ENDS`.
+/// The words are side by side in a text, and each has its end in it. Places are counted from the beginning of their
+/// word, in bytes. The places of a word end where those of the next one begin. A word that ends before it begins, or
+/// after the text, is `BAD_ENDS`.
 pub fn write_breaks_of_words(
     alloc: Global,
     handle: &mut Handle,
@@ -320,8 +319,8 @@ pub fn write_breaks_of_words(
 
 /// Writes the values of a word's places, from place 1 on, to the front of a buffer.
 ///
-/// A place is a number of bytes before it. The values are those of the patterns alone, for the word as it is written:
-/// capitals are not made small, and neither the exceptions nor the minima are looked at.
+/// A place is a number of bytes before it. The values are those of the patterns, for the word as it is written.
+/// Capitals are not made small, and neither exceptions nor minima are looked at.
 pub fn write_values(
     alloc: Global,
     handle: &mut Handle,
@@ -341,8 +340,7 @@ pub fn write_values(
     status
 }
 
-/// Writes a word's breaks and the changes that they make to the front of one buffer, and the texts of the changes to
-/// the front of another one.
+/// Writes a word's breaks and the changes that they make to one buffer, and the texts of the changes to another one.
 pub fn write_changes(
     alloc: Global,
     handle: &mut Handle,
@@ -387,7 +385,7 @@ pub fn write_text(
 
 /// Writes the lines of a text, each with a line feed after it, to the front of a buffer.
 ///
-/// A line has at most so many characters, if the text can be divided so. An extended dictionary is `OTHER_KIND`.
+/// A line has at most `columns` characters, if the text can be divided so. An extended dictionary is `OTHER_KIND`.
 pub fn write_lines(
     alloc: Global,
     handle: &mut Handle,
@@ -427,11 +425,12 @@ pub fn write_canonical_text(
     status
 }
 
-/// Writes the paths at which the dictionary of a language is looked for, in their order, to the front of a buffer, each
-/// with a byte 0 behind it. The first one at which there is a file has it.
+/// Writes the paths at which a dictionary is looked for to a buffer, in their order, each with a byte 0 behind it. The
+/// first one at which there is a file has it.
 ///
-/// The texts are the tag of the language, and the values of the variables `HYPHENATION_PATH`, `XDG_DATA_HOME` and `HOME`,
-/// each empty if there is no such variable. A path that would have a byte 0 in it is left out: there is no such file.
+/// The texts are the tag of the language, and the values of the variables `HYPHENATION_PATH`, `XDG_DATA_HOME` and
+/// `HOME`. A variable that is not set has an empty text. A path that would have a byte 0 in it is left out, since no
+/// file has one.
 pub fn write_paths(
     alloc: Global,
     tag: &[u8],

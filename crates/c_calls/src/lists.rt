@@ -1,7 +1,7 @@
 //! The breaks of a list of words, in one call.
 //!
-//! The words stand one after the other in a text, and each has its end in the text. The places of their breaks come
-//! back likewise.
+//! The words are side by side in a text, and each has its end in the text. The places of their breaks come back
+//! likewise.
 
 ghost use Rattle.std.specs.Prelude.{◌≡◌, IfOk, IfErr, OnOk, map};
 ghost use Rattle.any_dictionary.specs.Dictionaries.{all_places_by};
@@ -85,8 +85,8 @@ fn places_of_words(
     Ok((places, ends))
 }
 
-/// Writes the places of the breaks of a list of words to the front of one buffer, the ends of the words' places to the
-/// front of another one, and returns the status. If one of them is too short, both are unchanged.
+/// Writes the places of the breaks of a list of words to one buffer, and the ends of the words' places to another one.
+/// It returns the status. If one of them is too short, both are unchanged.
 #[tactic(auto, using(crate::proofs::WordLists::lists_found))]
 pub fn write_breaks_of_words(
     loaded: &Loaded,

@@ -24,7 +24,7 @@ pub struct Loaded {
 }
 
 impl Loaded {
-    /// A dictionary in a box, as one handle holds it. The only error is that memory was refused.
+    /// Puts a dictionary in a box, as one handle holds it. The only error is that memory was refused.
     pub fn boxed(alloc: Global, dictionary: AnyDictionary) -> Result<Box<Loaded>, AllocError>
         ensures { IfOk result (λ boxed. dictionary_of boxed.value ≡ dictionary) }
     {
@@ -34,7 +34,8 @@ impl Loaded {
         }
     }
 
-    /// This dictionary in a box for another handle. Nothing of it is copied. The only error is that memory was refused.
+    /// Puts this dictionary in a box for another handle. Nothing of it is copied. The only error is that memory was
+    /// refused.
     pub fn shared(&self, alloc: Global) -> Result<Box<Loaded>, AllocError>
         ensures { IfOk result (λ boxed. dictionary_of boxed.value ≡ dictionary_of self.now) }
     {

@@ -6,7 +6,7 @@ ghost use Rattle.c_calls.specs.Statuses.{cause_number, kind_number, kind_numbere
 use hyphenation_grammar::Cause;
 use hyphenation_grammar::form::Kind;
 
-/// The kind of a number: 0 is standard, and 1 extended.
+/// Returns the kind of a number: 0 is standard, and 1 extended.
 pub fn kind_numbered(number: u32) -> Option<Kind>
     ensures { result ≡ kind_numbered number }
 {
@@ -17,7 +17,7 @@ pub fn kind_numbered(number: u32) -> Option<Kind>
     }
 }
 
-/// The number of a kind: 0 is standard, 1 extended, and 2 none.
+/// Returns the number of a kind: 0 is standard, 1 extended, and 2 none.
 pub fn kind_number(kind: Option<Kind>) -> u32
     ensures { result ≡ kind_number kind }
 {
@@ -28,7 +28,7 @@ pub fn kind_number(kind: Option<Kind>) -> u32
     }
 }
 
-/// The number of a cause, from 1 on in the order of the tests.
+/// Returns the number of a cause, from 1 on in the order of the tests.
 pub fn cause_number(cause: Cause) -> u32
     ensures { result ≡ cause_number cause }
 {

@@ -65,8 +65,8 @@ fn paths_by(
     joined(alloc, &paths)
 }
 
-/// Writes the paths at which the dictionary of a language is looked for, by the values of the variables, to the front of
-/// a buffer, each with a byte 0 behind it, and returns the status.
+/// Writes the paths at which a dictionary is looked for to a buffer, each with a byte 0 behind it, and returns the
+/// status. The paths are by the values of the variables.
 #[tactic(auto, using(crate::proofs::Finding::finds))]
 pub fn write_paths(
     alloc: Global,

@@ -32,7 +32,7 @@ pub enum Failure {
     Fault(usize, FileCause),
 }
 
-/// The number of a cause, from 21 on.
+/// Returns the number of a cause, from 21 on.
 pub fn pattern_cause_number(cause: FileCause) -> u32
     ensures { result ≡ pattern_cause_number cause }
 {
@@ -52,7 +52,7 @@ pub fn pattern_cause_number(cause: FileCause) -> u32
     }
 }
 
-/// A minimum that is given; none for a number above 255.
+/// Returns a minimum that is given; none for a number above 255.
 pub fn minimum_given(number: u32) -> Option<u8>
     ensures { result ≡ minimum_given number }
 {

@@ -12,8 +12,8 @@ use any_dictionary::AnyDictionary;
 use std::alloc::{AllocError, Global};
 use std::sync::Arc;
 
-// Makes the table of a dictionary, if it can have one: if it has another owner and no table, a copy takes its place that has
-// one.
+// Makes the table of a dictionary, if it can have one. If it has another owner and no table, a copy that has one takes
+// its place.
 fn make_table(counted: &mut Arc<AnyDictionary>, alloc: Global) -> Result<(), AllocError>
     ensures { arc_value counted.new ≡ arc_value counted.old }
 {

@@ -33,7 +33,7 @@ pub enum NoDictionary {
     Fault(usize, usize, FileCause),
 }
 
-/// The form of a number: 0 is a TeX file, and 1 a plain file of patterns.
+/// Returns the form of a number: 0 is a TeX file, and 1 a plain file of patterns.
 pub fn form_numbered(number: u32) -> Option<Form>
     ensures { result ≡ form_numbered number }
 {

@@ -62,7 +62,7 @@ fn are_ascii(bytes: &[u8]) -> bool
     }
 }
 
-/// The text of a word's bytes; none if they are not UTF-8. Most words are short, and ASCII.
+/// Returns the text of a word's bytes; none if they are not UTF-8. Most words are short, and ASCII.
 #[inline(always)]
 #[tactic(auto, using(crate::proofs::AsciiTexts::utf8_of_ascii))]
 pub fn word_of(bytes: &[u8]) -> Option<&str>

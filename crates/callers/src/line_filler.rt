@@ -8,7 +8,7 @@ ghost use Rattle.callers.specs.Room.{leaves_room, last_room, fitting_parts};
 use hyphenation::Hyphenator;
 use std::alloc::{AllocError, Global};
 
-// Whether a word up to a place, and a hyphen, have at most so many characters.
+// Whether a word up to a place, and a hyphen, have at most that many characters.
 fn leaves_room(word: &str, columns: usize, place: usize) -> bool
     requires { IsCharBoundary word.now place }
     ensures { result ≡ leaves_room word.now columns place }
@@ -34,7 +34,7 @@ fn last_room(word: &str, columns: usize, places: &[usize]) -> Option<usize>
 /// Splits a word at its last break that leaves room for a hyphen on a line with `columns` characters left.
 ///
 /// Returns the part for this line, without the hyphen, and the part for the next line; `None` if no break leaves room.
-/// The only error is that memory was refused. The dictionary is known by its trait alone.
+/// The only error is that memory was refused. The dictionary is known only by its trait.
 ///
 /// ```text
 /// break_to_fit(alloc, &dictionary, "hyphenation", 7)?    // Some(("hyphen", "ation")), with breaks at 2, 6 and 7

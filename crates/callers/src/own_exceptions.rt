@@ -14,7 +14,7 @@ use std::io::Write;
 
 /// Lists the places, in bytes, at which a word is to be broken, and writes the dictionary with them.
 ///
-/// Returns whether the places may be listed for the word. If not, nothing is written and nothing has changed.
+/// Reports whether the places may be listed for the word. If not, nothing is written and nothing has changed.
 ///
 /// The errors are those of [`Load::to_writer`], and that memory for the word was refused. After an error the word may
 /// be listed. After `Error::IO` a beginning of the text may be written, after `Error::Memory` nothing is.

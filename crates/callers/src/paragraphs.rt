@@ -28,7 +28,8 @@ fn push_paragraph<'h, H: Hyphenator<'h, Opportunity = usize>>(
     Ok(())
 }
 
-/// Fills the paragraphs of a text, which its line ends separate, to so many columns each by itself.
+/// Fills the paragraphs of a text, which its line ends separate, each by itself to lines of at most `columns`
+/// characters.
 ///
 /// Returns the lines of [`fill`], in their order, each with a line feed after it. An empty paragraph stays as an empty
 /// line. The only error is that memory was refused.

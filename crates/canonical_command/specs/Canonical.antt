@@ -22,7 +22,7 @@ use Rattle.canonical_command.specs.declared.TheConstants.{NAME, USAGE}
 abbrev pub asked_text : List (Bor (List ℕ)) → Option (List ℕ)
 asked_text args = help_or_version NAME.now VERSION.now USAGE.now args
 
--- The path or the language that operands name. None stands for standard input.
+-- The path or the language that operands name. None means standard input.
 abbrev pub named_by : List (List ℕ) → Result (Option (List ℕ)) RefusedArgument
 named_by [] = Ok None
 named_by (dictionary ∷ []) = Ok (Some dictionary)

@@ -38,7 +38,7 @@ Puts a dictionary text in order, of the kind that its first line names.
 /// The message if memory was refused.
 pub const NO_MEMORY: &str = "hyphenate-canonical: no memory\n";
 
-// Returns the path or the language that operands name. `None` stands for standard input.
+// Returns the path or the language that operands name. `None` means standard input.
 fn named_by<'w>(operands: &[&'w str]) -> Result<Option<&'w str>, ReadError<'w>>
     ensures named { IfOk result (λ named. named_by (texts_now operands.now) ≡ Ok (option_copied named)) }
     ensures refused { IfErr result (IsReadError (named_by (texts_now operands.now))) }

@@ -8,15 +8,15 @@ use Rattle.hyphenation_load.specs.Load.{AppendsTo}
 abbrev pub version_line : List ℕ → List ℕ → List ℕ
 version_line name version = name ++ (codes " " ++ (version ++ codes "\n"))
 
--- The text that the arguments ask for: the line of name and version for `--version` alone, the usage for `--help`
--- alone, else none.
+-- The text that the arguments ask for: the line of name and version for the one argument `--version`, the usage for the one
+-- argument `--help`, else none.
 abbrev pub help_or_version : List ℕ → List ℕ → List ℕ → List (Bor (List ℕ)) → Option (List ℕ)
 help_or_version name version usage (arg ∷ []) =
     if is_same arg.now (codes "--version") then Some (version_line name version)
     else (if is_same arg.now (codes "--help") then Some usage else None)
 help_or_version name version usage _ = None
 
--- If the arguments ask for such a text, the status is 5, or it is 0 and the text was appended to the output.
+-- If the arguments ask for one of these texts, the status is 5, or it is 0 and the text was appended to the output.
 abbrev pub WritesHelp : {W : Type 0} → List ℕ → List ℕ → List ℕ → List (Bor (List ℕ)) → Option ℕ
     → (W → Option (List ℕ)) → W → W → Type 0
 WritesHelp name version usage args status contents old new = IfSome (help_or_version name version usage args)

@@ -81,15 +81,15 @@ IsRefusedAmong bytes_of paths failed.Memory = ⊤
 IsRefusedAmong bytes_of paths failure =
     (path : List ℕ) × Contains paths path × IsRefusedFile (bytes_of path) path failure
 
--- The failure of an argument: a file at one of its paths is refused, or it is a language of which no file is known to be
--- there, and that the failure names.
+-- The failure of an argument: a file at one of its paths is refused, or no file of its language is known to be there. The
+-- failure then names the language.
 abbrev pub IsFailureOf : KnownFiles → List (List ℕ) → List ℕ → Failure → Type 0
 IsFailureOf bytes_of folders argument (failed.NoDictionary language) =
     (string_bytes language ≡ argument) × IsOfFirst bytes_of (paths_for folders argument) None
 IsFailureOf bytes_of folders argument failure = IsRefusedAmong bytes_of (paths_for folders argument) failure
 
--- The failure of an argument, which is no path, at the first of its files that is there: it is refused. A failure that
--- there is no dictionary of the language is no such one.
+-- The failure of an argument, which is no path, at the first of its files that is there: it is refused. A failure that there is
+-- no dictionary of the language is another one.
 abbrev pub IsFirstFailureOf : KnownFiles → List (List ℕ) → List ℕ → Failure → Type 0
 IsFirstFailureOf bytes_of folders argument (failed.NoDictionary language) = ⊤
 IsFirstFailureOf bytes_of folders argument failure = IsRefusedFirst bytes_of (paths_for folders argument) failure

@@ -23,8 +23,8 @@ pub data End : Type 0 where
   Refuses : RefusedArgument → End
   Fails : Failure → End
 
--- The program of this name has such an end: this is its status, and it told exactly the message. No clause has the words of
--- the system for a file that can't be opened or read.
+-- The program of this name has this end: its status is that of the end, and it told exactly the message. No clause has the
+-- words of the system for a file that can't be opened or read.
 abbrev pub EndsBy : List ℕ → ℕ → (List ℕ → Type 0) → End → Type 0
 EndsBy name status Told (Done notes) = (status ≡ 0) × Told notes
 EndsBy name status Told (Refuses refused) = (status ≡ 2) × Told (refusal_message name refused)

@@ -40,7 +40,7 @@ IsReadingOf name (failed.Reading input) = string_bytes input ≡ shown_name name
 IsReadingOf name failed.Memory = ⊤
 IsReadingOf name _ = ⊥
 
--- Bytes are UTF-8 up to so many, and not beyond, and that place is in the line of this number.
+-- Bytes are UTF-8 up to this place, and not beyond, and it is in the line of this number.
 abbrev pub IsNotUtf8From : List ℕ → ℕ → ℕ → Type 0
 IsNotUtf8From bytes valid line = (IsUtf8 bytes → ⊥) × IsValidUpTo bytes valid
     × (line ≡ count_by (λ byte. byte == line_feed) (take valid bytes) + 1)

@@ -19,7 +19,7 @@ abbrev pub stands_alone : List OptionForm → List ℕ → Bool
 stands_alone forms text =
     not (is_operand text) && (not (is_same text (codes "--")) && not (takes_value forms (name_in text) && is_none (value_in text)))
 
--- A value may be the next argument, or stand after an equals sign.
+-- A value may be the next argument, or follow an equals sign.
 abbrev pub ValuesJoin : Type 0
 ValuesJoin = (forms : List OptionForm) (so_far : ReadArguments) (name value : List ℕ) (rest : List (List ℕ))
     → is_option_name name ≡ true → takes_value forms name ≡ true
@@ -30,18 +30,18 @@ abbrev pub OperandsFollowDashes : Type 0
 OperandsFollowDashes = (forms : List OptionForm) (so_far : ReadArguments) (rest : List (List ℕ))
     → read_after forms so_far Any (codes "--" ∷ rest) ≡ Ok (record so_far { operands = so_far.operands ++ rest })
 
--- Arguments that are operands by themselves are read as such, whatever options there are.
+-- Arguments that are operands by themselves are read as operands, whatever options there are.
 abbrev pub OperandsAreRead : Type 0
 OperandsAreRead = (forms : List OptionForm) (args : List (List ℕ)) → list_all is_operand args ≡ true
     → read_arguments forms args ≡ Ok (record { given = []; operands = args })
 
--- An option may stand before an operand, or after it.
+-- An option may be before an operand, or after it.
 abbrev pub OptionsMove : Type 0
 OptionsMove = (forms : List OptionForm) (so_far : ReadArguments) (operand option : List ℕ) (rest : List (List ℕ))
     → is_operand operand ≡ true → stands_alone forms option ≡ true
     → read_after forms so_far Any (operand ∷ option ∷ rest) ≡ read_after forms so_far Any (option ∷ operand ∷ rest)
 
--- Among options that stand alone each operand is kept, in order.
+-- Among options without values each operand is kept, in order.
 abbrev pub OperandsAreKept : Type 0
 OperandsAreKept = (forms : List OptionForm) (args : List (List ℕ)) (read : ReadArguments)
     → list_all (λ text. is_operand text || stands_alone forms text) args ≡ true

@@ -25,7 +25,7 @@ pub record RefusedArgument : Type 0 where
   pub value : Option (List ℕ)
   pub expected : Expected
 
--- Which arguments may come next: any, the value of the option of that name, or operands alone.
+-- Which arguments may come next: any, the value of the option of that name, or only operands.
 pub data Next : Type 0 where
   Any : Next
   ValueOf : List ℕ → Next
@@ -43,7 +43,7 @@ with_given so_far name value = record so_far { given = so_far.given ++ record { 
 abbrev pub with_operand : ReadArguments → List ℕ → ReadArguments
 with_operand so_far operand = record so_far { operands = so_far.operands ++ operand ∷ [] }
 
--- A text is an operand, and no option: it does not begin with `-`, or it is `-` alone.
+-- A text is an operand, and no option: it does not begin with `-`, or it is `-` itself.
 abbrev pub is_operand : List ℕ → Bool
 is_operand text = not (starts_with (codes "-") text) || is_same text (codes "-")
 
@@ -51,7 +51,7 @@ is_operand text = not (starts_with (codes "-") text) || is_same text (codes "-")
 abbrev pub name_in : List ℕ → List ℕ
 name_in text = option_map_or (λ at. take at text) (position (λ b. b == 61) text) text
 
--- The value in the text of an option: all after its first `=`, if it has such a sign.
+-- The value in the text of an option: all after its first `=`, if it has one.
 abbrev pub value_in : List ℕ → Option (List ℕ)
 value_in text = option_map (λ at. drop (at + 1) text) (position (λ b. b == 61) text)
 
@@ -63,8 +63,7 @@ form_of forms name = find (λ form. is_same form.name.now name) forms
 abbrev pub refused : List ℕ → Option (List ℕ) → Expected → RefusedArgument
 refused argument value expected = record { argument = argument; value = value; expected = expected }
 
--- Arguments with an option of that form, and what may come next. A value may stand in the same argument, else it is the
--- next one.
+-- Arguments with an option of that form, and what may come next. A value may be in the same argument, else it is the next one.
 abbrev pub with_option : ReadArguments → OptionForm → Option (List ℕ) → Result (ReadArguments × Next) RefusedArgument
 with_option so_far form (Some value) =
     if form.takes_value then Ok (with_given so_far form.name.now (Some value), Any)
@@ -73,12 +72,12 @@ with_option so_far form None =
     if form.takes_value then Ok (so_far, ValueOf form.name.now)
     else Ok (with_given so_far form.name.now None, Any)
 
--- Arguments with an option, if there is such a form.
+-- Arguments with an option, if there is a form of its name.
 abbrev pub with_option_if_known : ReadArguments → Option OptionForm → List ℕ → Result (ReadArguments × Next) RefusedArgument
 with_option_if_known so_far (Some form) text = with_option so_far form (value_in text)
 with_option_if_known so_far None text = Err (refused (name_in text) None KnownOption)
 
--- Arguments with one more, and what may come next. After `--` there are operands alone.
+-- Arguments with one more, and what may come next. After `--` all are operands.
 abbrev pub with_argument : List OptionForm → ReadArguments → Next → List ℕ → Result (ReadArguments × Next) RefusedArgument
 with_argument forms so_far OperandsAlone text = Ok (with_operand so_far text, OperandsAlone)
 with_argument forms so_far (ValueOf name) text = Ok (with_given so_far name (Some text), Any)
@@ -120,7 +119,7 @@ values_of name given = filter_map (λ one. if is_same one.name name then one.val
 abbrev pub last_value : List ℕ → List GivenOption → Option (List ℕ)
 last_value name given = last_or None (values_of name given)
 
--- The number from a least one to a greatest one that a text spells; none if it is no such number.
+-- The number from a least one to a greatest one that a text spells; none if it spells no number between them.
 abbrev pub number_within : ℕ → ℕ → List ℕ → Option ℕ
 number_within least greatest text =
     option_and_then (λ n. if nat_le least n && nat_le n greatest then Some n else None) (number_of text)

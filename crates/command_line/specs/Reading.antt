@@ -1,4 +1,4 @@
--- How the arguments in code stand for those of the definitions.
+-- How the arguments in code correspond to those of the definitions.
 use Rattle.std.specs.Prelude.{◌≡◌, List, map, option_copied, Result, Ok, Err, ⊤}
 use Rattle.command_line.specs.Options.{GivenOption, ReadArguments, RefusedArgument}
 use Rattle.command_line.specs.declared.options.Given.{Given}

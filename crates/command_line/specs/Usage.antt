@@ -7,7 +7,7 @@ use Rattle.hyphenation_grammar.specs.Lines.{is_same, starts_with}
 abbrev pub is_name_byte : ℕ → Bool
 is_name_byte byte = byte == 45 || (nat_le 97 byte && nat_le byte 122)
 
--- The parts of a text between all other bytes. These bytes stand before it.
+-- The parts of a text between all other bytes. These bytes are before it.
 abbrev pub parts_after : List ℕ → List ℕ → List (List ℕ)
 parts_after so_far [] = so_far ∷ []
 parts_after so_far (byte ∷ text) =

@@ -120,7 +120,7 @@ pub fn load_first<F: NamedFiles>(
     Ok(None)
 }
 
-// Tests whether an argument is a path.
+// Reports whether an argument is a path.
 fn is_path(argument: &str) -> bool
     ensures { result ≡ is_path argument.now }
 {
@@ -143,9 +143,10 @@ fn no_dictionary(alloc: Global, language: &str) -> Failure
 
 /// Returns the dictionary that an argument names.
 ///
-/// An argument with a `/` or a `.` is the path of its text. Any other is the tag of a language, whose dictionary is that
-/// of the first path at which there is a file, of those that [`language_search::paths_of`] gives for these folders. The
-/// error names the file that is there and can't be opened, read or accepted, or the language of which there is none.
+/// An argument with a `/` or a `.` is the path of its text. Any other is the tag of a language. Its paths are those
+/// that [`language_search::paths_of`] gives for these folders, and the first at which there is a file has the
+/// dictionary. The error names the file that is there and can't be opened, read or accepted, or the language that has
+/// none.
 ///
 /// ```text
 /// load_dictionary(&rt, alloc, &folders, "de")?                       // FOLDER/de-1996.txt

@@ -12,7 +12,7 @@ use std::io::Write;
 /// Why an input is refused.
 #[derive(Clone, Copy)]
 pub enum Refusal {
-    /// It is UTF-8 up to so many bytes, and not beyond; that place is in the line of this number, from 1.
+    /// It is UTF-8 up to that many bytes, and not beyond; that place is in the line of this number, from 1.
     NotUtf8 { valid: usize, line: usize },
     /// A paragraph of it is too long.
     LongParagraph,

@@ -50,7 +50,7 @@ fn unreadable(alloc: Global, name: &str, e: &io::Error) -> Failure
     }
 }
 
-// Returns the failure that an input is UTF-8 up to so many bytes, and not beyond.
+// Returns the failure that an input is UTF-8 up to that many bytes, and not beyond.
 fn not_utf8(alloc: Global, name: &str, bytes: &[u8], valid: usize) -> Failure
     requires invalid { IsUtf8 bytes.now → ⊥ }
     requires up_to { IsValidUpTo bytes.now valid }

@@ -200,7 +200,7 @@ impl<'w> Reader<'w> {
         Ok(())
     }
 
-    // Takes an option of that form, with the value that stands in the same argument.
+    // Takes an option of that form, with the value that is in the same argument.
     fn take_option(&mut self, form: OptionForm, value: Option<&'w str>) -> Result<(), ReadError<'w>>
         ensures { IsStep result (with_option (as_read self.old.arguments) form (option_copied value.entry)) self.new }
     {
@@ -281,8 +281,8 @@ impl<'w> Reader<'w> {
 
 /// Reads arguments by the forms of the options that a program has.
 ///
-/// An argument that begins with `-` is an option, and `-` alone is an operand. The value of an option is what stands
-/// after its first `=`, or else the next argument. After the argument `--` there are operands alone.
+/// An argument that begins with `-` is an option, except `-` itself, which is an operand. The value of an option is the
+/// text after its first `=`, or else the next argument. After the argument `--` all are operands.
 ///
 /// The error is the first argument that is refused, or says that memory was refused.
 ///
@@ -307,7 +307,7 @@ pub fn read<'w>(
 }
 
 impl<'w> Arguments<'w> {
-    /// Whether an option of that name is given.
+    /// Reports whether an option of that name is given.
     pub fn has(&self, name: &str) -> bool
         ensures { result ≡ is_given name.now (given_options self.now) }
     {
@@ -452,7 +452,7 @@ pub fn report_bad_argument<W: Write>(
 
 // Laws. Each function here does nothing: its contract is the law, which the check proves.
 
-/// A value may be the next argument, or stand after an equals sign: `--width 40` and `--width=40` are read alike.
+/// A value may be the next argument, or follow an equals sign: `--width 40` and `--width=40` are read alike.
 pub fn values_join()
     ensures { ValuesJoin }
 {}
@@ -462,12 +462,12 @@ pub fn operands_follow_dashes()
     ensures { OperandsFollowDashes }
 {}
 
-/// Arguments that are operands by themselves are read as such, whatever options there are.
+/// Arguments that are operands by themselves are read as operands, whatever options there are.
 pub fn operands_are_read()
     ensures { OperandsAreRead }
 {}
 
-/// An option that has its value, or takes none, may stand before an operand or after it.
+/// An option that has its value, or takes none, may be before an operand or after it.
 pub fn options_move()
     ensures { OptionsMove }
 {}

@@ -8,8 +8,8 @@ use Rattle.convert_command.specs.Written.{AreFilesAt}
 use Rattle.convert_command.specs.declared.Failure.{Failure}
 use Rattle.convert_command.specs.declared.Failure.TheVariants.{Reading, Refused, Minima, Writing, Memory}
 
--- Files of TeX and plain ones with these paths and bytes fail so: the first fault is told, or a minimum is not given and
--- there is no fault, or memory was refused.
+-- Files of TeX and plain ones with these paths and bytes fail in this way. The first fault is told, or a minimum is not given
+-- and there is no fault, or memory was refused.
 abbrev pub IsFailureOfTex : Option ℕ → Option ℕ → List (List ℕ) → List (List ℕ) → Failure → Type 0
 IsFailureOfTex left right paths all (Refused error) =
     (files : List File) × AreFilesAt paths all files × IsConvertError error (fault_from 0 files)
@@ -28,8 +28,8 @@ abbrev pub IsFailureOfBytes : Bool → Option ℕ → Option ℕ → List (List 
 IsFailureOfBytes true left right paths all failure = IsFailureOfDic (slice_index_or all 0 []) failure
 IsFailureOfBytes false left right paths all failure = IsFailureOfTex left right paths all failure
 
--- A failure that says nothing of the bytes of files: one can't be opened or read, or the result can't be written, or memory
--- was refused.
+-- A failure that says nothing of the bytes of files. One can't be opened or read, the result can't be written, or memory was
+-- refused.
 abbrev pub IsOutside : Failure → Type 0
 IsOutside (Reading index e) = ⊤
 IsOutside Writing = ⊤

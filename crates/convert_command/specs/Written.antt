@@ -28,14 +28,14 @@ AreBytesOf file bytes = (file ≢ Some None) × IfSome (known_bytes file) (λ kn
 abbrev pub AreBytesAt : (List ℕ → Option (Option (List ℕ))) → List (List ℕ) → List (List ℕ) → Type 0
 AreBytesAt bytes_of paths all = AllZip (λ path bytes. AreBytesOf (bytes_of path) bytes) paths all
 
--- These are files of TeX and plain ones at paths, in their order: each has its bytes, and the form that the ending of its
--- path names.
+-- These are files of TeX and plain ones at paths, in their order. Each has its bytes, and the form that the ending of its path
+-- names.
 pub record AreFilesAt (paths all : List (List ℕ)) (files : List File) : Type 0 where
   pub bytes : map (λ file. file.bytes.now) files ≡ all
   pub forms : map (λ file. file.form) files ≡ map known_form paths
 
--- A dictionary is that of files with these paths and bytes: of a .dic, which is the only file, or of files of TeX and plain
--- ones, in their order. Minima that are not given are the files' own.
+-- A dictionary is that of files with these paths and bytes. It is of a .dic, which is the only file, or of files of TeX and
+-- plain ones, in their order. Minima that are not given are the files' own.
 abbrev pub IsMadeOf : {C B : Type 0} → (C → Option Change) → (Option Change → C) → (Break → B) → Bool → List ℕ
     → Option ℕ → Option ℕ → List (List ℕ) → List (List ℕ) → Contents C B → Type 0
 IsMadeOf change_of payload_of listing_of true code left right paths all dictionary =

@@ -292,7 +292,7 @@ fn run<F: NamedFiles, O: Write>(
     }
 }
 
-// Returns the path of the file of a number, or an empty one if there are not so many.
+// Returns the path of the file of a number, or an empty one if there are not that many.
 fn path_at<'p>(paths: &[&'p str], index: usize) -> &'p str
     ensures { result.now ≡ path_at (map (λ path. path.now) paths.now) index }
 {

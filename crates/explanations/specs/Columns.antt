@@ -42,8 +42,8 @@ with_room_for columns (row ∷ rows) = with_room_for (with_room_for_entries row.
 abbrev pub column_past : List ℕ → ℕ → ℕ → ℕ → ℕ
 column_past values place column c = column + slice_index values place + shown_columns c
 
--- For each byte of a text of these characters, and for its end: the column at which the value before it begins, by the
--- columns for values. For a byte within a character it is the column after this.
+-- For each byte of a text of these characters, and for its end, the column at which the value before it begins. For a byte
+-- within a character it is the column after this.
 abbrev pub begins_from : List ℕ → ℕ → ℕ → List ℕ → List ℕ
 begins_from values place column [] = column ∷ []
 begins_from values place column (c ∷ cs) = column ∷ replicate (len_utf8 c - 1) (column_past values place column c)

@@ -7,8 +7,8 @@ use Rattle.hyphenation_hyphenator.specs.SoftHyphens.{soft_hyphens}
 use Rattle.explanations.specs.declared.facts.Decision.{Decision}
 use Rattle.explanations.specs.declared.facts.Decision.TheVariants.{SoftHyphens, TooShort, Exception, Patterns}
 
--- The fact that decides, by the places of soft hyphens, the boundaries if there are any, and the listed breaks if there
--- are any: the first of these, in this order, else the patterns.
+-- The fact that decides: soft hyphens, no boundaries, or listed breaks, the first of these in this order, and else the
+-- patterns.
 abbrev pub decision_from : {B : Type 0} → List ℕ → Option (ℕ × ℕ) → Option (List B) → Decision
 decision_from (place ∷ places) bounds listed = SoftHyphens
 decision_from [] None listed = TooShort

@@ -55,7 +55,7 @@ score_fields place (score ∷ scores) = value_field place score.value score.chan
 abbrev pub break_field : Break → List ℕ
 break_field b = number_field b.place ++ change_text b.change
 
--- A field of a break's place alone.
+-- A field that is only a break's place.
 abbrev pub place_field : Break → List ℕ
 place_field b = number_field b.place
 

@@ -9,17 +9,17 @@ use Rattle.explanations.specs.Rows.{PatternRow}
 use Rattle.explanations.specs.declared.facts.Decision.{Decision}
 use Rattle.explanations.specs.declared.facts.Decision.TheVariants.{SoftHyphens, TooShort, Exception, Patterns}
 
--- So many spaces.
+-- This number of spaces.
 abbrev pub spaces : ℕ → List ℕ
 spaces count = replicate count space
 
--- A value at the end of so many columns; spaces without one.
+-- A value at the end of this number of columns; spaces without one.
 abbrev pub placed_value : ℕ → Option ℕ → List ℕ
 placed_value columns None = spaces columns
 placed_value columns (Some value) = spaces (columns - value_columns value) ++ decimal value
 
--- A text that starts at this place of the frame, from one of its own places on: before each byte the columns for the value
--- of its place, with the value if it has one. At the end the value alone.
+-- A text that starts at this place of the frame, from one of its own places on. Before each byte are the columns for the value
+-- of its place, with the value if it has one. At the end is only the value.
 abbrev pub letters_below : Columns → ℕ → (ℕ → Option ℕ) → ℕ → List ℕ → List ℕ
 letters_below columns start value_at place [] = placed_value 0 (value_at place)
 letters_below columns start value_at place (byte ∷ bytes) =

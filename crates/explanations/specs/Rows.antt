@@ -16,8 +16,8 @@ pub record PatternRow (C : Type 0) : Type 0 where
 abbrev pub row_of : {C : Type 0} → Row C → PatternRow C
 row_of row = record { start = row.start; bytes = row.bytes; entries = row.entries.now }
 
--- The row stands for an occurrence of a key in the text: it has a byte at least, the text there is a key, and its entries
--- are those of the key.
+-- The row shows an occurrence of a key in the text. It has a byte at least, the text there is a key, and its entries are those
+-- of the key.
 pub record IsOccurrence {C : Type 0} (keys : Patterns C) (text : List ℕ) (row : PatternRow C) : Type 0 where
   pub not_empty : 0 < row.bytes
   pub within : row.start + row.bytes ≤ length text
@@ -41,7 +41,6 @@ NoKeyIsLonger keys longest = (key : List ℕ) → IsSome (keys key) → length k
 abbrev pub LiesWithin : {C : Type 0} → List ℕ → PatternRow C → Type 0
 LiesWithin text row = row.start + row.bytes ≤ length text
 
--- From the old count of look-ups to the new one there are, for each of so many bytes, at most twice as many as the longest
--- key has bytes, and two more.
+-- The count of look-ups rises, for each of this number of bytes, by at most twice the bytes of the longest key and two more.
 abbrev pub LooksUpWithin : {C : Type 0} → Patterns C → ℕ → ℕ → ℕ → Type 0
 LooksUpWithin keys bytes old new = (longest : ℕ) → NoKeyIsLonger keys longest → new ≤ old + bytes * (2 * longest + 2)

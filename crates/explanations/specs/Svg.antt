@@ -38,7 +38,7 @@ letter_x columns place = 6 * (slice_index columns place + slice_index columns (p
 abbrev pub is_narrow : List ℕ → ℕ → Bool
 is_narrow columns place = slice_index columns (place + 1) == slice_index columns place + 1
 
--- U+FFFD, which stands for a character that XML forbids and for the other control characters below U+0020.
+-- U+FFFD, which replaces a character that XML forbids and for the other control characters below U+0020.
 abbrev pub replacement : List ℕ
 replacement = 239 ∷ 191 ∷ 189 ∷ []
 
@@ -230,12 +230,12 @@ abbrev pub all_rows : List Drawn → ℕ
 all_rows [] = 0
 all_rows (drawing ∷ drawings) = drawing.rows + 1 + all_rows drawings
 
--- A drawing below so many rows.
+-- A drawing below this number of rows.
 abbrev pub group : ℕ → List ℕ → List ℕ
 group above svg =
     codes "<g transform='translate(0 " ++ (decimal (24 * above) ++ (codes ")'>" ++ (line_feed ∷ svg ++ (codes "</g>" ++ line_feed ∷ []))))
 
--- Drawings below one another, the first one below so many rows.
+-- Drawings below one another, the first one below this number of rows.
 abbrev pub groups : ℕ → List Drawn → List ℕ
 groups above [] = []
 groups above (drawing ∷ drawings) = group above drawing.svg ++ groups (above + (drawing.rows + 1)) drawings

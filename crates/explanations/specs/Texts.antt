@@ -20,7 +20,7 @@ use Rattle.explanations.specs.declared.facts.Decision.{Decision}
 use Rattle.explanations.specs.declared.style.Style.{Style}
 use Rattle.explanations.specs.declared.style.Style.TheVariants.{Picture, Lines, Svg}
 
--- The facts: the word, its folded word, the rows of the patterns that occur in its frame, the score of each place, the
+-- The facts: the word, its folding, the rows of the patterns that occur in its frame, and the score of each place. Then the
 -- minima and the bounds, soft hyphens, listed breaks, the fact that decides, and the breaks of the word as written.
 pub record Facts (C : Type 0) : Type 0 where
   pub word : List ℕ

@@ -24,7 +24,7 @@ fn column_after(column: usize, c: char) -> Result<usize, AllocError>
     sum(sum(column, 1)?, char_columns(c))
 }
 
-// Appends a column so many times.
+// Appends a column that many times.
 pub(crate) fn push_times(
     columns: &mut Vec<usize>,
     column: usize,
@@ -97,7 +97,7 @@ pub(crate) fn letter_x(columns: &[usize], place: usize) -> Result<usize, AllocEr
     )
 }
 
-// Tests whether the character at a place has no columns. The only error is out of memory.
+// Reports whether the character at a place has no columns. The only error is out of memory.
 pub(crate) fn is_narrow(columns: &[usize], place: usize) -> Result<bool, AllocError>
     ensures { IfOk result (λ narrow. narrow ≡ is_narrow columns.now place) }
 {

@@ -1,4 +1,4 @@
-//! The values of a drawing: what stands at each place of a row.
+//! The values of a drawing: what is at each place of a row.
 
 ghost use Rattle.std.specs.Prelude.{◌≡◌, ◌+◌, ◌-◌, IfOk, length, option_map};
 ghost use Rattle.explanations.specs.Picture.{entry_value, score_value};

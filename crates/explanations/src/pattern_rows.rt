@@ -122,8 +122,8 @@ fn rows_in<'d, C: Drop>(
     Ok(rows)
 }
 
-/// Returns a row for each occurrence of a key in a text and for nothing else, in the order of their starts and, from one
-/// start, of their lengths.
+/// Returns a row for each occurrence of a key in a text and for nothing else. They are in the order of their starts
+/// and, from one start, of their lengths.
 ///
 /// The text is the frame of a word: the word between two dots. Look-ups are counted: for each byte of the text there are
 /// at most twice as many as the longest key has bytes, and two more. The only error is out of memory.

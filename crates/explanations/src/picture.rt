@@ -29,7 +29,7 @@ fn push_spaces(text: &mut Vec<u8>, count: usize) -> Result<(), AllocError>
     Ok(())
 }
 
-// Appends a value at the end of so many columns, or so many spaces without one.
+// Appends a value at the end of that many columns, or that many spaces without one.
 fn push_value(text: &mut Vec<u8>, columns: usize, value: Option<u8>) -> Result<(), AllocError>
     ensures { OnOk result (text.new.items ≡ text.old.items ++ placed_value columns value) }
 {
@@ -132,7 +132,7 @@ fn value_of<C>(winner: Option<&Entry<C>>) -> u8
     }
 }
 
-// Tests whether a place is a character boundary of a word.
+// Reports whether a place is a character boundary of a word.
 fn is_boundary(word: &str, place: usize) -> bool
     ensures { result ≡ is_boundary word.now place }
 {

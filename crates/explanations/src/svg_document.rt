@@ -44,7 +44,7 @@ fn all_rows(drawings: &[Drawing]) -> Result<usize, AllocError>
     Ok(rows)
 }
 
-// Appends a drawing below so many rows.
+// Appends a drawing below that many rows.
 fn push_group(text: &mut Vec<u8>, above: usize, svg: &[u8]) -> Result<(), AllocError>
     ensures { OnOk result (text.new.items ≡ text.old.items ++ group above svg.now) }
 {

@@ -113,7 +113,7 @@ fn push_letter_begin(text: &mut Vec<u8>, x: usize) -> Result<(), AllocError>
     text.extend_from_slice(b"'>")
 }
 
-// Tests whether a character begins with a byte.
+// Reports whether a character begins with a byte.
 fn begins_char(byte: u8) -> bool
     ensures { result ≡ begins_char byte }
 {
@@ -178,7 +178,7 @@ fn push_letter(
     push_escaped_at(text, letters, place)
 }
 
-// Tests whether a character joins the one before it. The only error is out of memory.
+// Reports whether a character joins the one before it. The only error is out of memory.
 fn is_joined(
     columns: &[usize],
     start: usize,
@@ -197,7 +197,7 @@ fn is_joined(
     }
 }
 
-// Tests whether a letter begins at a place, or the text ends. The only error is out of memory.
+// Reports whether a letter begins at a place, or the text ends. The only error is out of memory.
 fn begins_letter(
     columns: &[usize],
     start: usize,

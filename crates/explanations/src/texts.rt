@@ -280,8 +280,8 @@ fn drawing_of<C: Payload, B: Listing, O: Break>(
     drawing_by(alloc, &facts, minima, word.text, &word.breaks, &hyphenated)
 }
 
-/// Returns the text that explains a word as written, by a dictionary: the patterns that occur in it, its scores, the
-/// facts that decide, and the word with a hyphen at each of its breaks.
+/// Returns the text that explains a word as written, by a dictionary. It has the patterns that occur in the word, its
+/// scores, the facts that decide, and the word with its hyphens.
 ///
 /// The only error is out of memory.
 ///

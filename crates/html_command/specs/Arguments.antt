@@ -27,7 +27,7 @@ pub record ParsedArgs : Type 0 where
   pub options : ParsedOptions
   pub inputs : List (List ℕ)
 
--- The code and the path of `CODE=PATH`, which is cut at its first `=`; none where there is no such sign, or no code.
+-- The code and the path of `CODE=PATH`, which is cut at its first `=`; none where there is no sign, or no code.
 abbrev pub code_and_path : List ℕ → Option (List ℕ × List ℕ)
 code_and_path text = option_and_then
     (λ at. if is_code (take at text) then Some (take at text, drop (at + 1) text) else None)

@@ -59,7 +59,7 @@ abbrev pub IsPathFor : List (List ℕ × List ℕ) → List (List ℕ) → List 
 IsPathFor given folders path = Contains (map (λ one. one.1) given) path
     ⊎ ((code : List ℕ) × IsCode code × Contains (paths_of_code folders code) path)
 
--- The dictionaries of a run fail so: one is refused that is looked for at such a path, or memory was refused.
+-- The dictionaries of a run fail: one is refused that is looked for at one of these paths, or memory was refused.
 abbrev pub IsRefusedFor : KnownFiles → ParsedOptions → List (List ℕ) → Failure → Type 0
 IsRefusedFor bytes_of options usual failed.Memory = ⊤
 IsRefusedFor bytes_of options usual failure = (path : List ℕ)

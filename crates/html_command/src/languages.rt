@@ -1,7 +1,7 @@
 //! The languages for which dictionaries are searched: those that a page may name.
 //!
-//! `hyphenation_html` decides of which language a text of the page is. Here each `lang=` counts, wherever it stands. So
-//! a few more dictionaries may be loaded than the page needs.
+//! `hyphenation_html` decides of which language a text of the page is. Here each `lang=` counts, wherever it is. So a
+//! few more dictionaries may be loaded than the page needs.
 
 use html_pieces::references::{has_ampersand, read};
 use std::alloc::{AllocError, Global};

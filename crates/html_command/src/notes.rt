@@ -27,8 +27,8 @@ pub struct PageNote {
     pub note: Note,
 }
 
-/// Returns the note on a page with so many dictionaries, where the arguments name this language. `None` if it has one. The
-/// error says that memory was refused.
+/// Returns the note on a page with that many dictionaries, where the arguments name this language. `None` if it has
+/// one. The error says that memory was refused.
 pub fn note_of(
     alloc: Global,
     dictionaries: usize,
@@ -57,7 +57,7 @@ fn words_of(note: Note) -> &'static str
     }
 }
 
-// Returns the name of the page of a number, or an empty one if there are not so many.
+// Returns the name of the page of a number, or an empty one if there are not that many.
 fn name_at<'w>(names: &[&'w str], page: usize) -> &'w str
     ensures { result.now ≡ slice_index_or (texts_now names.now) page [] }
 {

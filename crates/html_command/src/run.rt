@@ -19,7 +19,7 @@ use std::io::{Read, Write};
 use text_results::results::write_results;
 use text_results::texts::{push, read_texts};
 
-// Makes the tables of dictionaries that pay for a page of so many bytes. The only error is out of memory.
+// Makes the tables of dictionaries that pay for a page of that many bytes. The only error is out of memory.
 fn make_tables(
     alloc: Global,
     dictionaries: &mut [LanguageDictionary],

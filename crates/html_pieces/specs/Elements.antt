@@ -36,7 +36,7 @@ pub record Element : Type 0 where
   pub is_altered : Bool
   pub is_left_alone : Bool
 
--- A value of more bytes is taken for a language as it is written. No tag of a language has so many.
+-- A value of more bytes is taken for a language as it is written. No tag of a language is that long.
 abbrev pub longest_language : ℕ
 longest_language = 256
 
@@ -67,8 +67,8 @@ as_element held = record {
 
 -- ---- what a start tag says
 
--- Elements whose text is left alone: code and the like, drawings and formulas, texts that forms send or windows show, and
--- those that are read otherwise with scripting than without, or not shown.
+-- Elements whose text is left alone: code and the like, drawings and formulas, and texts that forms send or windows show. So
+-- are those that are not shown, or read otherwise with scripting than without.
 abbrev pub left_alone_names : List (List ℕ)
 left_alone_names =
     codes "code" ∷ codes "iframe" ∷ codes "kbd" ∷ codes "listing" ∷ codes "math" ∷ codes "noembed" ∷ codes "noframes"
@@ -80,14 +80,14 @@ abbrev pub integration_names : List (List ℕ)
 integration_names =
     codes "desc" ∷ codes "foreignObject" ∷ codes "mi" ∷ codes "mn" ∷ codes "mo" ∷ codes "ms" ∷ codes "mtext" ∷ codes "title" ∷ []
 
--- A word stands among words that are set apart by white space; `front` is what is read of one.
+-- A word is among words that are set apart by white space; `front` is what is read of one.
 abbrev pub has_word_from : List ℕ → List ℕ → List ℕ → Bool
 has_word_from word front [] = pointwise nat_eq front word
 has_word_from word front (b ∷ bs) =
     if is_white_space b then pointwise nat_eq front word || has_word_from word [] bs
     else has_word_from word (front ++ b ∷ []) bs
 
--- A word stands among the words of a text.
+-- A word is among the words of a text.
 abbrev pub has_word : List ℕ → List ℕ → Bool
 has_word word text = has_word_from word [] text
 
@@ -169,12 +169,12 @@ opened form class around tag =
 
 -- ---- the open elements, the innermost one first
 
--- The element that a text stands in; outside of all elements, the page.
+-- The element that a text is in; outside of all elements, the page.
 abbrev pub innermost : Element → List Element → Element
 innermost page [] = page
 innermost page (e ∷ es) = e
 
--- So many open elements are looked at, the innermost ones. The standard lets readers set such limits.
+-- The number of open elements that are looked at, the innermost ones. The standard lets readers set a limit.
 abbrev pub depth_limit : ℕ
 depth_limit = 512
 
@@ -193,7 +193,7 @@ abbrev pub before_new : Group → List Element → List Element
 before_new new elements = kept_open new depth_limit elements elements
 
 -- The elements around the first one of this name, among the `left` next ones and within its scope; none where there is no
--- such element. The end tag of a heading closes any heading.
+-- element of that name. The end tag of a heading closes any heading.
 abbrev pub around_first : Form → List ℕ → Group → ℕ → List Element → Option (List Element)
 around_first form name tag left [] = None
 around_first form name tag left (e ∷ es) =

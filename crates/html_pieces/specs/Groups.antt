@@ -11,7 +11,7 @@ use Rattle.html_pieces.specs.declared.groups.Group.TheVariants.{Ordinary, Format
 abbrev pub is_one_of : List (List ℕ) → List ℕ → Bool
 is_one_of names name = list_any (λ other. is_same_name name other) names
 
--- Sections, and what stands around them. Their start tags end a paragraph: "close a p element".
+-- Sections, and what is around them. Their start tags end a paragraph: "close a p element".
 abbrev pub section_names : List (List ℕ)
 section_names =
     codes "article" ∷ codes "aside" ∷ codes "footer" ∷ codes "header" ∷ codes "hgroup" ∷ codes "main" ∷ codes "nav"
@@ -21,7 +21,7 @@ section_names =
 abbrev pub heading_names : List (List ℕ)
 heading_names = codes "h1" ∷ codes "h2" ∷ codes "h3" ∷ codes "h4" ∷ codes "h5" ∷ codes "h6" ∷ []
 
--- The other elements whose start tags end a paragraph, but for those of a group of their own.
+-- The other elements whose start tags end a paragraph, without those of a group of their own.
 abbrev pub block_names : List (List ℕ)
 block_names =
     codes "blockquote" ∷ codes "center" ∷ codes "details" ∷ codes "dir" ∷ codes "dl" ∷ codes "fieldset"
@@ -106,14 +106,14 @@ ends_paragraph Term = true
 ends_paragraph Table = true
 ends_paragraph _ = false
 
--- They stand in a head.
+-- They are in a head.
 abbrev pub is_in_head : Group → Bool
 is_in_head HeadContent = true
 is_in_head HeadVoid = true
 is_in_head Template = true
 is_in_head _ = false
 
--- They are parts of a table that stand in a row group, or hold rows or columns: each ends a caption.
+-- They are parts of a table that are in a row group, or hold rows or columns: each ends a caption.
 abbrev pub is_table_part : Group → Bool
 is_table_part Cell = true
 is_table_part Row = true
@@ -216,9 +216,9 @@ is_passed_by_items Choices = true
 is_passed_by_items Ruby = true
 is_passed_by_items _ = false
 
--- How far an element of the first group that begins looks for those that it ends: not past an open one of the second.
--- Items and terms do not look past what stands in an item, paragraphs and parts of tables not past a boundary, and all
--- others look at the innermost elements alone.
+-- How far an element of the first group that begins looks for those that it ends. It does not look past an open one of the
+-- second. Items and terms do not look past an item's contents, and paragraphs and parts of tables not past a boundary. All
+-- others look only at the innermost elements.
 unfoldable pub stops : Group → Group → Bool
 stops Item other = not (is_passed_by_items other)
 stops Term other = not (is_passed_by_items other)
@@ -284,7 +284,7 @@ abbrev pub is_heading : Group → Bool
 is_heading Heading = true
 is_heading _ = false
 
--- The end tags of "body" and "html" close nothing: what stands after them belongs to the body.
+-- The end tags of "body" and "html" close nothing: what is after them belongs to the body.
 abbrev pub is_root : Group → Bool
 is_root Root = true
 is_root _ = false

@@ -8,11 +8,11 @@ use Rattle.html_pieces.specs.declared.tokenizer.RawElement.TheVariants.{Script, 
 abbrev pub is_end_tag : List ℕ → Bool
 is_end_tag tag = slice_index tag 1 == 47
 
--- The name of a tag stands between "<" or "</" and the first byte that ends a name.
+-- The name of a tag is between "<" or "</" and the first byte that ends a name.
 unfoldable pub name_of : List ℕ → List ℕ
 name_of tag = take_while (λ b. not (ends_name b)) (if is_end_tag tag then drop 2 tag else drop 1 tag)
 
--- The end tag of such an element, as far as its name.
+-- The end tag of this element, as far as its name.
 abbrev pub raw_end_tag : RawElement → List ℕ
 raw_end_tag Script = codes "</script"
 raw_end_tag Style = codes "</style"

@@ -1,7 +1,7 @@
--- How a page is cut into pieces: text, character references, tags, and what is neither.
--- Source: HTML Living Standard, 13.2.5 Tokenization; for XML, Extensible Markup Language 1.0, 2.5 to 2.8 and 3.1. The states
--- have the standard's names, and each line the rule of its section. A rule that the standard gives by "reconsume" stands
--- here with what the next state does with the byte.
+-- How a page is cut into pieces: text, character references, tags, and what is neither. Source: HTML Living Standard, 13.2.5
+-- Tokenization; for XML, Extensible Markup Language 1.0, 2.5 to 2.8 and 3.1. The states have the standard's names, and each
+-- line the rule of its section. A rule that the standard gives by "reconsume" is here with what the next state does with the
+-- byte.
 use Rattle.std.specs.Prelude.{ℕ, true, false, ◌==◌, ◌||◌, ◌&&◌, ◌++◌, ◌+◌, ◌-◌, not, nat_lt, Bool, List, [], ◌∷◌, nat_eq, codes, Option, Some, None, if◌then◌else◌}
 use Rattle.std.specs.Option.{option_map_or}
 use Rattle.std.specs.List.{ends_with}
@@ -54,7 +54,7 @@ in_unquoted_value b =
 
 -- ---- the states of text that is no markup
 
--- The byte ends a name, and what stands before it since the last "<" is this tag without its end.
+-- The byte ends a name, and what is before it since the last "<" is this tag without its end.
 abbrev pub ends_tag : List ℕ → List ℕ → ℕ → Bool
 ends_tag tag front b = ends_name b && is_same_name front tag
 
@@ -90,8 +90,8 @@ in_double_escaped front b =
 
 -- ---- all states
 
--- The state after a byte, where `front` is what the piece has before it; none where the piece ended before the byte.
--- `foreign` says that the piece stands in SVG or MathML.
+-- The state after a byte, where `front` is what the piece has before it; none where the piece ended before the byte. `foreign`
+-- says that the piece is in SVG or MathML.
 unfoldable pub next : Form → Bool → State → List ℕ → ℕ → Option State
 next form foreign Data front b = if b == 60 || b == 38 then None else Some Data
 -- 13.2.5.72: '&' with what follows, and a ';' if there is one. Which names there are is not asked.
@@ -122,9 +122,9 @@ next form foreign SingleQuotedValue front b = if b == 39 then Some AfterQuotedVa
 next form foreign UnquotedValue front b = Some (in_unquoted_value b)
 next form foreign AfterQuotedValue front b = Some (in_tag b AttributeName)
 next form foreign SelfClosingTag front b = if b == 62 then Some EmptyTagEnd else Some (in_tag b AttributeName)
--- 13.2.5.42, where a DOCTYPE (53 to 68) ends as a bogus comment does (41): at the first '>'. HTML takes CDATA sections in
--- SVG and MathML alone. In XML a DOCTYPE may have a part in brackets, which ends at the first ']' that a '>' follows,
--- with nothing but ']' and space between.
+-- 13.2.5.42, where a DOCTYPE (53 to 68) ends as a bogus comment does (41): at the first '>'. HTML takes CDATA sections only in
+-- SVG and MathML. In XML a DOCTYPE may have a part in brackets. It ends at the first ']' that a '>' follows, with nothing but
+-- ']' and space between.
 next form foreign MarkupDeclarationOpen front b =
     if b == 45 then Some MarkupDeclarationDash
     else if b == 62 then Some MarkupEnd
@@ -149,8 +149,8 @@ next form foreign ProcessingInstructionMark front b =
     if b == 62 then Some MarkupEnd
     else if b == 63 then Some ProcessingInstructionMark
     else Some ProcessingInstruction
--- 13.2.5.43 to 45 and 50 to 52. The states 46 to 49 end no comment in another place. In XML (2.5) "-->" alone ends one,
--- and its dashes are not those of "<!--".
+-- 13.2.5.43 to 45 and 50 to 52. The states 46 to 49 end no comment in another place. In XML (2.5) only "-->" ends one, and its
+-- dashes are not those of "<!--".
 next form foreign CommentStart front b =
     if b == 45 then Some CommentStartDash
     else if b == 62 && not (is_xml form) then Some MarkupEnd

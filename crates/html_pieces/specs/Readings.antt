@@ -22,8 +22,8 @@ use Rattle.html_pieces.specs.declared.tokenizer.Kind.{Kind}
 use Rattle.html_pieces.specs.declared.tokenizer.Kind.TheVariants.{Text, Reference, StartTag, EmptyTag, EndTag, Other}
 use Rattle.html_pieces.specs.declared.tokenizer.RawElement.{RawElement}
 
--- The facts known of a page at a place: the open elements, how far its parts have come, whether its document type is that
--- of HTML, and whether all parsers have read it alike so far.
+-- The facts known of a page at a place: the open elements, how far its parts have come, and whether its document type is
+-- HTML's. It is certain if all parsers have read it alike so far.
 pub record Reading : Type 0 where
   pub elements : List Element
   pub phase : Phase
@@ -49,7 +49,7 @@ started certain = record { elements = []; phase = reached.Start; is_standard = f
 abbrev pub begins_with_word : List ℕ → List ℕ → Bool
 begins_with_word word bytes = is_same_name (take (length word) bytes) word
 
--- A word stands somewhere in bytes.
+-- A word is somewhere in bytes.
 abbrev pub mentions : List ℕ → List ℕ → Bool
 mentions word [] = false
 mentions word (b ∷ bs) = begins_with_word word (b ∷ bs) || mentions word bs
@@ -64,7 +64,7 @@ abbrev pub has_content : List ℕ → Bool
 has_content [] = false
 has_content (b ∷ bs) = not (is_white_space b) || has_content bs
 
--- A text has more than white space, but for the byte order mark that it may begin with.
+-- A text has more than white space after the byte order mark that it may begin with.
 abbrev pub has_text : List ℕ → Bool
 has_text text = has_content (after_order_mark text)
 
@@ -110,7 +110,7 @@ is_other_alike bytes =
     else if is_doctype bytes then ends_at_first bytes && has_closed_quotes 0 bytes
     else ends_at_first bytes
 
--- A "<" alone, which is text.
+-- A single "<", which is text.
 abbrev pub is_sign : List ℕ → Bool
 is_sign bytes = pointwise nat_eq bytes (codes "<")
 
@@ -130,7 +130,7 @@ is_in_svg (e ∷ es) = is_same_name e.name (codes "svg") || not (is_same_name e.
 abbrev pub is_read_raw : List ℕ → Bool
 is_read_raw name = is_some (raw_element name) || is_same_name name (codes "plaintext") || is_same_name name (codes "noscript")
 
--- Text in such an element stands elsewhere in the tree (13.2.6.1, foster parents; 13.2.6.4.4, "in head").
+-- Text in such an element is elsewhere in the tree (13.2.6.1, foster parents; 13.2.6.4.4, "in head").
 abbrev pub holds_no_text : Group → Bool
 holds_no_text Table = true
 holds_no_text Rows = true
@@ -165,8 +165,8 @@ abbrev pub is_whole_table : Group → Bool
 is_whole_table Table = true
 is_whole_table _ = false
 
--- The end tag of an open element may be left out where one of the first group begins. A table ends a paragraph by the
--- document type of HTML alone.
+-- The end tag of an open element may be left out where one of the first group begins. A table ends a paragraph only by the
+-- document type of HTML.
 abbrev pub is_left_out_before : Bool → Group → Group → Bool
 is_left_out_before standard new other =
     may_be_left_out other && (standard || not (is_paragraph other && is_whole_table new))
@@ -189,21 +189,21 @@ ends_alike standard new elements = ends_alike_from standard new depth_limit true
 
 -- ---- start tags of HTML
 
--- Tags in SVG and MathML that end these (13.2.6.5): of elements that stand within a line, and of others.
+-- Tags in SVG and MathML that end these (13.2.6.5): of elements within a line, and of others.
 abbrev pub leaving_phrase_names : List (List ℕ)
 leaving_phrase_names =
     codes "b" ∷ codes "big" ∷ codes "br" ∷ codes "code" ∷ codes "em" ∷ codes "embed" ∷ codes "font" ∷ codes "i" ∷ codes "img"
     ∷ codes "nobr" ∷ codes "ruby" ∷ codes "s" ∷ codes "small" ∷ codes "span" ∷ codes "strike" ∷ codes "strong" ∷ codes "sub"
     ∷ codes "sup" ∷ codes "tt" ∷ codes "u" ∷ codes "var" ∷ []
 
--- The others of these tags, but for those of headings.
+-- The others of these tags, without those of headings.
 abbrev pub leaving_block_names : List (List ℕ)
 leaving_block_names =
     codes "blockquote" ∷ codes "body" ∷ codes "center" ∷ codes "dd" ∷ codes "div" ∷ codes "dl" ∷ codes "dt" ∷ codes "head"
     ∷ codes "hr" ∷ codes "li" ∷ codes "listing" ∷ codes "menu" ∷ codes "meta" ∷ codes "ol" ∷ codes "p" ∷ codes "pre"
     ∷ codes "table" ∷ codes "ul" ∷ []
 
--- A tag of such a name ends SVG and MathML.
+-- A tag of one of these names ends SVG and MathML.
 abbrev pub is_leaving : List ℕ → Bool
 is_leaving name = is_one_of leaving_phrase_names name || is_one_of leaving_block_names name || is_one_of heading_names name
 
@@ -238,8 +238,8 @@ is_choice Choice = true
 is_choice Choices = true
 is_choice _ = false
 
--- Elements may begin that are no parts of tables or selections: `around` is the innermost element before what the new one
--- ends, and `within` the one after it.
+-- Elements may begin that are no parts of tables or selections. `around` is the innermost element before what the new one ends,
+-- and `within` the one after it.
 abbrev pub takes_content : Element → Element → Bool
 takes_content around within =
     not (is_choice around.group) && not (holds_no_text within.group) && not (is_same_name within.name (codes "select"))
@@ -311,19 +311,19 @@ abbrev pub takes_root : Phase → Element → List ℕ → Bool
 takes_root phase within name =
     if is_same_name name (codes "html") then is_before_root phase else is_before_body phase && is_root within.group
 
--- Elements that may not stand within one of their own name, in three groups.
+-- Elements that may not be in one of their own name, in three groups.
 abbrev pub button_names : List (List ℕ)
 button_names = codes "button" ∷ []
 
--- A form may not stand within another one.
+-- A form may not be within another one.
 abbrev pub form_names : List (List ℕ)
 form_names = codes "form" ∷ []
 
--- A link may not stand within another one.
+-- A link may not be within another one.
 abbrev pub link_names : List (List ℕ)
 link_names = codes "a" ∷ codes "nobr" ∷ []
 
--- An element of a name is not open, where it may not stand within another one.
+-- An element of a name is not open, where it may not be within another one.
 abbrev pub is_alone : List (List ℕ) → List ℕ → List Element → Bool
 is_alone names name elements = not (is_one_of names name && is_open name Ordinary elements)
 
@@ -356,8 +356,8 @@ abbrev pub is_content_alike : Element → List ℕ → Bool
 is_content_alike around name =
     not (around.is_in_drawing && is_read_raw name) && not (around.is_in_noscript && is_same_name name (codes "noscript"))
 
--- The text of an element of a group may be put elsewhere by the end tag of a formatting element around it (13.2.6.4.7, the
--- adoption agency algorithm), where a language is named between the two.
+-- The end tag of a formatting element around an element of a group may put its text elsewhere, where a language is named
+-- between the two. (13.2.6.4.7, the adoption agency algorithm.)
 abbrev pub may_be_adopted : Element → Group → List ℕ → Bool
 may_be_adopted within new name =
     within.is_altered && not within.is_in_drawing && is_special new && not (is_void new) && not (is_foreign_root name)
@@ -427,14 +427,14 @@ closes_alike_from name tag left all (e ∷ es) =
     else if bounds tag e.group then None
     else closes_alike_from name tag (left - 1) (all && is_left_out_in tag e.group) es
 
--- An end tag without an element is passed by: none of its name is open, and it is no part of a table, no "br", and no
--- paragraph where none may stand.
+-- An end tag without an element is passed by: none of its name is open. It is no part of a table, no "br", and no paragraph
+-- where none may be.
 abbrev pub is_passed_by : Element → Group → List ℕ → List Element → Bool
 is_passed_by around tag name elements =
     not (is_table_part tag) && not (is_same_name name (codes "br")) && not (is_paragraph tag && holds_no_text around.group)
     && not (is_open name tag elements)
 
--- An element is read otherwise with scripting than without, or stands in a template: what it holds begins no body.
+-- An element is read otherwise with scripting than without, or is in a template: what it holds begins no body.
 abbrev pub is_hidden : Element → Bool
 is_hidden e = e.is_in_noscript || e.is_in_template
 
@@ -452,7 +452,7 @@ is_end_alike page reading tag name =
 
 -- ---- other pieces of HTML
 
--- Text stands where it is read.
+-- Text is where it is read.
 abbrev pub is_content_here : Element → Bool
 is_content_here around = not (holds_no_text around.group)
 
@@ -531,7 +531,7 @@ is_alike_by form page reading group kind bytes =
 
 -- ---- how far a page has come
 
--- After text, and all that a body alone has.
+-- After text, and all that only a body has.
 abbrev pub body_unless : Bool → Phase → Phase
 body_unless is_kept phase = if is_kept then phase else reached.Body
 
@@ -610,12 +610,12 @@ has_late_root seen (p ∷ ps) = seen && is_root_start p.kind p.bytes || has_late
 abbrev pub at_start : Form → List Piece → Reading
 at_start form pieces = started (is_xml form || not (has_late_root false pieces))
 
--- A text is left alone where the reading is uncertain, where it stands elsewhere in the tree, and in XML outside of the root.
+-- A text is left alone where the reading is uncertain, where it is elsewhere in the tree, and in XML outside of the root.
 abbrev pub is_unread : Form → Reading → Element → Bool
 is_unread form reading around =
     not reading.is_certain || holds_no_text around.group || is_xml form && length reading.elements == 0
 
--- The element that a text stands in, by a reading.
+-- The element that a text is in, by a reading.
 abbrev pub standing_in : Form → Reading → Element → Element
 standing_in form reading around = record {
   name = around.name;
@@ -632,6 +632,6 @@ standing_in form reading around = record {
   is_left_alone = around.is_left_alone || is_unread form reading around;
 }
 
--- The element that a text stands in.
+-- The element that a text is in.
 abbrev pub standing : Form → Element → Reading → Element
 standing form page reading = standing_in form reading (innermost page reading.elements)

@@ -28,7 +28,7 @@ base_of hexadecimal = if hexadecimal then 16 else 10
 abbrev pub number_of : Bool → List ℕ → ℕ
 number_of hexadecimal digits = number_from_digits (base_of hexadecimal) (map digit_value digits)
 
--- The characters of windows-1252, for which the numbers 0x80 to 0x9F stand.
+-- The characters of windows-1252, that the numbers 0x80 to 0x9F mean.
 abbrev pub windows_1252 : List ℕ
 windows_1252 =
     0x20AC ∷ 0x81 ∷ 0x201A ∷ 0x0192 ∷ 0x201E ∷ 0x2026 ∷ 0x2020 ∷ 0x2021 ∷ 0x02C6 ∷ 0x2030 ∷ 0x0160 ∷ 0x2039 ∷ 0x0152 ∷ 0x8D ∷ 0x017D ∷ 0x8F
@@ -38,7 +38,7 @@ windows_1252 =
 abbrev pub is_character : ℕ → Bool
 is_character number = nat_lt 0 number && nat_lt number 0xD800 || nat_le 0xE000 number && nat_lt number 0x11_0000
 
--- The character that a number stands for. One that stands for none gives U+FFFD.
+-- The character that a number means. One that means none gives U+FFFD.
 abbrev pub character_of : ℕ → ℕ
 character_of number =
     if nat_le 0x80 number && nat_le number 0x9F then slice_index windows_1252 (number - 0x80)
@@ -49,7 +49,7 @@ character_of number =
 abbrev pub semicolon_at : List ℕ → ℕ → ℕ
 semicolon_at bytes place = if slice_index bytes place == 59 then 1 else 0
 
--- The reference of some digits, which bytes begin with. It has so many bytes before them; none is there without digits.
+-- The reference of some digits, which bytes begin with. It has this number of bytes before them; none is there without digits.
 abbrev pub of_digits : Bool → ℕ → List ℕ → List ℕ → Option Reference
 of_digits hexadecimal before digits bytes =
     if length digits == 0 then None

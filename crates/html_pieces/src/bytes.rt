@@ -22,28 +22,28 @@ impl Form {
     }
 }
 
-/// ASCII whitespace, as HTML has it.
+/// Reports whether a byte is ASCII whitespace, as HTML has it.
 pub const fn is_white_space(byte: u8) -> bool
     ensures { result ≡ is_white_space byte }
 {
     byte == b'\t' || byte == b'\n' || byte == b'\x0c' || byte == b'\r' || byte == b' '
 }
 
-/// An ASCII letter.
+/// Reports whether a byte is an ASCII letter.
 pub const fn is_alpha(byte: u8) -> bool
     ensures { result ≡ is_alpha byte }
 {
     b'A' <= byte && byte <= b'Z' || b'a' <= byte && byte <= b'z'
 }
 
-/// An ASCII letter or digit.
+/// Reports whether a byte is an ASCII letter or digit.
 pub const fn is_alphanumeric(byte: u8) -> bool
     ensures { result ≡ is_alphanumeric byte }
 {
     is_alpha(byte) || b'0' <= byte && byte <= b'9'
 }
 
-/// A byte of UTF-8 that is not the first of its character.
+/// Reports whether a byte of UTF-8 is not the first of its character.
 pub const fn is_continuation(byte: u8) -> bool
     ensures { result ≡ is_continuation byte }
 {

@@ -35,13 +35,13 @@ pub struct Element<'t> {
     pub is_translated: bool,
     /// Whether its content is SVG or MathML.
     pub is_foreign: bool,
-    /// Whether it is `svg` or `math`, or stands in one.
+    /// Whether it is `svg` or `math`, or is in one.
     pub is_in_drawing: bool,
-    /// Whether it is `noscript`, or stands in one.
+    /// Whether it is `noscript`, or is in one.
     pub is_in_noscript: bool,
-    /// Whether it is a `template`, or stands in one.
+    /// Whether it is a `template`, or is in one.
     pub is_in_template: bool,
-    /// Whether it is a formatting element, as `b`, or stands in one.
+    /// Whether it is a formatting element, as `b`, or is in one.
     pub is_in_formatting: bool,
     /// Whether a language or `translate` is named from a formatting element on.
     pub is_altered: bool,
@@ -52,7 +52,7 @@ pub struct Element<'t> {
 /// A value of more bytes is taken for a language as it is written.
 const LONGEST_LANGUAGE: usize = 256;
 
-/// So many open elements are looked at, the innermost ones.
+/// The number of open elements that are looked at, the innermost ones.
 pub(crate) const DEPTH_LIMIT: usize = 512;
 
 /// Whether an element of this name is one whose text is left as it is.
@@ -273,7 +273,7 @@ fn names_other(form: Form, attributes: &[Attribute<'_>]) -> bool
     language_value(form, attributes).is_some() || value_of(form, attributes, b"translate").is_some()
 }
 
-/// Whether an element is a formatting element, or stands in one.
+/// Whether an element is a formatting element, or is in one.
 fn is_in_formatting(around: bool, group: Group) -> bool
     ensures { result ≡ (around || is_formatting group) }
 {
@@ -381,7 +381,7 @@ fn around_first(form: Form, elements: &[Element<'_>], name: &[u8], tag: Group) -
     elements.len()
 }
 
-/// The element that a text stands in.
+/// Returns the element that a text is in.
 pub fn innermost<'t>(page: Element<'t>, elements: &[Element<'t>]) -> Element<'t>
     ensures { as_element result ≡ innermost (as_element page.entry) (as_elements elements.now) }
 {
@@ -489,7 +489,7 @@ pub(crate) fn pass<'t>(
     }
 }
 
-/// The page as what is around all its elements.
+/// Returns the page as what is around all its elements.
 pub fn page_element(language: &[u8]) -> Element<'_>
     ensures { as_element result ≡ page_element language.now }
 {

@@ -74,7 +74,7 @@ fn has_namespace(alloc: Global, tag: &[u8]) -> Result<bool, AllocError>
     Ok(value_of(Form::Xml, &attributes, b"xmlns").is_some())
 }
 
-/// The form of a page, and its pieces in that form.
+/// Returns the form of a page, and its pieces in that form.
 ///
 /// A page is XML where it begins with an XML declaration, or its first start tag has the attribute `xmlns`; any other is
 /// HTML. The only error is that memory was refused.

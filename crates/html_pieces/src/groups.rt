@@ -181,7 +181,7 @@ fn is_head_name(name: &[u8]) -> bool
         || is_same_name(name, b"title")
 }
 
-/// The group of the elements of a name.
+/// Returns the group of the elements of a name.
 #[tactic(auto, unfolding(crate::specs::Groups::group_of))]
 pub fn group_of(name: &[u8]) -> Group
     ensures { result ≡ group_of name.now }

@@ -88,7 +88,7 @@ fn begins_with_word(word: &[u8], bytes: &[u8]) -> bool
     }
 }
 
-/// Reports whether a word stands somewhere in bytes.
+/// Reports whether a word is somewhere in bytes.
 fn mentions(word: &[u8], bytes: &[u8]) -> bool
     ensures { result ≡ mentions word.now bytes.now }
 {
@@ -121,7 +121,7 @@ fn has_content(text: &[u8]) -> bool
     false
 }
 
-/// Reports whether a text has more than white space, but for the byte order mark that it may begin with.
+/// Reports whether a text has more than white space after the byte order mark that it may begin with.
 fn has_text(text: &[u8]) -> bool
     ensures { result ≡ has_text text.now }
 {
@@ -206,7 +206,7 @@ fn is_other_alike(bytes: &[u8]) -> bool
     }
 }
 
-/// Reports whether a piece is a `<` alone.
+/// Reports whether a piece is only a `<`.
 fn is_sign(bytes: &[u8]) -> bool
     ensures { result ≡ is_sign bytes.now }
 {
@@ -554,7 +554,7 @@ fn is_form_alone(name: &[u8], elements: &[Element<'_>]) -> bool
     !(is_same_name(name, b"form") && is_open(name, Group::Ordinary, elements))
 }
 
-/// Reports whether no element of the name is around, where it is one that ends such an element.
+/// Reports whether no element of the name is around, where the name is one that ends an element of its own name.
 fn is_link_alone(name: &[u8], elements: &[Element<'_>]) -> bool
     ensures { result ≡ is_alone link_names name.now (as_elements elements.now) }
 {
@@ -1061,7 +1061,7 @@ fn has_late_root(pieces: &[Piece<'_>]) -> bool
     false
 }
 
-/// Reports whether a text is left alone where it stands, by a reading.
+/// Reports whether a text is left alone where it is, by a reading.
 fn is_unread(form: Form, reading: &Reading<'_>, around: Element<'_>) -> bool
     ensures { result ≡ is_unread form (as_reading reading.now) (as_element around.entry) }
 {
@@ -1070,9 +1070,9 @@ fn is_unread(form: Form, reading: &Reading<'_>, around: Element<'_>) -> bool
         || form.is_xml() && reading.elements.is_empty()
 }
 
-/// Returns the element that a text stands in.
+/// Returns the element that a text is in.
 ///
-/// Its text is left as it is where the reading is uncertain, where the text stands elsewhere in the tree, and in XML
+/// Its text is left as it is where the reading is uncertain or the text is elsewhere in the tree. So it is in XML
 /// outside of the root.
 pub fn standing<'t>(form: Form, page: Element<'t>, reading: &Reading<'t>) -> Element<'t>
     ensures { as_element result ≡ standing form (as_element page.entry) (as_reading reading.now) }

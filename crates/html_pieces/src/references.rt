@@ -20,10 +20,10 @@ struct Reference {
     size: usize,
 }
 
-/// All numbers from this one on stand for no character.
+/// All numbers from this one on mean no character.
 const NO_CHARACTER: u32 = 0x11_0000;
 
-/// The characters of windows-1252, for which the numbers 0x80 to 0x9F stand.
+/// The characters of windows-1252, that the numbers 0x80 to 0x9F mean.
 const WINDOWS_1252: [char; 32] = [
     '\u{20AC}', '\u{81}', '\u{201A}', '\u{192}', '\u{201E}', '\u{2026}', '\u{2020}', '\u{2021}',
     '\u{2C6}', '\u{2030}', '\u{160}', '\u{2039}', '\u{152}', '\u{8D}', '\u{17D}', '\u{8F}',
@@ -92,7 +92,7 @@ const fn base_of(hexadecimal: bool) -> u32
     if hexadecimal { 16 } else { 10 }
 }
 
-/// The number after one more digit. All numbers that stand for no character are one.
+/// The number after one more digit. All numbers that mean no character are one.
 fn number_on(hexadecimal: bool, number: u32, digit: u8) -> u32
     requires { number ≤ NO_CHARACTER }
     ensures { result ≡ min (number * base_of hexadecimal + digit_value digit) NO_CHARACTER }
@@ -100,7 +100,7 @@ fn number_on(hexadecimal: bool, number: u32, digit: u8) -> u32
     (number * base_of(hexadecimal) + digit_value(digit)).min(NO_CHARACTER)
 }
 
-/// The number that digits write. All numbers that stand for no character are one.
+/// The number that digits write. All numbers that mean no character are one.
 fn number_of(hexadecimal: bool, digits: &[u8]) -> u32
     ensures { result ≡ min (number_of hexadecimal digits.now) NO_CHARACTER }
 {
@@ -111,7 +111,7 @@ fn number_of(hexadecimal: bool, digits: &[u8]) -> u32
     number
 }
 
-/// The character of windows-1252 that a number from 0x80 to 0x9F stands for.
+/// The character of windows-1252 that a number from 0x80 to 0x9F means.
 fn of_windows(number: u32) -> char
     requires low { 0x80 ≤ number }
     requires high { number ≤ 0x9F }
@@ -133,7 +133,7 @@ fn of_number(number: u32) -> char
     }
 }
 
-/// The character that a number stands for.
+/// The character that a number means.
 fn character_of(number: u32) -> char
     ensures { result ≡ character_of number }
 {
@@ -373,7 +373,7 @@ fn reference_after(byte: u8, rest: &[u8]) -> Option<Reference>
     }
 }
 
-/// Whether an `&` is in a value, so that it may have a reference.
+/// Reports whether an `&` is in a value, so that it may have a reference.
 pub fn has_ampersand(value: &[u8]) -> bool
     ensures { result ≡ has_ampersand value.now }
 {
@@ -402,7 +402,7 @@ fn push_character(bytes: &mut Vec<u8>, alloc: Global, character: char) -> Result
     bytes.extend_from_slice(text.as_bytes())
 }
 
-/// The value of an attribute as it is read: with the character of each reference in its place.
+/// Returns the value of an attribute as it is read: with the character of each reference in its place.
 ///
 /// Numeric references are read, and those that name one character of ASCII, with and without `;` as the standard has
 /// them in attributes. The only error is that memory was refused.

@@ -41,7 +41,7 @@ const fn is_value(state: State) -> bool
     )
 }
 
-/// A part of a tag that ends at a place, with the byte that stands there.
+/// A part of a tag that ends at a place, with the byte that is there.
 fn grown<'t>(tag: &'t [u8], part: &[u8], i: usize) -> &'t [u8]
     requires within { i < length tag.now }
     requires part { EndsAt tag.now part.now i }
@@ -157,7 +157,7 @@ fn value_past<'t>(tag: &'t [u8], from: usize, to: usize, state: State, value: &'
     }
 }
 
-/// The attributes of a tag, in order, as they are written.
+/// Returns the attributes of a tag, in order, as they are written.
 ///
 /// The only error is that memory was refused.
 pub fn attributes(alloc: Global, form: Form, tag: &[u8]) -> Result<Vec<Attribute<'_>>, AllocError>
@@ -182,7 +182,7 @@ pub fn attributes(alloc: Global, form: Form, tag: &[u8]) -> Result<Vec<Attribute
     Ok(attributes)
 }
 
-/// The value of the first attribute of a name.
+/// Returns the value of the first attribute of a name.
 pub fn value_of<'t>(form: Form, attributes: &[Attribute<'t>], name: &[u8]) -> Option<&'t [u8]>
     ensures { option_map (λ value. value.now) result ≡ value_of form name.now (map as_attribute attributes.now) }
 {

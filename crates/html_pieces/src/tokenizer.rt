@@ -38,8 +38,8 @@ pub enum Kind {
     /// A start tag that ends with `/>`.
     EmptyTag,
     EndTag,
-    /// A comment, a declaration, a processing instruction, CDATA, text of a script or the like, a `<` that begins
-    /// nothing, and a tag that is cut off.
+    /// Any other piece: a comment, a declaration, a processing instruction, CDATA, or the text of a script. So is a `<`
+    /// that begins nothing, and a tag that is cut off.
     Other,
 }
 
@@ -227,9 +227,10 @@ fn in_double_escaped(front: &[u8], byte: u8) -> Option<State>
     }
 }
 
-/// The state after a byte, where `front` is what the piece has before it; none where the piece ended before the byte.
+/// Returns the state after a byte, where `front` is what the piece has before it; none where the piece ended before the
+/// byte.
 ///
-/// `foreign` says that the piece stands in SVG or MathML.
+/// `foreign` says that the piece is in SVG or MathML.
 #[tactic(auto, unfolding(crate::specs::Pieces::next))]
 pub fn next(form: Form, foreign: bool, state: State, front: &[u8], byte: u8) -> Option<State>
     ensures { result ≡ next form foreign state front.now byte }
@@ -423,7 +424,7 @@ pub fn next(form: Form, foreign: bool, state: State, front: &[u8], byte: u8) -> 
     }
 }
 
-/// Whether a tag is an end tag.
+/// Reports whether a tag is an end tag.
 pub fn is_end_tag(tag: &[u8]) -> bool
     ensures { result ≡ is_end_tag tag.now }
 {
@@ -442,7 +443,7 @@ fn before_name_end(bytes: &[u8]) -> &[u8]
     bytes
 }
 
-/// The name of a tag.
+/// Returns the name of a tag.
 #[tactic(auto, unfolding(crate::specs::Names::name_of))]
 pub fn name_of(tag: &[u8]) -> &[u8]
     ensures { result.now ≡ name_of tag.now }
@@ -504,7 +505,7 @@ fn kind_of(state: State, front: &[u8]) -> Kind
     }
 }
 
-/// Whether an element of this name holds SVG or MathML.
+/// Reports whether an element of this name holds SVG or MathML.
 #[tactic(auto, unfolding(crate::specs::Names::is_foreign_root))]
 pub fn is_foreign_root(name: &[u8]) -> bool
     ensures { result ≡ is_foreign_root name.now }
@@ -687,7 +688,7 @@ pub(crate) fn after_quiet(state: State, bytes: &[u8], from: usize) -> usize
     }
 }
 
-/// The pieces of a page, in order.
+/// Returns the pieces of a page, in order.
 ///
 /// The only error is that memory was refused.
 pub fn pieces(alloc: Global, form: Form, page: &str) -> Result<Vec<Piece<'_>>, AllocError>

@@ -45,7 +45,7 @@ enum Task<'w> {
         mark: &'w str,
         edits: &'w [&'w str],
     },
-    // The lines of the input, of at most so many columns, by a standard dictionary.
+    // The lines of the input, of at most that many columns, by a standard dictionary.
     Lines {
         columns: usize,
     },

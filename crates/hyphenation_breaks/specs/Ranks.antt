@@ -1,5 +1,5 @@
--- Ranks: numbers by which the entries that bear on a place are compared, so that one byte tells both the greatest value and
--- whether an entry with it carries a change.
+-- Ranks: numbers by which the entries that bear on a place are compared. So one byte tells both the greatest value and whether
+-- an entry with it carries a change.
 use Rattle.std.specs.Prelude.{ℕ, ◌+◌, ◌*◌, if◌then◌else◌, List, map, Option, is_some}
 use Rattle.hyphenation_breaks.specs.Break.{Change}
 use Rattle.hyphenation_breaks.specs.Dictionary.{greatest}

@@ -35,7 +35,7 @@ pub trait Break: Drop {
             ↔ ((left_of (meaning self.now).change ≤ (meaning self.now).place) × (end_of (meaning self.now) < 2 ^ 64)) }
         ensures value { IfSome result (λ r. r ≡ (begin_of (meaning self.now), end_of (meaning self.now))) };
 
-    /// Tests whether the break has a change.
+    /// Reports whether the break has a change.
     fn changed(&self) -> bool
         ensures { result ≡ is_changed (meaning self.now) };
 
@@ -55,7 +55,7 @@ pub trait Break: Drop {
         ensures writable { IsTrue (can_be_written_if_any (meaning self.now).change) };
 }
 
-/// A place alone is a plain break: it changes nothing.
+/// A place is a plain break: it changes nothing.
 impl Break for usize {
     ghost use Rattle.hyphenation_breaks.specs.Break.{plain_break};
 
@@ -84,7 +84,7 @@ impl Break for usize {
     fn invariant(&self) {}
 }
 
-// Tests whether a place and both ends of a range are character boundaries of a text.
+// Reports whether a place and both ends of a range are character boundaries of a text.
 fn are_boundaries(text: &str, place: usize, range: (usize, usize)) -> bool
     ensures { result
         ≡ (is_boundary text.now place && is_boundary text.now range.0 && is_boundary text.now range.1) }
@@ -92,7 +92,7 @@ fn are_boundaries(text: &str, place: usize, range: (usize, usize)) -> bool
     text.is_char_boundary(place) && text.is_char_boundary(range.0) && text.is_char_boundary(range.1)
 }
 
-/// Tests whether a break lies in a text: its place and both ends of its range are character boundaries of the text.
+/// Reports whether a break lies in a text: its place and both ends of its range are character boundaries of the text.
 pub fn lies_in<B: Break>(text: &str, b: &B) -> bool
     ensures { IsTrue result
         ↔ IsTrue (is_boundary text.now (B.meaning b.now).place && lists_within text.now (B.meaning b.now).place

@@ -20,7 +20,7 @@ pub struct Entry<C> {
 }
 
 impl<C: Payload> Entry<C> {
-    /// Tests whether an entry equals another one.
+    /// Reports whether an entry equals another one.
     ///
     /// ```text
     /// entry.is_same(&Entry { place: 2, value: 3, change: () })    // true for the value 3 at the place 2
@@ -60,7 +60,7 @@ pub trait Payload: Drop {
     fn rank(&self, value: u8) -> Option<u8>
         ensures { IfSome result (λ rank. rank ≡ rank_of self.now value) };
 
-    /// Tests whether a payload equals another one.
+    /// Reports whether a payload equals another one.
     fn is_same(&self, other: &Self) -> bool
         ensures { IsTrue result ↔ (self.now ≡ other.now) };
 
@@ -153,12 +153,12 @@ pub trait Listing: Break {
     fn change(&self) -> Option<&Subregion>
         ensures { option_copied result ≡ (Self.meaning self.now).change };
 
-    /// A listing made of a break means that break, or its place alone.
+    /// A listing made of a break means that break, or only its place.
     ghost listed_or_plain: { (b : Break)
         → (Self.meaning (listing_of b) ≡ b) ⊎ (Self.meaning (listing_of b) ≡ plain_break b.place) };
 }
 
-/// The listing of a standard dictionary is the place alone.
+/// The listing of a standard dictionary is only the place.
 impl Listing for usize {
     ghost use Rattle.std.specs.Prelude.{refl};
     ghost use Rattle.std.proofs.Common.{inr};
@@ -194,7 +194,7 @@ impl Listing for (usize, Option<Subregion>) {
     }
 }
 
-/// Tests whether a key has a letter: a byte other than a dot.
+/// Reports whether a key has a letter: a byte other than a dot.
 ///
 /// ```text
 /// has_letter(b".fi")    // true

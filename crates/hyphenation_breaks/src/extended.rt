@@ -93,7 +93,7 @@ impl Subregion {
         let (_left, _right, _breakpoint) = (self.left, self.right, self.breakpoint);
     }
 
-    // Tests whether a change equals another one.
+    // Reports whether a change equals another one.
     pub(crate) fn is_same(&self, other: &Subregion) -> bool
         ensures { IsTrue result ↔ (self.now ≡ other.now) }
     {

@@ -37,21 +37,21 @@ impl Model for Language {
     } };
 }
 
-// Tests whether a byte may occur in a code.
+// Reports whether a byte may occur in a code.
 fn is_code_byte(byte: u8) -> bool
     ensures { result ≡ is_code_byte byte }
 {
     matches!(byte, b'a'..=b'z' | b'0'..=b'9' | b'-')
 }
 
-// Tests whether each byte of a text may occur in a code.
+// Reports whether each byte of a text may occur in a code.
 fn are_code_bytes(text: &[u8]) -> bool
     ensures { result ≡ list_all is_code_byte text.now }
 {
     text.iter().all(|b| is_code_byte(*b))
 }
 
-// Tests whether a text is a code.
+// Reports whether a text is a code.
 fn is_code(text: &[u8]) -> bool
     ensures { result ≡ is_code text.now }
 {
@@ -62,7 +62,7 @@ impl Language {
     /// Returns the language of a code, or `None` if the text is not a code.
     ///
     /// ```text
-    /// Language::from_code("en-gb")    // Some(en-gb)
+    /// Language::from_code("en-gb")    // Some(Language("en-gb"))
     /// Language::from_code("en_GB")    // None: a code has no capitals and no underscore
     /// ```
     pub fn from_code(code: &str) -> Option<Language>

@@ -1,7 +1,7 @@
 //! Hyphenation for C, and for languages that call C: `bindings/c/hyphenation.h` declares and explains the calls.
 //!
-//! Each export calls a function of the crate [`c_calls`] or, for a `.dic` with the answers of libhyphen, of the crate
-//! [`level_calls`], which says more of it, and has the same clauses.
+//! Each export calls a function of the crate [`c_calls`], which says more of it and has the same clauses. Those for a
+//! `.dic` with the answers of libhyphen call the crate [`level_calls`].
 #![tactic(auto)]
 
 ghost use Rattle.std.specs.Prelude.{◌≡◌, ◌<◌, None, length};
@@ -112,7 +112,7 @@ pub extern "C" fn hyphenation_share(alloc: Global, handle: &mut Handle, other: &
     c_calls::share(alloc, handle, other)
 }
 
-/// Edits the exceptions: `+` and an exception as it stands after `e ` in a dictionary text, or `-` and a word.
+/// Edits the exceptions: `+` and an exception as it is written after `e ` in a dictionary text, or `-` and a word.
 #[unsafe(no_mangle)]
 pub extern "C" fn hyphenation_edit(alloc: Global, handle: &mut Handle, edit: &[u8]) -> u32
     ensures edits { Edits (holds handle.old) (holds handle.new) edit.now result }
@@ -275,8 +275,7 @@ pub extern "C" fn hyphenation_write(
     c_calls::write_canonical_text(alloc, handle, buffer, count)
 }
 
-/// Writes the paths at which the dictionary of a language is looked for, each with a byte 0 behind it, to the front of a
-/// buffer.
+/// Writes the paths at which the dictionary of a language is looked for to a buffer, each with a byte 0 behind it.
 #[unsafe(no_mangle)]
 pub extern "C" fn hyphenation_paths(
     alloc: Global,
@@ -314,7 +313,7 @@ pub extern "C" fn hyphenation_levels_free(alloc: Global, handle: &mut LevelsHand
     level_calls::free(alloc, handle);
 }
 
-/// Makes the tables by which such a dictionary breaks words faster, for the levels that have none yet and can have one.
+/// Makes the tables by which the dictionary breaks words faster, for the levels that have none yet and can have one.
 #[unsafe(no_mangle)]
 pub extern "C" fn hyphenation_levels_make_tables(alloc: Global, handle: &mut LevelsHandle) -> u32
     ensures unchanged { handle.new.slot.kept ≡ handle.old.slot.kept }
@@ -323,8 +322,8 @@ pub extern "C" fn hyphenation_levels_make_tables(alloc: Global, handle: &mut Lev
     level_calls::make_tables(alloc, handle)
 }
 
-/// Writes the digits of a word's characters, the changes of their places, and the texts of the changes, each to the front
-/// of a buffer, and whether a change was made.
+/// Writes the digits of a word's characters, the changes of their places, and the texts of the changes, each to a
+/// buffer. It also writes whether a change was made.
 #[unsafe(no_mangle)]
 pub extern "C" fn hyphenation_levels_word(
     alloc: Global,

@@ -10,7 +10,7 @@ abbrev pub KeysAreLookedUp : Type 0 → Type 0
 KeysAreLookedUp E =
     (t : Tree E) → IsTrie t → (text : List ℕ) → finite.get (patterns_of t) text ≡ entries_of_key t text
 
--- If two tries differ by the entries of one key alone, their maps differ by that key alone.
+-- If two tries differ only by the entries of one key, their maps differ only by that key.
 abbrev pub InsertedKeyIsAdded : Type 0 → Type 0
 InsertedKeyIsAdded E =
     (old new : Tree E) (key : List ℕ) (entries : List E) → IsTrie old → IsTrie new

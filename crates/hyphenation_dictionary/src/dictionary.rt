@@ -117,7 +117,7 @@ impl<C: Payload, B: Break> Dictionary<C, B> {
 
     /// Returns the breaks listed for a word, or `None` if the word is not an exception.
     ///
-    /// The look-up compares bytes, so an exception in small letters is found by small letters alone.
+    /// The look-up compares bytes, so an exception in small letters is found only by small letters.
     ///
     /// ```text
     /// dictionary.listed("table")    // Some(&[2]) if the exceptions have ta-ble
@@ -128,7 +128,7 @@ impl<C: Payload, B: Break> Dictionary<C, B> {
         self.exceptions.get(word)
     }
 
-    /// Tests whether breaks may be listed for a word.
+    /// Reports whether breaks may be listed for a word.
     ///
     /// They may be listed if their places ascend strictly, and each place and each end of a range is a character boundary
     /// of the word. Ranges may overlap. The empty list may be listed for each word.
@@ -184,7 +184,7 @@ impl<C: Payload, B: Break> Dictionary<C, B> {
     /// No other word changes.
     ///
     /// ```text
-    /// dictionary.remove_exception("table")    // Some of the listed breaks; the patterns decide then
+    /// dictionary.remove_exception("table")    // Some([2]) if the exceptions have ta-ble; the patterns decide then
     /// ```
     pub fn remove_exception(&mut self, word: &str) -> Option<Vec<B>>
         ensures removed { self.new ≡ record self.old { exceptions = finite.remove self.old.exceptions word.now } }
@@ -193,22 +193,23 @@ impl<C: Payload, B: Break> Dictionary<C, B> {
         self.exceptions.remove(word)
     }
 
-    /// Returns whether the dictionary has the table that [`Dictionary::make_table`] makes.
+    /// Reports whether the dictionary has the table that [`Dictionary::make_table`] makes.
     pub fn has_table(&self) -> bool {
         self.table.is_some()
     }
 
     /// Makes the table by which words are scored faster, and returns whether the dictionary has one.
     ///
-    /// The contents stay as they are, and so does each break. Without a table the patterns are searched by links. A table takes
-    /// memory and time, so it pays for a dictionary that is asked for many words (thousands in English, tens of thousands
-    /// in Hungarian). It can't be made if a value is more than 15 bytes before its key's end, or if it would be too large (16 MB
-    /// of cells), nor for an extended dictionary with a value above 127. A word of an extended dictionary whose breaks may
-    /// change letters is searched by links as well. The only error is out of memory; the dictionary can be used on as it was.
+    /// The contents stay as they are, and so does each break. Without a table the patterns are searched by links. A
+    /// table takes memory and time. So it pays for a dictionary that is asked for many words: thousands in English,
+    /// tens of thousands in Hungarian. There is none if a value is more than 15 bytes before its key's end, or if it
+    /// would have more than 16 MB of cells. Nor has an extended dictionary with a value above 127 one. A word of an
+    /// extended dictionary whose breaks may change letters is searched by links as well. The only error is out of
+    /// memory; the dictionary can be used on as it was.
     ///
     /// ```text
     /// let mut dictionary = Standard::from_reader(alloc, language, &mut reader)?;
-    /// dictionary.make_table(alloc)?;      // true, but for a dictionary that can have none
+    /// dictionary.make_table(alloc)?;      // true, except for a dictionary that can have none
     /// ```
     pub fn make_table(&mut self, alloc: Global) -> Result<bool, AllocError>
         ensures { self.new ≡ self.old }
@@ -222,7 +223,7 @@ impl<C: Payload, B: Break> Dictionary<C, B> {
         Ok(made)
     }
 
-    /// Makes the table if it pays for words of so many bytes together, as [`Dictionary::make_table`] makes it.
+    /// Makes the table if it pays for words of that many bytes together, as [`Dictionary::make_table`] makes it.
     ///
     /// It pays where there are four bytes or more for each node of the patterns' trie. In English these are some 40 KB.
     pub fn make_table_for(&mut self, alloc: Global, bytes: usize) -> Result<bool, AllocError>

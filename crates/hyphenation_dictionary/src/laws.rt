@@ -9,7 +9,7 @@ pub fn keys_are_looked_up<E>()
     ensures { KeysAreLookedUp E }
 {}
 
-/// If two tries differ by the entries of one key alone, their maps differ by that key alone.
+/// If two tries differ only by the entries of one key, their maps differ only by that key.
 pub fn inserted_key_is_added<E>()
     ensures { InsertedKeyIsAdded E }
 {}

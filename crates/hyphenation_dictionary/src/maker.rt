@@ -22,7 +22,7 @@ use hyphenation_breaks::laws::entries_in_order;
 use hyphenation_trie::Trie;
 use std::alloc::{AllocError, Global};
 
-// Tests whether a key may have an entry. The place must be a character boundary, the value not 0, and the change must
+// Reports whether a key may have an entry. The place must be a character boundary, the value not 0, and the change must
 // keep within the key.
 fn is_entry<C: Payload>(key: &str, entry: &Entry<C>) -> bool
     ensures { result ≡ (is_boundary key.now entry.now.place && is_entry C.change_of key.now entry.now) }
@@ -33,7 +33,7 @@ fn is_entry<C: Payload>(key: &str, entry: &Entry<C>) -> bool
     lies_in(key, &(entry.place as usize, entry.change.as_change()))
 }
 
-// Tests whether a key may have entries: each of them is allowed, and their places ascend strictly.
+// Reports whether a key may have entries: each of them is allowed, and their places ascend strictly.
 fn are_entries<C: Payload>(key: &str, entries: &[Entry<C>]) -> bool
     ensures { result ≡ are_entries C.change_of key.now entries.now }
 {
@@ -52,7 +52,7 @@ fn are_entries<C: Payload>(key: &str, entries: &[Entry<C>]) -> bool
     true
 }
 
-/// Tests whether a key may have entries.
+/// Reports whether a key may have entries.
 ///
 /// The key must have a letter, a byte other than a dot. The places of the entries must ascend strictly. Each place and
 /// each end of a range must be a character boundary of the key. No value may be 0. A key may be without entries; it then
@@ -60,7 +60,7 @@ fn are_entries<C: Payload>(key: &str, entries: &[Entry<C>]) -> bool
 ///
 /// ```text
 /// fits_key(".fi", &[Entry { place: 3, value: 2, change: () }])    // true
-/// fits_key("...", &[])                                            // false: no letter
+/// fits_key::<()>("...", &[])                                      // false: no letter
 /// ```
 pub fn fits_key<C: Payload>(key: &str, entries: &[Entry<C>]) -> bool
     ensures { IsTrue result ↔ IsTrue (fits_key C.change_of key.now entries.now) }
@@ -106,10 +106,11 @@ fn map_of<B: Listing>(
 /// error is out of memory.
 ///
 /// ```text
-/// // the pattern .fi2 and the exception ta-ble
-/// let patterns = vec![(".fi", vec![Entry { place: 3, value: 2, change: () }])];
-/// let exceptions = vec![("table", vec![2])];
-/// let dictionary: Standard = make(alloc, language, 2, 3, patterns, exceptions)?;
+/// let mut entries = Vec::new(alloc);
+/// entries.push(Entry { place: 3, value: 2, change: () })?;
+/// let mut patterns = Vec::new(alloc);
+/// patterns.push((String::from_str(alloc, ".fi")?, entries))?;      // the pattern .fi2
+/// let dictionary: Standard = make(alloc, language, 2, 3, patterns, Vec::new(alloc))?;
 /// ```
 pub fn make<C: Payload, B: Listing>(
     alloc: Global,

@@ -15,7 +15,7 @@ is_pattern_line line = starts_with (codes "p ") line
 abbrev pub is_exception_line : List ℕ → Bool
 is_exception_line line = starts_with (codes "e ") line
 
--- The tokens of such a line: the pieces between single spaces after its first two bytes.
+-- The tokens of a line with an item: the pieces between single spaces after its first two bytes.
 abbrev pub tokens_of : List ℕ → List (List ℕ)
 tokens_of line = between_spaces (drop 2 line)
 

@@ -37,7 +37,7 @@ abbrev pub is_extended : Kind → Bool
 is_extended Standard = false
 is_extended Extended = true
 
--- A value other than 0 stands at the place.
+-- A value other than 0 is at the place.
 abbrev pub has_value_at : List PatternElement → ℕ → Bool
 has_value_at elements place = list_any (λ v. v.0 == place) (values_from 0 elements)
 
@@ -58,7 +58,7 @@ has_bad_number later = not (list_all (λ token. list_all is_number (numerals_of 
 abbrev pub has_bad_place : List ℕ → List (List ℕ) → Bool
 has_bad_place text later = not (ascend_on text 0 (map place_of_token later))
 
--- A later token does not belong in such a line.
+-- A later token does not belong in this line.
 abbrev pub has_bad_change : Form → Bool → List PatternElement → List ℕ → List (List ℕ) → Bool
 has_bad_change form in_pattern elements text later =
     not (list_all (is_good_later_token form in_pattern elements text) later)
@@ -110,7 +110,7 @@ repetition version earlier line =
 abbrev pub cause_of : Form → List (List ℕ) → List ℕ → Option Cause
 cause_of form earlier line = option_or (own_cause form (length earlier + 1) line) (repetition form.version earlier line)
 
--- The head line that is missing after so many lines.
+-- The head line that is missing after this number of lines.
 abbrev pub missing_head : ℕ → Option Cause
 missing_head n =
     if n == 0 then Some Header else (if n == 1 then Some Language else (if n == 2 then Some Minima else None))

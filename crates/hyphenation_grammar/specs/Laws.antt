@@ -10,7 +10,7 @@ use Rattle.hyphenation_grammar.specs.declared.tokens.EscapedByte.{EscapedByte}
 use Rattle.hyphenation_grammar.specs.declared.tokens.PatternElement.{PatternElement}
 use Rattle.hyphenation_grammar.specs.declared.tokens.PatternElement.TheVariants.{Letter, Value}
 
--- An ASCII byte in UTF-8 stands between two texts in UTF-8.
+-- An ASCII byte in UTF-8 is between two texts in UTF-8.
 abbrev pub AsciiPartsText : Type 0
 AsciiPartsText =
     (before : List ℕ) (b : ℕ) (after : List ℕ) → b < 128 → IsUtf8 (before ++ b ∷ after) → IsUtf8 before × IsUtf8 after
@@ -28,7 +28,7 @@ PartsAreText = (i : ℕ) (token : List ℕ) → IsUtf8 token → IsUtf8 (part i 
 abbrev pub SpeltIsText : Type 0
 SpeltIsText = (written text : List ℕ) → IsUtf8 written → text_spelt written ≡ Some text → IsUtf8 text
 
--- The key of a pattern in UTF-8 is UTF-8, and its values stand between characters of it.
+-- The key of a pattern in UTF-8 is UTF-8, and its values are between characters of it.
 abbrev pub KeysAreText : Type 0
 KeysAreText =
     (version : Version) (token : List ℕ) (elements : List PatternElement) → IsUtf8 token
@@ -44,7 +44,7 @@ SpeltOneByOne spells [] written = written ≡ []
 SpeltOneByOne {X} {Y} spells (y ∷ ys) written =
     (front : List X) × (rest : List X) × (written ≡ front ++ rest) × spells y front × SpeltOneByOne spells ys rest
 
--- A byte that stands as it is. A backslash would begin an escape, and a carriage return is refused.
+-- A byte that is written as it is. A backslash would begin an escape, and a carriage return is refused.
 pub record IsItself (spelt : EscapedByte) (written : List ℕ) : Type 0 where
   pub unescaped : spelt.escaped ≡ false
   pub alone : written ≡ spelt.byte ∷ []
@@ -68,7 +68,7 @@ BytesAreSpelt =
     (escapes : Escapes) (token : List ℕ) (bytes : List EscapedByte)
     → (escaped_bytes_of escapes token ≡ Some bytes) ↔ SpeltOneByOne (SpellsByte escapes) bytes token
 
--- Bytes that stand as they are.
+-- Bytes that are written as they are.
 abbrev pub unescaped : List ℕ → List EscapedByte
 unescaped bytes = map (λ b. record { byte = b; escaped = false }) bytes
 

@@ -48,7 +48,7 @@ with_digit n b = n * 10 + (b - digit_zero)
 abbrev pub number : List ℕ → ℕ
 number text = fold with_digit 0 text
 
--- A text is not empty, and its first byte is no `0` unless it is alone.
+-- A text is not empty, and its first byte is no `0` unless it is the only one.
 abbrev pub has_no_leading_zero : List ℕ → Bool
 has_no_leading_zero [] = false
 has_no_leading_zero (b ∷ rest) = not (b == digit_zero) || length rest == 0
@@ -70,11 +70,11 @@ language_of line =
 abbrev pub is_number_to_255 : List ℕ → Bool
 is_number_to_255 text = is_number text && nat_le (number text) 255
 
--- The number from 0 to 255 that a text spells; none if it is no such number.
+-- The number from 0 to 255 that a text spells; none if it spells no number of these.
 abbrev pub number_to_255 : List ℕ → Option ℕ
 number_to_255 text = if is_number_to_255 text then Some (number text) else None
 
--- Two such numbers, if there are exactly two parts.
+-- Two of these numbers, if there are exactly two parts.
 abbrev pub two_minima : List (List ℕ) → Option (ℕ × ℕ)
 two_minima parts =
     if length parts == 2

@@ -151,7 +151,7 @@ abbrev pub put_byte : Bool → ℕ → List (List ℕ) → List (List ℕ)
 put_byte true b parts = [] ∷ parts
 put_byte false b parts = onto_first b parts
 
--- The parts of a text, split at its first so many commas.
+-- The parts of a text, split at this number of its first commas.
 abbrev pub parts_within : ℕ → List ℕ → List (List ℕ)
 parts_within commas [] = [] ∷ []
 parts_within commas (b ∷ rest) =
@@ -173,7 +173,7 @@ has_comma token = nat_lt 1 (length (parts_of token))
 abbrev pub numerals_of : List ℕ → List (List ℕ)
 numerals_of token = if has_comma token then take (length (parts_of token) - 1) (parts_of token) else parts_of token
 
--- A later token is not empty, and each part can be read. `\e` is allowed after the fourth comma alone.
+-- A later token is not empty, and each part can be read. `\e` is allowed only after the fourth comma.
 abbrev pub is_readable : List ℕ → Bool
 is_readable token =
     nat_lt 0 (length token) && list_all (λ written. is_some (escaped_bytes_of Plain written)) (take 4 (parts_of token))

@@ -10,7 +10,7 @@ pub fn parts_are_text()
     ensures token_parts { PartsAreText }
 {}
 
-/// A token in UTF-8 spells a text in UTF-8, and the values of a pattern stand between characters of its key.
+/// A token in UTF-8 spells a text in UTF-8, and the values of a pattern are between characters of its key.
 pub fn spelt_is_text()
     ensures text { SpeltIsText }
     ensures key { KeysAreText }

@@ -2,8 +2,8 @@
 //!
 //! The definitions, in `specs/`, say what each line spells, which test it fails first, and which dictionary an accepted
 //! text gives. [`form`] has kinds and versions, [`lines`] lines and numbers, [`tokens`] and [`pattern`] tokens, and
-//! [`laws`] what is true of all of them. Two crates stand on this one: `hyphenation_reader` makes a dictionary of a
-//! text, and `hyphenation_writer` writes the canonical text of a dictionary.
+//! [`laws`] what is true of all of them. Two crates use this one: `hyphenation_reader` makes a dictionary of a text,
+//! and `hyphenation_writer` writes the canonical text of a dictionary.
 #![tactic(auto)]
 
 mod examples;
@@ -45,7 +45,7 @@ pub enum Cause {
     Number,
     /// The places, in bytes, do not ascend, or one is no character boundary of the key or word.
     Place,
-    /// A change is not allowed there, lacks a part, or reaches past the key or word.
+    /// A change is not allowed there, has not all parts, or reaches past the key or word.
     Change,
     /// An earlier line has the same key.
     RepeatedPattern,

@@ -86,14 +86,14 @@ pub fn strip_prefix<'t>(start: &[u8], text: &'t [u8]) -> Option<&'t [u8]>
     text.strip_prefix(start)
 }
 
-/// Whether a text begins with these bytes.
+/// Reports whether a text begins with these bytes.
 pub fn starts_with(start: &[u8], text: &[u8]) -> bool
     ensures { result ≡ starts_with start.now text.now }
 {
     strip_prefix(start, text).is_some()
 }
 
-/// Whether a line is the line 1 of that form.
+/// Reports whether a line is the line 1 of that form.
 pub fn is_head(form: Form, line: &[u8]) -> bool
     ensures { result ≡ is_same line.now (head_line form) }
 {
@@ -227,7 +227,7 @@ fn with_digit(value: usize, digit: u8) -> Option<usize>
     value.checked_mul(10)?.checked_add(units)
 }
 
-/// Whether bytes are UTF-8.
+/// Reports whether bytes are UTF-8.
 pub fn is_utf8(text: &[u8]) -> bool
     ensures { result ≡ is_utf8 text.now }
 {

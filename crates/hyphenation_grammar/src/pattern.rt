@@ -63,7 +63,7 @@ impl PatternToken {
         self.digits = None;
     }
 
-    /// Whether some brace opens or closes no value.
+    /// Reports whether some brace opens or closes no value.
     pub fn is_bad(&self) -> bool
         ensures { result ≡ is_bad (pattern_view self.now) }
     {
@@ -269,8 +269,8 @@ pub fn read_pattern(
 /// Returns the first line of a text as [`next_line`] does, and whether it was read into `pattern`, whose old contents are
 /// dropped.
 ///
-/// It was read only if the line is `p ` and a token alone, without escape and brace, and ends with a line feed. Most
-/// lines of patterns are like this. To read them so takes less time than [`read_pattern`] does, and gives the same. If the
+/// It was read only if the line is `p ` and one token, without escape and brace, and ends with a line feed. Most lines
+/// of patterns are like this. To read them so takes less time than [`read_pattern`] does, and gives the same. If the
 /// line was not read, `pattern` means nothing.
 #[inline(always)]
 pub fn next_line_reading<'t>(
@@ -319,9 +319,9 @@ fn end_of_token(place: usize, byte: u8) -> Option<usize>
     }
 }
 
-// Reads the token at the beginning of a text into `pattern`, whose old contents are dropped, and returns the place of the line
-// feed that ends it. `None` if there is none, or if the token is not ordinary; then `pattern` means nothing. The only error is
-// memory.
+// Reads the token at the beginning of a text into `pattern`, whose old contents are dropped. It returns the place of
+// the line feed that ends the token. `None` if there is none, or if the token is not ordinary; then `pattern` means
+// nothing. The only error is memory.
 #[inline(always)]
 fn read_ordinary_token(text: &[u8], pattern: &mut PatternToken) -> Result<Option<usize>, AllocError>
     ensures ends { IfOk result (λ found. IfSome found (λ end.

@@ -21,7 +21,7 @@ use crate::lines::number_of;
 use hyphenation_breaks::extended::Subregion;
 use std::alloc::{AllocError, Global};
 
-/// The escapes of a token: which letters may stand after a backslash.
+/// The escapes of a token: which letters may follow a backslash.
 #[derive(Clone, Copy)]
 pub enum Escapes {
     /// The four of each token: `\\`, `\s`, `\n` and `\r`.
@@ -63,7 +63,7 @@ fn byte_of_escape(escapes: Escapes, letter: u8) -> Option<u8>
     }
 }
 
-/// Whether a letter after a backslash means itself: a digit or a brace, where these escapes have them.
+/// Reports whether a letter after a backslash means itself: a digit or a brace, where these escapes have them.
 pub fn escaped_also(escapes: Escapes, letter: u8) -> bool
     ensures { result ≡ escaped_also escapes letter }
 {
@@ -109,14 +109,14 @@ pub(crate) fn has_good_escapes(escapes: Escapes, text: &[u8]) -> bool
     !after
 }
 
-// Whether a byte stands for itself without an escape.
+// Whether a byte means itself without an escape.
 fn stands_for_itself(byte: u8) -> bool
     ensures { result ≡ stands_for_itself byte }
 {
     byte != b'\\' && byte != b'\r'
 }
 
-// Whether all bytes stand for themselves.
+// Whether all bytes mean themselves.
 fn stand_for_themselves(text: &[u8]) -> bool
     ensures { result ≡ list_all stands_for_itself text.now }
 {
@@ -175,7 +175,7 @@ pub(crate) fn element_of(spelt: EscapedByte) -> PatternElement
     }
 }
 
-/// Whether a character begins at the place, in bytes, or the text ends there.
+/// Reports whether a character begins at the place, in bytes, or the text ends there.
 pub fn is_boundary(text: &[u8], at: usize) -> bool
     ensures { result ≡ is_boundary text.now at }
 {
@@ -227,7 +227,7 @@ fn parts_of(alloc: Global, token: &[u8]) -> Result<Vec<&[u8]>, AllocError>
 pub enum LaterToken {
     /// A part that must be a number is none.
     NoNumber,
-    /// The change at this place lacks a part, or its breakpoint is within a character of its substitution.
+    /// The change at this place has not all parts, or its breakpoint is within a character of its substitution.
     Unsound(usize),
     /// A place, in bytes, with a change if the token has commas.
     Sound(usize, Option<Subregion>),

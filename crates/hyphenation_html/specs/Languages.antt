@@ -1,5 +1,5 @@
--- Which dictionary serves a language.
--- Source: RFC 4647, 3.4 Lookup, of language ranges by their codes: a tag is cut at hyphens from its end until a code is it.
+-- Which dictionary serves a language. Source: RFC 4647, 3.4 Lookup, of language ranges by their codes. A tag is cut at hyphens
+-- from its end until it is a code.
 use Rattle.std.specs.Prelude.{ℕ, ◌==◌, ◌||◌, ◌&&◌, Bool, List, map, [], ◌∷◌, length, take, slice_index, nat_le, nat_lt, Option, Some, None, if◌then◌else◌}
 use Rattle.std.specs.Option.{option_map_or}
 use Rattle.std.specs.String.{string_bytes}

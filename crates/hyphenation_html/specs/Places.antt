@@ -19,7 +19,7 @@ use Rattle.hyphenation_html.specs.Words.{is_left_whole}
 use Rattle.hyphenation_html.specs.declared.languages.LanguageDictionary.{LanguageDictionary}
 use Rattle.hyphenation_html.specs.declared.settings.Settings.{Settings}
 
--- Places that stand n bytes further on.
+-- Places that are n bytes further on.
 abbrev pub shifted : ℕ → List ℕ → List ℕ
 shifted n places = map (λ p. n + p) places
 
@@ -28,12 +28,12 @@ abbrev pub words_places : Breaks → List (List ℕ) → List ℕ
 words_places breaks [] = []
 words_places breaks (word ∷ words) = breaks word ++ shifted (length word) (words_places breaks words)
 
--- The breaks of the words of a token, which stands between white space; none where it is left whole.
+-- The breaks of the words of a token, which is between white space; none where it is left whole.
 unfoldable pub token_places : Breaks → List ℕ → List ℕ
 token_places breaks token = if is_left_whole token then [] else words_places breaks (word_bounds token)
 
--- The breaks of a text from a token on, whose bytes so far are `front`. A token whose word goes on outside of the text
--- has none: the first one where something touches the text from before, and the last one where it does from after.
+-- The breaks of a text from a token on, whose bytes so far are `front`. A token whose word goes on outside of the text has
+-- none. It is the first one where something touches the text from before, and the last one where it does from after.
 abbrev pub tokens_places : Breaks → Bool → Bool → List ℕ → List ℕ → List ℕ
 tokens_places breaks before after front [] = if before || after then [] else token_places breaks front
 tokens_places breaks before after front (b ∷ bs) =

@@ -7,7 +7,7 @@ use Rattle.hyphenation_html.specs.Languages.{breaks_under}
 use Rattle.hyphenation_html.specs.Places.{text_places}
 use Rattle.hyphenation_html.specs.declared.settings.Settings.{Settings}
 
--- A text with the mark at each break of its words. Nothing stands before the text or after it.
+-- A text with the mark at each break of its words. Nothing is before the text or after it.
 abbrev pub hyphenated_by : Breaks → List ℕ → List ℕ → List ℕ
 hyphenated_by breaks mark text = with_marks mark text (text_places breaks false false text)
 

@@ -8,25 +8,25 @@ use Rattle.html_pieces.specs.Pieces.{Piece}
 use Rattle.html_pieces.specs.declared.tokenizer.Kind.{Kind}
 use Rattle.html_pieces.specs.declared.tokenizer.Kind.TheVariants.{Text, Reference, StartTag, EmptyTag, EndTag, Other}
 
--- Elements that stand within a line by what they mean, so that a word may begin in one and end outside of it.
+-- Elements within a line by what they mean, so that a word may begin in one and end outside of it.
 abbrev pub phrase_names : List (List ℕ)
 phrase_names =
     codes "a" ∷ codes "abbr" ∷ codes "acronym" ∷ codes "bdi" ∷ codes "bdo" ∷ codes "cite" ∷ codes "data"
     ∷ codes "del" ∷ codes "dfn" ∷ codes "em" ∷ codes "ins" ∷ codes "mark" ∷ codes "q" ∷ codes "strong"
     ∷ codes "time" ∷ codes "wbr" ∷ []
 
--- Elements that stand within a line by how they look.
+-- Elements within a line by how they look.
 abbrev pub style_names : List (List ℕ)
 style_names =
     codes "b" ∷ codes "big" ∷ codes "code" ∷ codes "font" ∷ codes "i" ∷ codes "kbd" ∷ codes "nobr" ∷ codes "s"
     ∷ codes "samp" ∷ codes "small" ∷ codes "span" ∷ codes "strike" ∷ codes "sub" ∷ codes "sup" ∷ codes "tt"
     ∷ codes "u" ∷ codes "var" ∷ []
 
--- An element stands within a line.
+-- An element is within a line.
 abbrev pub is_inline : List ℕ → Bool
 is_inline name = is_one_of phrase_names name || is_one_of style_names name
 
--- A word goes on over a piece: over a tag of such an element, and over comments and the like.
+-- A word goes on over a piece: over a tag of one of these elements, and over comments and the like.
 unfoldable pub goes_on_over : Kind → List ℕ → Bool
 goes_on_over StartTag tag = is_inline (name_of tag)
 goes_on_over EmptyTag tag = is_inline (name_of tag)

@@ -11,18 +11,18 @@ abbrev pub first_is_capital : List ℕ → Bool
 first_is_capital [] = false
 first_is_capital (c ∷ cs) = is_uppercase c
 
--- A word has too few characters, or begins with a capital where such words are left alone.
+-- A word has too few characters, or begins with a capital where words with a capital are left alone.
 unfoldable pub is_passed_over : ℕ → Bool → List ℕ → Bool
 is_passed_over least skips_capitals word =
     nat_lt (length (chars word)) least || skips_capitals && first_is_capital (chars word)
 
--- The breaks of words, but for those that are passed over.
+-- The breaks of words, without those of words that are passed over.
 abbrev pub within_limits : ℕ → Bool → Breaks → Breaks
 within_limits least skips_capitals places word = if is_passed_over least skips_capitals word then [] else places word
 
 -- ---- tokens, which are the parts of a text between white space
 
--- A soft hyphen, which is U+00AD, stands in a text, which this byte stands before.
+-- A soft hyphen, which is U+00AD, is in a text after this byte.
 abbrev pub has_soft_hyphen_after : ℕ → List ℕ → Bool
 has_soft_hyphen_after before [] = false
 has_soft_hyphen_after before (b ∷ bs) = before == 0xC2 && b == 0xAD || has_soft_hyphen_after b bs

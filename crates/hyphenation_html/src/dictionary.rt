@@ -1,4 +1,4 @@
-//! The breaks of a dictionary, but for words that are passed over.
+//! The breaks of a dictionary, without those of words that are passed over.
 
 ghost use Rattle.hyphenation_html.specs.Languages.{breaks_under};
 ghost use Rattle.hyphenation_html.specs.Private.Fit.{AllAscend};
@@ -6,7 +6,7 @@ ghost use Rattle.hyphenation_html.specs.Private.Fit.{AllAscend};
 use crate::settings::Settings;
 use any_dictionary::AnyDictionary;
 
-// Gives proofs that the breaks of each word, but for those that are passed over, ascend on it.
+// Gives proofs that the breaks of each word, except words that are passed over, ascend on it.
 pub(crate) fn limited_breaks_fit(dictionary: &AnyDictionary, settings: &Settings<'_>)
     ensures { AllAscend (breaks_under settings.now dictionary.now) }
 {

@@ -171,7 +171,7 @@ fn text_touched_after(kind: Kind, rest: &[Piece<'_>]) -> bool
     is_text(kind) && touched_after(rest)
 }
 
-// Appends the pieces of a page, each in the element that it stands in.
+// Appends the pieces of a page, each in the element that it is in.
 fn push_pieces<'t>(
     output: &mut String,
     alloc: Global,
@@ -243,14 +243,14 @@ fn all_fit(languages: &[LanguageDictionary], settings: &Settings<'_>)
 
 /// Returns an HTML or XHTML page with the mark at each break of the words of its text.
 ///
-/// Each word is broken by the dictionary of the language that `lang` or `xml:lang` names for it, and by that of
-/// `language` where the page names none. A code serves each language that begins with it and a hyphen, and the longest
-/// such code counts. A text whose language has no dictionary is left as it is.
+/// Each word is broken by the dictionary of the language that `lang` or `xml:lang` names for it. Where the page names
+/// none it is broken by that of `language`. A code serves each language that begins with it and a hyphen, and the
+/// longest of these codes counts. A text whose language has no dictionary is left as it is.
 ///
-/// All that is not text stays as it is, byte for byte: tags, comments, scripts, character references. So do the texts of
-/// elements as `pre` and `code`, of those with `translate="no"`, and of those that have the class of the settings. A
-/// part of a text between white space is left whole if it has a soft hyphen, is an address, or goes on in a character
-/// reference or over a tag within a line, as that of `b`.
+/// All that is not text stays as it is, byte for byte: tags, comments, scripts, character references. So do the texts
+/// of elements as `pre` and `code`, with `translate="no"`, or with the class of the settings. A part of a text between
+/// white space is left whole if it has a soft hyphen or is an address. So is one that goes on in a character reference,
+/// or over a tag within a line, as that of `b`.
 ///
 /// An error says that memory was refused.
 ///

@@ -48,7 +48,7 @@ fn push_word(
     }
 }
 
-// Appends a token, which stands between white space, with the mark at the breaks of its words.
+// Appends a token, which is between white space, with the mark at the breaks of its words.
 #[tactic(auto, unfolding(crate::specs::Private::Marked::marked_token))]
 fn push_token(
     output: &mut String,

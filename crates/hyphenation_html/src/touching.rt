@@ -10,7 +10,7 @@ use addresses::is_of_word;
 use html_pieces::bytes::is_same_name;
 use html_pieces::tokenizer::{Kind, Piece, name_of};
 
-// Whether an element stands within a line by what it means.
+// Whether an element is within a line by what it means.
 fn is_phrase(name: &[u8]) -> bool
     ensures { result ≡ is_one_of phrase_names name.now }
 {
@@ -32,7 +32,7 @@ fn is_phrase(name: &[u8]) -> bool
         || is_same_name(name, b"wbr")
 }
 
-// Whether an element stands within a line by how it looks.
+// Whether an element is within a line by how it looks.
 fn is_style(name: &[u8]) -> bool
     ensures { result ≡ is_one_of style_names name.now }
 {
@@ -55,7 +55,7 @@ fn is_style(name: &[u8]) -> bool
         || is_same_name(name, b"var")
 }
 
-// Whether an element stands within a line.
+// Whether an element is within a line.
 fn is_inline(name: &[u8]) -> bool
     ensures { result ≡ is_inline name.now }
 {

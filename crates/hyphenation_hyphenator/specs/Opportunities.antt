@@ -48,7 +48,7 @@ unfoldable pub breaks_at_odd_values : {C : Type 0} → (C → Option Change) →
 breaks_at_odd_values change_of keys word =
     map (winning_break change_of keys word) (filter (λ place. is_odd (value_at keys word place)) (places word))
 
--- The rules of a dictionary, by the change that an entry carries and the break that a listing stands for.
+-- The rules of a dictionary, by the change that an entry carries and the break that a listing means.
 abbrev pub rules_of : {C B : Type 0} → (C → Option Change) → (B → Break) → Contents C B → Rules
 rules_of change_of break_of contents = record {
   minima = (contents.left, contents.right);
@@ -86,7 +86,7 @@ boundaries_by rules word = boundaries rules.minima.0 rules.minima.1 word
 abbrev pub exception_within_boundaries : Rules → List ℕ → Option (List Break)
 exception_within_boundaries rules word = option_and_then (by_exception rules word) (boundaries_by rules word)
 
--- The breaks within bounds: by exception alone where the word is one, and else by patterns.
+-- The breaks within bounds: only by exception where the word is one, and else by patterns.
 abbrev pub opportunities_in : Rules → List ℕ → ℕ × ℕ → List Break
 opportunities_in rules word bounds = unwrap_or (by_exception rules word bounds) (by_patterns rules word bounds)
 

@@ -9,8 +9,8 @@
 //! shifts       (0, -1) (1, -2)
 //! ```
 //!
-//! [`refold`] returns the folded word with a [`Shift`] for each such character, and [`realign`] carries a place of the
-//! folded word back by them. Place 3, before the `a`, comes after the shift of the `ẞ` and becomes 3 + 2 = 5.
+//! [`refold`] returns the folded word with a [`Shift`] for each of these characters, and [`realign`] carries a place of
+//! the folded word back by them. Place 3, before the `a`, comes after the shift of the `ẞ` and becomes 3 + 2 = 5.
 ghost use Rattle.std.specs.Prelude.{◌≡◌, ◌≤◌, ◌<◌, ◌^◌, ◌↔◌, ℕ, pos, ◌-ℤ◌, nat_lt, false};
 ghost use Rattle.std.specs.Prelude.{List, [], ◌∷◌, ◌-◌, ◌*◌, ◌+◌, true, IsTrue, chars, length, take, find, reverse};
 ghost use Rattle.std.specs.Prelude.{IfOk, IsOkAnd, IfSome, IsNone};
@@ -54,11 +54,11 @@ pub struct Shift {
 /// U+0130, the Turkish `İ`, becomes `i`. Any other character with the property Uppercase becomes its simple case
 /// folding. All others stay as they are.
 ///
-/// A word without such capitals is borrowed, without shifts and without taking memory. For any other word an error says
-/// that memory was refused.
+/// A word without these capitals is borrowed, without shifts and without taking memory. For any other word an error
+/// says that memory was refused.
 ///
 /// ```text
-/// let (folded, shifts) = refold(alloc, "İẞab")?;      // "ißab", shifts (0, -1) and (1, -2)
+/// let (folded, shifts) = refold(alloc, "İẞab")?;      // folded.as_str(): "ißab", and the shifts (0, -1) and (1, -2)
 /// realign(3, &shifts)                                 // 5: the place before the a, in the word as written
 /// ```
 pub fn refold<'t>(alloc: Global, original: &'t str) -> Result<(CowStr<'t>, Vec<Shift>), AllocError>
@@ -77,7 +77,7 @@ pub fn refold<'t>(alloc: Global, original: &'t str) -> Result<(CowStr<'t>, Vec<S
     }
 }
 
-// Copies a text into a `String` with capacity for so many bytes.
+// Copies a text into a `String` with capacity for that many bytes.
 fn copied_with_capacity(alloc: Global, front: &str, capacity: usize) -> Result<String, AllocError>
     ensures { IfOk result (λ text. string_bytes text ≡ front.now) }
 {
@@ -180,7 +180,7 @@ fn are_common_lowercase_in_turn(bytes: &[u8]) -> bool
     let last = bytes.len().saturating_sub(1);
     let mut at = 0;
     while at < last {
-        // Mostly two letters of ASCII stand side by side, or one character of two bytes is next.
+        // Mostly two letters of ASCII are side by side, or one character of two bytes is next.
         let (first, second) = (bytes[at], bytes[at + 1]);
         if first.is_ascii_lowercase() {
             if second.is_ascii_lowercase() {

@@ -159,7 +159,7 @@ pub trait Hyphenator<'h> {
     /// Nothing else changes.
     ///
     /// ```text
-    /// let before = dictionary.remove_exception("present");      // the breaks listed before, or None
+    /// let before = dictionary.remove_exception("present");      // None, or the breaks listed before
     /// ```
     fn remove_exception(&mut self, word: &str) -> Option<Vec<Self::Exact>>
         ensures unlists { ListsOnly (rules self.old) (rules self.new) word.now None }
@@ -180,7 +180,7 @@ pub trait Hyphenator<'h> {
     /// ```text
     /// let mut places = Vec::new(alloc);
     /// for word in words {
-    ///     dictionary.breaks_into(word, &mut places)?;      // for "Hyphenation" 2, 6, 7
+    ///     dictionary.breaks_into(word, &mut places)?;      // 2, 6, 7 for "Hyphenation"
     /// }
     /// ```
     fn breaks_into(

@@ -20,7 +20,7 @@ IsLoadError refusal (LanguageMismatch expected found) = ⊥
 IsLoadError refusal (IO e) = ⊤
 IsLoadError refusal (Memory e) = ⊤
 
--- Loading a text returns its dictionary exactly where it is accepted, else such an error.
+-- Loading a text returns its dictionary exactly where it is accepted, else an error of loading.
 abbrev pub Loads : {D : Type 0} → Option (ℕ × Cause) → D → Result D Error → Type 0
 Loads refusal contents result =
     MatchResult result (λ dictionary. (refusal ≡ None) × (dictionary ≡ contents)) (IsLoadError refusal)
@@ -38,8 +38,8 @@ IsLoadErrorIn refusal asked language (LanguageMismatch expected found) =
 IsLoadErrorIn refusal asked language (IO e) = ⊤
 IsLoadErrorIn refusal asked language (Memory e) = ⊤
 
--- Loading in a language returns the dictionary exactly where the text is accepted and of that language, else such an
--- error. The language of a text is that of its dictionary.
+-- Loading in a language returns the dictionary exactly where the text is accepted and of that language, else an error of
+-- loading. The language of a text is that of its dictionary.
 abbrev pub LoadsIn : {D : Type 0} → (List ℕ → Option (ℕ × Cause)) → (List ℕ → D) → (D → List ℕ) → List ℕ → List ℕ
     → Result D Error → Type 0
 LoadsIn refusal contents language asked bytes result =

@@ -143,7 +143,7 @@ pub fn read_all<R: Read>(alloc: Global, reader: &mut R) -> io::Result<Vec<u8>>
     Ok(bytes)
 }
 
-/// Whether an I/O error says that memory was refused.
+/// Reports whether an I/O error says that memory was refused.
 pub fn is_out_of_memory(error: &io::Error) -> bool
     ensures { IsTrue result ↔ (error_kind error.now ≡ ErrorKind.OutOfMemory) }
 {

@@ -62,7 +62,7 @@ is_word_alone kind line = is_sound_line kind line && length (later_tokens_of lin
 abbrev pub is_good_addition : Kind → List ℕ → Bool
 is_good_addition kind edit = is_addition edit && is_sound_line kind (edit_line edit)
 
--- An edit is `-` and a word alone.
+-- An edit is `-` and only a word.
 abbrev pub is_good_removal : Kind → List ℕ → Bool
 is_good_removal kind edit = is_removal edit && is_word_alone kind (edit_line edit)
 

@@ -57,7 +57,7 @@ fn has_line_feed(edit: &[u8]) -> bool
     edit.iter().any(|byte| *byte == b'\n')
 }
 
-// Lists the breaks of an exception for its word, if its line is sound. Returns whether it is.
+// Lists the breaks of an exception for its word, if its line is sound. Reports whether it is.
 fn add<C: Payload, B: Listing>(
     alloc: Global,
     kind: Kind,
@@ -81,7 +81,7 @@ fn add<C: Payload, B: Listing>(
     }
 }
 
-// Removes a word from the exceptions, if its line is sound and lists no break. Returns whether that is so.
+// Removes a word from the exceptions, if its line is sound and lists no break. Reports whether that is so.
 fn remove<C: Payload, B: Listing>(
     alloc: Global,
     kind: Kind,

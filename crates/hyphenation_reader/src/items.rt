@@ -325,7 +325,7 @@ fn keeps_within(text: &[u8], place: usize, change: &Subregion) -> bool
     }
 }
 
-// Fills `entries` with the values, each with the change that is listed at its place. Returns whether each listed place
+// Fills `entries` with the values, each with the change that is listed at its place. Reports whether each listed place
 // has a value; if not, `entries` means nothing. Places must ascend in both lists, so that one pass is enough.
 fn entries_with_changes<C: Payload>(
     values: &[(usize, u8)],

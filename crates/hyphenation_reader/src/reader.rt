@@ -78,8 +78,8 @@ impl<C: Payload, B: Listing> Drop for Builder<C, B> {
 }
 
 impl<C: Payload, B: Listing> Builder<C, B> {
-    // Returns an empty builder for a dictionary of that kind, with room for a text of so many bytes. Texts of patterns
-    // have six to eight bytes for each node, and seldom more than one exception in 40 bytes.
+    // Returns an empty builder for a dictionary of that kind, with room for a text of that many bytes. Texts of
+    // patterns have six to eight bytes for each node, and seldom more than one exception in 40 bytes.
     fn new(alloc: Global, kind: Kind, bytes: usize) -> Result<Builder<C, B>, AllocError>
         ensures empty { IfOk result (λ builder. items_held builder ≡ no_items) }
         ensures begins { IfOk result (λ builder. EachBeginsKey builder.patterns) }
@@ -108,7 +108,7 @@ impl<C: Payload, B: Listing> Builder<C, B> {
         (patterns, exceptions)
     }
 
-    // Adds a key with its entries, in place of its old ones. Returns whether it had any.
+    // Adds a key with its entries, in place of its old ones. Reports whether it had any.
     fn add_pattern(&mut self, key: &[u8], entries: &mut Vec<Entry<C>>) -> Result<bool, AllocError>
         ensures was_held { IfOk result (λ had. had ≡ finite.contains_key (items_held self.old).patterns key.now) }
         ensures patterns { OnOk result ((items_held self.new).patterns
@@ -125,7 +125,7 @@ impl<C: Payload, B: Listing> Builder<C, B> {
         Ok(had)
     }
 
-    // Adds a word with its listed breaks, in place of its old ones. Returns whether it had any.
+    // Adds a word with its listed breaks, in place of its old ones. Reports whether it had any.
     fn add_exception(&mut self, word: String, listed: Vec<B>) -> Result<bool, AllocError>
         ensures was_held { IfOk result (λ had. had
             ≡ finite.contains_key (items_held self.old).exceptions (string_bytes word)) }

@@ -5,8 +5,9 @@ use Rattle.hyphenation_trie.specs.Counts.{Counts}
 use Rattle.hyphenation_score.specs.OnePass.{occurrences}
 use Rattle.hyphenation_score.specs.Scoring.{frame}
 
--- Counts before and after the search of a word of so many bytes, in whose frame keys occur so many times. The longest key
--- has so many bytes. Memory may run out before the search or after it; all is counted if the search ended.
+-- Counts before and after the search of a word. The three numbers are the bytes of the word, those of the longest key, and the
+-- occurrences of keys in the word's frame. Memory may run out before the search or after it; all is counted if the search
+-- ended.
 pub record CountsWithin (bytes longest occurring : ℕ) (old new : Counts) (ended : Type 0) : Type 0 where
   pub most : new.made ≤ old.made + (bytes + 2) * (longest + 1)
   pub linear : new.made ≤ old.made + 2 * (bytes + 2)

@@ -59,7 +59,8 @@ winner_at keys word p = first_greatest (bearers keys (frame word) p)
 abbrev pub values : {C : Type 0} → Patterns C → List ℕ → List ℕ
 values keys word = map (λ p. value_at keys word p) (places word)
 
--- The ranks of a word's places, from place 1 on: at each the greatest of 0 and of the ranks of the entries that bear on it.
+-- The ranks of a word's places, from place 1 on. The rank of a place is the greatest of 0 and the ranks of the entries that
+-- bear on it.
 abbrev pub ranks : {C : Type 0} → (C → ℕ → ℕ) → Patterns C → List ℕ → List ℕ
 ranks rank keys word = map (λ p. greatest_rank rank (bearers keys (frame word) p)) (places word)
 

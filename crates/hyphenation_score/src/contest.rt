@@ -21,7 +21,7 @@ use hyphenation_dictionary::search::automaton_of;
 use hyphenation_trie::{Automaton, LookUps};
 use std::alloc::{AllocError, Global};
 
-// Tests whether an entry beats the best one so far at a place on which both bear. Its value is greater, or equal and
+// Reports whether an entry beats the best one so far at a place on which both bear. Its value is greater, or equal and
 // its key starts first: more of the key comes before the place.
 #[inline(always)]
 fn beats_best<C>(best: Option<&Entry<C>>, entry: &Entry<C>) -> bool

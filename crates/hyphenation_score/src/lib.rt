@@ -107,7 +107,7 @@ pub trait Score<'d> {
         ensures counts { CountsWithin (length word.now) (longest self.now) (occurring self.now word.now) count.old count.new
             (IsOk result) };
 
-    /// Tests whether a score allows a break: its value is odd.
+    /// Reports whether a score allows a break: its value is odd.
     ///
     /// ```text
     /// Standard::denotes_opportunity(5)    // true

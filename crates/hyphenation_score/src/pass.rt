@@ -1,8 +1,8 @@
 //! One pass over the frame of a word, in which the entries of the dictionary's keys compete for the word's places.
 //!
 //! The pass meets each key where it ends; of the keys that end at one byte it meets the longest first. Each place has a
-//! slot, and the type of the slots decides what is kept of the entries that bear on a place: the greatest value, or the
-//! entry that wins.
+//! slot. The type of the slots decides what is kept of the entries that bear on a place: the greatest value, or the
+//! winner.
 
 ghost use Rattle.std.specs.Prelude.{◌≡◌, ◌+◌, ◌-◌, ◌*◌, ◌<◌, ◌≤◌, ◌^◌, ◌++◌, ◌∷◌, [], length};
 ghost use Rattle.hyphenation_trie.specs.Links.{IsLongest, keys_in};
@@ -33,8 +33,8 @@ pub(super) trait Slot<'d, C> {
         ensures { meaning self.new ≡ after (meaning self.old) entry.now };
 }
 
-// Lets an entry of a key of `depth` bytes that ends at `end` compete for the place on which it bears, if the word has that
-// place.
+// Lets an entry of a key of `depth` bytes, which ends at `end`, compete for the place on which it bears, if there is
+// one.
 #[inline(always)]
 fn compete_at_place<'d, C, S: Slot<'d, C>>(
     slots: &mut [S],
@@ -58,7 +58,7 @@ fn compete_at_place<'d, C, S: Slot<'d, C>>(
 
 // Lets the entries of a key of `depth` bytes that ends at `end` compete.
 //
-// Kept out of line: few keys have so many entries, and a loop here would take registers from the pass.
+// Kept out of line: few keys have that many entries, and a loop here would take registers from the pass.
 #[cold]
 #[inline(never)]
 fn compete_many_entries<'d, C, S: Slot<'d, C>>(

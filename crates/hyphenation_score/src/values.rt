@@ -16,7 +16,7 @@ use hyphenation_trie::table::Table;
 use hyphenation_trie::{Automaton, LookUps};
 use std::alloc::{AllocError, Global};
 
-// Copies so many values after the first 16 bytes of a buffer into a list. The only error is out of memory.
+// Copies that many values after the first 16 bytes of a buffer into a list. The only error is out of memory.
 #[inline(always)]
 fn copied_values(alloc: Global, buffer: &[u8; 80], count: usize) -> Result<Vec<u8>, AllocError>
     requires { count ≤ 64 }
@@ -31,7 +31,7 @@ fn copied_values(alloc: Global, buffer: &[u8; 80], count: usize) -> Result<Vec<u
     Vec::from_slice(alloc, &buffer[16..16 + count])
 }
 
-// Returns so many values after the first 16 bytes of a list.
+// Returns that many values after the first 16 bytes of a list.
 fn without_front(mut list: Vec<u8>, count: usize) -> Vec<u8>
     requires { 16 + count ≤ length list.items }
     ensures { result.items ≡ take count (drop 16 list.items) }

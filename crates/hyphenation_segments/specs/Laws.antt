@@ -11,7 +11,7 @@ use Rattle.hyphenation_segments.specs.Segments.{segments, segment_between, marke
 abbrev pub with_ends : List ℕ → List Break → List Break
 with_ends text breaks = plain_break 0 ∷ (breaks ++ plain_break (length text) ∷ [])
 
--- The break of a number, counted from 0, or the text's start where there is no such break.
+-- The break of a number, counted from 0, or the text's start where there is none.
 abbrev pub break_number : List Break → ℕ → Break
 break_number breaks number = slice_index_or breaks number (plain_break 0)
 
@@ -21,7 +21,7 @@ abbrev pub with_marks : List ℕ → List ℕ → List ℕ → List ℕ
 with_marks mark text [] = text
 with_marks mark text (p ∷ ps) = take p text ++ mark ++ drop p (with_marks mark text ps)
 
--- A segment depends on its two neighbouring breaks alone, where the two ends of the text count as breaks.
+-- A segment depends only on its two neighbouring breaks, where the two ends of the text count as breaks.
 abbrev pub IsGivenByNeighbours : Type 0
 IsGivenByNeighbours = (text : List ℕ) (breaks : List Break) (number : ℕ) → number ≤ length breaks →
     slice_get (segments text breaks) number

@@ -1,7 +1,7 @@
 //! Iterators over the segments of a word, with a mark after each but the last or without marks.
 //!
 //! [`Segments`] takes the breaks of a word one by one (from [`Breaks`]) and returns the text between each two.
-//! [`SegmentsExt`] does so for breaks that may change letters. [`Hyphenating`] takes such texts (from [`Texts`]) and
+//! [`SegmentsExt`] does so for breaks that may change letters. [`Hyphenating`] takes these texts (from [`Texts`]) and
 //! adds marks. [`push_marked`] and [`push_marked_text`] append all marked segments to a text at once.
 
 ghost use Rattle.std.specs.Prelude.{◌≡◌, ℕ, List, Option, Some, None, length, MatchResult};

@@ -39,7 +39,7 @@ impl<'t, B: Break> Word<'t, B> {
         Word { text, breaks }
     }
 
-    /// Whether breaks fit a text.
+    /// Reports whether breaks fit a text.
     ///
     /// Breaks fit where their places ascend strictly, and no range begins before the end of the range before it. Each
     /// place and both ends of each range must be character boundaries from 0 to the text's length. The range of a

@@ -17,8 +17,8 @@ pub record IsLongestInner {E : Type 0} (tree : Tree E) (text : List ℕ) (node :
   pub most : (k : ℕ) → k < length tree.texts → HasChild tree k → EndsWith text (node_text tree k)
       → length (node_text tree k) ≤ length (node_text tree node)
 
--- A cell for this text: it leads to the row of the longest node with children that ends the text, and holds the number of
--- the longest node that does.
+-- A cell for this text. It leads to the row of the longest node with children that ends the text, and holds the number of the
+-- longest node that does.
 pub record IsCellTo {E : Type 0} (tree : Tree E) (numbers rows : List ℕ) (quarter : ℕ) (text : List ℕ) (cell : ℕ) : Type 0 where
   pub row : ℕ
   pub within : row < length rows
@@ -37,7 +37,8 @@ pub record AreRows {E : Type 0} (tree : Tree E) (numbers classes : List ℕ) (qu
       → IsCellTo tree numbers rows quarter (node_text tree (slice_index rows row) ++ byte ∷ [])
       (slice_index cells (row * quarter * 4 + slice_index classes byte))
 
--- The table has a row for each of these nodes, and right steps from each. A row is four times so many cells wide.
+-- The table has a row for each of these nodes, and right steps from each. The width of a row is four times this number of
+-- cells.
 pub record AreStepsBy {E : Type 0} (tree : Tree E) (numbers rows : List ℕ) (quarter : ℕ) (steps : Steps) : Type 0 where
   pub classes : length steps.classes.items ≡ 256
   pub below : (b : ℕ) → b < 256 → slice_index steps.classes.items b < quarter * 4
@@ -47,7 +48,7 @@ pub record AreStepsBy {E : Type 0} (tree : Tree E) (numbers rows : List ℕ) (qu
 abbrev pub AreSteps : {E : Type 0} → Tree E → List ℕ → Steps → Type 0
 AreSteps tree numbers steps = (rows : List ℕ) × (quarter : ℕ) × AreStepsBy tree numbers rows quarter steps
 
--- The row that begins there stands for this text: it is that of the longest node with children that ends the text.
+-- The row that begins there belongs to this text: it is that of the longest node with children that ends the text.
 pub record StandsFor {E : Type 0} (tree : Tree E) (numbers : List ℕ) (steps : Steps) (start : ℕ) (text : List ℕ) : Type 0 where
   pub rows : List ℕ
   pub quarter : ℕ
@@ -57,14 +58,14 @@ pub record StandsFor {E : Type 0} (tree : Tree E) (numbers : List ℕ) (steps : 
   pub start_is : start ≡ row * quarter
   pub inner : IsLongestInner tree text (slice_index rows row)
 
--- A step to this text led to the row that stands for it, and to the number of the longest node that ends it.
+-- A step to this text led to the row that belongs to it, and to the number of the longest node that ends it.
 pub record IsStepOf {E : Type 0} (tree : Tree E) (numbers : List ℕ) (steps : Steps) (text : List ℕ) (next number : ℕ) : Type 0 where
   pub stands : StandsFor tree numbers steps next text
   pub node : ℕ
   pub longest : IsLongest tree.texts text node
   pub number_is : number ≡ slice_index numbers node
 
--- A step by a byte, from each text that the row stands for, led to the right row and number.
+-- A step by a byte, from each text to which the row belongs, led to the right row and number.
 abbrev pub StepsBy : {E : Type 0} → Tree E → Steps → ℕ → ℕ → ℕ → ℕ → Type 0
 StepsBy tree steps start byte next number =
     (numbers text : List ℕ) → StandsFor tree numbers steps start text → IsStepOf tree numbers steps (text ++ byte ∷ []) next number

@@ -14,8 +14,8 @@ pub record IsTail {C : Type 0} (keys : Patterns C) (text tail : List ℕ) : Type
   pub ends : EndsWith text tail
   pub none : (d : ℕ) → d < length text - length tail → OpensNoKey keys (drop d text)
 
--- A step leads to the row of a tail of the text, and to the vector of the text with the number of keys that end it. Rows
--- begin at each quarter of their width in the order of their texts.
+-- A step leads to the row of a tail of the text. It also leads to the vector of the text, with the number of keys that end it.
+-- Rows begin at each quarter of their width in the order of their texts.
 pub record IsStepTo {C : Type 0} (rank : C → ℕ → ℕ) (keys : Patterns C) (texts : List (List ℕ)) (quarter : ℕ) (table : Table) (text : List ℕ)
     (next number : ℕ) : Type 0 where
   pub row : ℕ
@@ -30,7 +30,8 @@ pub record IsStepTo {C : Type 0} (rank : C → ℕ → ℕ) (keys : Patterns C) 
 abbrev pub cell_at : Table → ℕ → ℕ → ℕ
 cell_at table start byte = slice_index table.cells.items (start * 4 + slice_index table.classes.items byte)
 
--- The table has one row for each of the texts, and the steps from each are right. A row is four times so many cells wide.
+-- The table has one row for each of the texts, and the steps from each are right. The width of a row is four times this number
+-- of cells.
 pub record IsTable {C : Type 0} (rank : C → ℕ → ℕ) (keys : Patterns C) (texts : List (List ℕ)) (quarter : ℕ) (table : Table) : Type 0 where
   pub near : AreNear keys
   pub classes : length table.classes.items ≡ 256
@@ -57,7 +58,7 @@ pub record GoesOn {C : Type 0} (rank : C → ℕ → ℕ) (keys : Patterns C) (t
   pub start_is : start ≡ row * quarter
   pub tail : IsTail keys text (slice_index_or texts row [])
 
--- A step to this text led to a row that goes on from it, and to its vector with the number of keys that end it.
+-- A step to this text led to a row that goes on from it. It also led to its vector, with the number of keys that end it.
 pub record IsRead {C : Type 0} (rank : C → ℕ → ℕ) (keys : Patterns C) (table : Table) (text : List ℕ) (next number : ℕ) : Type 0 where
   pub goes_on : GoesOn rank keys table next text
   pub vector : IsVector rank keys text (slice_index_or table.vectors.items number [])

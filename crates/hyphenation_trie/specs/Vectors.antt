@@ -21,7 +21,7 @@ pub record IsVector {C : Type 0} (rank : C → ℕ → ℕ) (keys : Patterns C) 
   pub each : (lane distance : ℕ) → lane + distance ≡ 15
       → slice_index vector lane ≡ greatest_rank rank (entries_before keys text distance)
 
--- No entry of a key with so many bytes is more than 15 bytes before the key's end, or past it.
+-- No entry of a key with this number of bytes is more than 15 bytes before the key's end, or past it.
 abbrev pub AreNearEntries : {C : Type 0} → List (Entry C) → ℕ → Type 0
 AreNearEntries {C} entries bytes = (entry : Entry C) → IsAmong entries entry → (entry.place ≤ bytes) × (bytes ≤ entry.place + 15)
 

@@ -64,7 +64,7 @@ impl<E> Model for Trie<E> {
 }
 
 impl<E: Drop> Trie<E> {
-    /// Returns a trie without keys: the root alone. The only error is out of memory.
+    /// Returns a trie without keys, which has only the root. The only error is out of memory.
     ///
     /// ```text
     /// let mut trie = Trie::new(alloc)?;

@@ -19,7 +19,8 @@ pub fn longest_has_report<E>()
     ensures { LongestHasReport E }
 {}
 
-/// The first row of a table of steps goes on from the empty text, and no entry of the table's keys is far from its key's end.
+/// The first row of a table of steps goes on from the empty text. No entry of the table's keys is far from its key's
+/// end.
 pub fn table_begins<C>()
     ensures { TableBegins C }
 {}

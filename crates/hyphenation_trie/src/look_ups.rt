@@ -6,7 +6,7 @@ use std::marker::Model;
 
 /// Counts of the look-ups that a search makes, and of the keys that it reports.
 ///
-/// A look-up asks for the child of a node at a byte. It is counted whether there is such a child or not.
+/// A look-up asks for the child of a node at a byte. It is counted whether that child is there or not.
 ///
 /// ```text
 /// let mut count = LookUps::new();
@@ -68,7 +68,7 @@ impl LookUps {
         self.reported += 1;
     }
 
-    // Counts so many reports.
+    // Counts that many reports.
     pub(crate) fn report_many(&mut self, number: u32)
         requires { self.old.reported + number < 2 ^ 128 }
         ensures { self.new ≡ record self.old { reported = self.old.reported + number } }

@@ -1,7 +1,7 @@
 //! The keys of a trie, for the crates that write dictionary texts.
 //!
-//! No search calls this module, and no crate exports it to users. A search reaches the entries of a key by the counted calls
-//! of [`Automaton`] alone.
+//! No search calls this module, and no crate exports it to users. A search reaches the entries of a key only by the
+//! counted calls of [`Automaton`].
 
 ghost use Rattle.std.specs.Prelude.{◌≡◌, IfOk};
 ghost use Rattle.hyphenation_trie.specs.Keys.{pairs_of, key_views};

@@ -29,7 +29,7 @@ pub(crate) struct Moves {
     pub(crate) link: u32,
 }
 
-// Tests whether the owner of a cell is this node.
+// Reports whether the owner of a cell is this node.
 //
 // The numbers of nodes that a search meets come from 32 bits. The compiler sees it, leaves out the first test, and compares
 // 32 bits in memory.
@@ -120,7 +120,7 @@ fn write_row(cells: &mut [Cell], free: u32, base: usize, node: u32, children: &C
     }
 }
 
-// Tests whether the row of a node fits at `base`: the cells of its children are free.
+// Reports whether the row of a node fits at `base`: the cells of its children are free.
 fn row_fits(cells: &[Cell], free: u32, base: usize, node: u32, children: &Children) -> bool
     requires children { AreChildren children.now }
     requires node { node < length children.now.parents.items }
@@ -204,8 +204,8 @@ fn first_fit(
     ensures fits { IfSome result (λ base.
         IsFreeRow children.now cells.now free base node) }
 {
-    // If a row does not fit, most often the cell of its least byte is in use: cells are filled from the first free one on. So
-    // that cell is tested first, without a look at the children. A row has 256 cells.
+    // If a row does not fit, most often the cell of its least byte is in use, since cells are filled from the first
+    // free one on. So that cell is tested first, without a look at the children. A row has 256 cells.
     let end = to.min(cells.len().saturating_sub(255));
     for base in from..end {
         if cells[base + least].owner == free && row_fits(cells, free, base, node, children) {
@@ -340,8 +340,8 @@ fn row_around(cells: &[Cell], free: u32, at: usize, byte: u8) -> Option<usize>
     }
 }
 
-// Returns a place at which the row of a node with one child fits, given the child's byte: the child takes the first free cell,
-// or else one of a new row after all cells. The only error is out of memory.
+// Returns a place at which the row of a node with one child fits, given the child's byte. The child takes the first
+// free cell, or else one of a new row after all cells. The only error is out of memory.
 #[inline(always)]
 fn find_cell(
     cells: &mut Vec<Cell>,

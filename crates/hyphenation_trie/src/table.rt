@@ -1,9 +1,10 @@
 //! Tables of steps, by which a pass over a text reads one cell for each byte.
 //!
-//! A row of cells stands for a text that begins longer keys, and has a cell for each class of bytes. The cell of a byte leads
-//! to the row of the longest such text that ends the row's text with the byte, and to the vector of that text with the byte:
-//! the greatest ranks that the keys which end there give to the 16 last places. The rank of a value is that of its payload:
-//! the value itself in a standard dictionary, and in an extended one also whether it carries a change.
+//! A row of cells belongs to a text that begins longer keys, and has a cell for each class of bytes. The cell of a byte
+//! leads to the row of the longest of these texts that ends the row's text with the byte. It also leads to the vector
+//! of the row's text with the byte: the greatest ranks that the keys which end there give to the 16 last places. The
+//! rank of a value is the value itself in a standard dictionary. In an extended one it also says whether the value
+//! carries a change.
 
 ghost use Rattle.std.specs.Prelude.{◌≡◌, ◌+◌, ◌<◌, ◌^◌, List, ℕ, [], length, slice_index, slice_index_or, IfOk, IfSome};
 ghost use Rattle.hyphenation_trie.specs.Tables.{GoesOn, IsTableOf, ReadsOn};
@@ -78,9 +79,9 @@ impl Table {
 
 /// Makes a table of an automaton, or returns `None` where there can be none of this form.
 ///
-/// There is none if an entry is more than 15 bytes before its key's end, if a rank is above 255, if the rows would have
-/// 4,194,304 cells or more, if there are more than 4,096 vectors, or if all 256 bytes are in keys. The only error is out of
-/// memory.
+/// There is none if an entry is more than 15 bytes before its key's end, or a rank is above 255. Nor is there one if
+/// the rows would have 4,194,304 cells or more, or there are more than 4,096 vectors, or all 256 bytes are in keys. The
+/// only error is out of memory.
 pub fn make_table<C: Payload>(
     alloc: Global,
     automaton: &Automaton<Entry<C>>,

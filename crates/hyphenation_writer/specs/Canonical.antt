@@ -42,7 +42,7 @@ elements_for at (b ∷ key) (e ∷ es) =
     if e.place == at then Value e.value ∷ Letter b ∷ elements_for (at + 1) key es
     else Letter b ∷ elements_for (at + 1) key (e ∷ es)
 
--- A value up to 9 is a digit; a greater one stands in braces.
+-- A value up to 9 is a digit; a greater one is in braces.
 abbrev pub element_spelling : Version → PatternElement → List ℕ
 element_spelling version (Letter b) = byte_spelling (pattern_escapes version) b
 element_spelling version (Value v) = if nat_le v 9 then (digit_zero + v) ∷ [] else open_brace ∷ (decimal v ++ close_brace ∷ [])

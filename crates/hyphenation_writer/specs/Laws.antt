@@ -14,8 +14,8 @@ use Rattle.hyphenation_grammar.specs.declared.form.Kind.{Kind}
 use Rattle.hyphenation_grammar.specs.declared.form.Version.TheVariants.{First}
 use Rattle.hyphenation_grammar.specs.declared.form.Kind.TheVariants.{Standard}
 
--- A kind of dictionary, by four functions: what it holds for a change and for a listed break, and which change and which
--- break that means.
+-- A kind of dictionary, by four functions. They say what it holds for a change and for a listed break, and which change and
+-- which break that means.
 pub record Held (C B : Type 0) : Type 0 where
   pub payload_of : Option Change → C
   pub listing_of : Break → B

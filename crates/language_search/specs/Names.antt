@@ -2,7 +2,7 @@
 use Rattle.std.specs.Prelude.{ℕ, if◌then◌else◌, List, [], ◌∷◌, codes, Option, Some, None}
 use Rattle.std.specs.Str.{bytes_eq}
 
--- The usual variant of a language whose patterns come in variants alone.
+-- The usual variant of a language whose patterns come only in variants.
 unfoldable pub usual_variant : List ℕ → Option (List ℕ)
 usual_variant code =
     if bytes_eq code (codes "de") then Some (codes "de-1996")

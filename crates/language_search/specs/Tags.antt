@@ -21,7 +21,7 @@ searched tag = map searched_byte tag
 abbrev pub hyphens : List ℕ → List ℕ
 hyphens tag = reverse (filter (λ place. slice_index tag place == hyphen) (range_with_len 0 (length tag)))
 
--- The fronts of a tag: the tag itself, and then what stands before each of its hyphens, from the last one to the first.
+-- The fronts of a tag: the tag itself, and then what is before each of its hyphens, from the last one to the first.
 abbrev pub fronts : List ℕ → List (List ℕ)
 fronts tag = tag ∷ map (λ place. take place tag) (hyphens tag)
 

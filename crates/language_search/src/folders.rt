@@ -81,8 +81,8 @@ fn push_folders_of_system(alloc: Global, folders: &mut Vec<String>) -> Result<()
     Ok(())
 }
 
-/// Returns the folders in which dictionaries are searched, by the values of the environment variables `HYPHENATION_PATH`,
-/// `XDG_DATA_HOME` and `HOME`. Each of them is empty if there is no such variable.
+/// Returns the folders in which dictionaries are searched, by the values of the environment variables
+/// `HYPHENATION_PATH`, `XDG_DATA_HOME` and `HOME`. Each of them is empty if it is not set.
 ///
 /// First come the folders of `path`, which has colons between them; empty ones are left out. Then comes the user's
 /// folder: `hyphenation` in `data`, or if that is empty `.local/share/hyphenation` in `home`, or none if both are empty.

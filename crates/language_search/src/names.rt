@@ -3,7 +3,7 @@
 ghost use Rattle.std.specs.Prelude.{◌≡◌, option_map};
 ghost use Rattle.language_search.specs.Names.{usual_variant};
 
-/// Returns the usual variant of a language whose patterns come in variants alone.
+/// Returns the usual variant of a language whose patterns come only in variants.
 ///
 /// ```text
 /// usual_variant("de")      // Some("de-1996")

@@ -66,8 +66,8 @@ fn push_code(
     Ok(())
 }
 
-/// Returns the paths at which the dictionary of a language is looked for by its own code alone: of each of its names in
-/// each folder, with both endings. The error says that memory was refused.
+/// Returns the paths at which the dictionary of a language is looked for only by its own code. They are those of each
+/// of its names in each folder, with both endings. The error says that memory was refused.
 ///
 /// ```text
 /// paths_of_code(alloc, &["a"], &Language::from_code("sr")?)?
@@ -88,11 +88,12 @@ pub fn paths_of_code(
 /// Returns the paths at which the dictionary of a language is looked for, in their order. The first one at which there is
 /// a file has it.
 ///
-/// A tag such as `de-CH-1901` is read in small letters, and `_` as `-`. First come the paths of the whole tag, then those
-/// of the tag without its last part, and so on: `de-ch-1901`, `de-ch`, `de`. Each of these that is the code of a language
-/// is a name, and then its usual variant, if it has one: `de-1996` for `de`, `el-monoton` for `el`, `en-us` for `en`,
-/// `mn-cyrl` for `mn`, `sh-latn` for `sh`, `sr-cyrl` for `sr`. A name is looked for in each folder, in their order, with
-/// the ending `.txt` of a standard dictionary and then `.extended.txt`. The error says that memory was refused.
+/// A tag such as `de-CH-1901` is read in small letters, and `_` as `-`. First come the paths of the whole tag, then
+/// those of the tag without its last part, and so on: `de-ch-1901`, `de-ch`, `de`. Each of these that is the code of a
+/// language is a name, and then its usual variant, if it has one. The variants are `de-1996` for `de`, `el-monoton` for
+/// `el`, `en-us` for `en`, `mn-cyrl` for `mn`, `sh-latn` for `sh`, and `sr-cyrl` for `sr`. A name is looked for in each
+/// folder, in their order, with the ending `.txt` of a standard dictionary and then `.extended.txt`. The error says
+/// that memory was refused.
 ///
 /// Another text has no path: a code is 1 to 32 bytes of `a-z`, `0-9` and `-`. So no path leaves the folders
 /// ([`crate::laws::paths_stay_in_folders`]).

@@ -55,7 +55,7 @@ fn push_front(languages: &mut Vec<Language>, front: &[u8]) -> Result<(), AllocEr
     Ok(())
 }
 
-// Adds the language of the front that ends at a place, if a hyphen stands there and the front is a code.
+// Adds the language of the front that ends at a place, if a hyphen is there and the front is a code.
 fn push_front_before(
     languages: &mut Vec<Language>,
     tag: &[u8],
@@ -85,7 +85,7 @@ fn languages_of(alloc: Global, tag: &[u8]) -> Result<Vec<Language>, AllocError>
 
 /// Returns the languages of a tag, from the whole tag to its first part: those of its fronts that are codes.
 ///
-/// The tag is read in small letters, and `_` as `-`. Its fronts are the tag itself and what stands before each of its
+/// The tag is read in small letters, and `_` as `-`. Its fronts are the tag itself and what is before each of its
 /// hyphens. The error says that memory was refused.
 ///
 /// ```text

@@ -1,5 +1,5 @@
--- The statuses of the calls for a .dic of two levels: which case each one says, and what a call leaves in the caller's
--- memory then.
+-- The statuses of the calls for a .dic of two levels. They say which case each one means, and what a call leaves in the
+-- caller's memory then.
 use Rattle.std.specs.Prelude.{◌≡◌, ◌⊎◌, ◌<◌, ◌≤◌, zero, suc, ℕ, Bool, false, List, [], length, Option, None, Some, IsSome, if◌then◌else◌}
 use Rattle.std.specs.Option.{option_map}
 use Rattle.libhyphen_files.specs.Files.{Rules, rules_of}

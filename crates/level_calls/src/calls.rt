@@ -151,8 +151,8 @@ fn write_any_word(
     status
 }
 
-/// Writes the digits of a word's characters, the changes of their places, and the texts of the changes, each to the front
-/// of a buffer, and whether a change was made. The result is the status.
+/// Writes the digits of a word's characters, the changes of their places, and the texts of the changes, each to a
+/// buffer. It also writes whether a change was made. The result is the status.
 pub fn write_word(
     dictionary: &LevelDictionary,
     alloc: Global,

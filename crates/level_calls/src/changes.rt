@@ -21,7 +21,7 @@ pub struct LevelChange {
     pub length: usize,
 }
 
-/// The changes that there are, each with the number of its character. The only error is out of memory.
+/// Lists the changes that there are, each with the number of its character. The only error is out of memory.
 #[tactic(auto, unfolding(crate::specs::Changes::listed_changes))]
 pub fn listed_changes<'d>(
     alloc: Global,
@@ -43,7 +43,7 @@ pub fn listed_changes<'d>(
     Ok(listed)
 }
 
-/// The texts of the changes, each with a byte 0 behind it. The only error is out of memory.
+/// Lists the texts of the changes, each with a byte 0 behind it. The only error is out of memory.
 #[tactic(auto, unfolding(crate::specs::Changes::listed_texts))]
 pub fn listed_texts<'d>(
     alloc: Global,

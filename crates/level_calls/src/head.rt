@@ -33,7 +33,7 @@ fn with_zeros(charset: &[u8]) -> [u8; 20]
     bytes
 }
 
-/// The head of a dictionary's file.
+/// Returns the head of a dictionary's file.
 #[tactic(auto, unfolding(crate::specs::Head::head_of))]
 pub fn head_of(dictionary: &LevelDictionary) -> LevelHead
     ensures { result ≡ head_of dictionary.now }

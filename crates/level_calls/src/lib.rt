@@ -61,12 +61,12 @@ pub fn make_tables(alloc: Global, handle: &mut Handle) -> u32
     status
 }
 
-/// Writes the digits of a word's characters, the changes of their places, and the texts of the changes, each to the front
-/// of a buffer, and whether a change was made.
+/// Writes the digits of a word's characters, the changes of their places, and the texts of the changes, each to a
+/// buffer. It also writes whether a change was made.
 ///
-/// The word is the first bytes of a text; what stands behind it counts for minima and for texts without breaks. The minima
+/// The word is the first bytes of a text; what follows it counts for minima and for texts without breaks. The minima
 /// count if they are `given`. A text that is to be UTF-8 and begins within a character is `NOT_UTF8`. A word that is
-/// longer than the text is `BAD_ENDS`. If a buffer is too short, the three counts alone are written.
+/// longer than the text is `BAD_ENDS`. If a buffer is too short, only the three counts are written.
 pub fn write_word(
     alloc: Global,
     handle: &mut Handle,

@@ -19,7 +19,7 @@ pub struct LevelMinima {
     pub compound_right: i32,
 }
 
-/// The minima, if they are given.
+/// Returns the minima, if they are given.
 pub fn minima_given(given: bool, minima: &LevelMinima) -> Option<CallMinima>
     ensures { result ≡ minima_given given minima.now }
 {

@@ -1,5 +1,4 @@
--- A `.dic` of LibreOffice: the rules that its bytes give. Any bytes are such a file.
--- Source: libhyphen 2.8.8, hyphen.c.
+-- A `.dic` of LibreOffice: the rules that its bytes give. Any bytes are a file. Source: libhyphen 2.8.8, hyphen.c.
 use Rattle.std.specs.Prelude.{ℕ, ℤ, pos, ◌==◌, ◌||◌, Bool, if◌then◌else◌, List, [], ◌∷◌, drop, fold, codes, unwrap_or, slice_get, nat_eq, nat_abs}
 use Rattle.std.specs.Cmp.Lexicographic.{pointwise}
 use Rattle.std.specs.List.{list_any, before_first, after_first}
@@ -40,7 +39,7 @@ dash_lines utf8 =
     (codes "1'1") ∷ (codes "1-1")
     ∷ (if utf8 then (49 ∷ 0xE2 ∷ 0x80 ∷ 0x93 ∷ 49 ∷ []) ∷ (49 ∷ 0xE2 ∷ 0x80 ∷ 0x99 ∷ 49 ∷ []) ∷ [] else [])
 
--- The texts at which no break stands then: the same hyphens and apostrophes.
+-- The texts at which no break is then: the same hyphens and apostrophes.
 abbrev pub dashes : Bool → List (List ℕ)
 dashes utf8 =
     if utf8
@@ -69,8 +68,8 @@ default_top utf8 below = record (level_of utf8 (dash_lines utf8)) {
 
 -- ---- The whole file.
 
--- The two levels of the lines after the first one: what is before NEXTLEVEL is at the top, and what is after it, up to
--- another one, is below. Without NEXTLEVEL all lines are the level below.
+-- The two levels of the lines after the first one. The lines before NEXTLEVEL are at the top, and those after it, up to another
+-- one, are below. Without NEXTLEVEL all lines are the level below.
 abbrev pub rules_of_lines : List ℕ → Bool → List (List ℕ) → Rules
 rules_of_lines charset utf8 lines =
     if list_any is_next_level lines

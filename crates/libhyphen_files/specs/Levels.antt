@@ -11,7 +11,7 @@ use Rattle.libhyphen_files.specs.Numbers.{number_byte, signed}
 use Rattle.libhyphen_files.specs.Patterns.{Pattern, key_of, pattern_of}
 use Rattle.libhyphen_files.specs.declared.minima.Minima.{Minima}
 
--- A level. No break stands directly before or after one of its texts without breaks. Each key has one pattern.
+-- A level. No break is directly before or after one of its texts without breaks. Each key has one pattern.
 pub record Level : Type 0 where
   pub minima : Minima
   pub no_hyphen : List (List ℕ)

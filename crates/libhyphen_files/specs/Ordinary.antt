@@ -4,7 +4,7 @@ use Rattle.std.specs.Char.{is_ascii_digit}
 use Rattle.std.specs.List.{list_any}
 use Rattle.libhyphen_files.specs.Files.{Rules}
 
--- A text begins with a byte. One without bytes stands everywhere, so it counts as one that does.
+-- A text begins with a byte. One without bytes is everywhere, so it counts as one that does.
 abbrev pub may_begin_with : ℕ → List ℕ → Bool
 may_begin_with byte [] = true
 may_begin_with byte (first ∷ rest) = first == byte

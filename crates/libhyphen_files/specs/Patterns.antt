@@ -9,8 +9,8 @@ use Rattle.libhyphen_files.specs.Bytes.{continues}
 use Rattle.libhyphen_files.specs.Numbers.{number_byte, signed}
 use Rattle.libhyphen_files.specs.declared.pattern.Region.{Region}
 
--- A change: at a break the text takes the place of `cut` bytes, which begin `start` bytes after the first byte of the
--- key that is no leading dot. Where the break is, the text has an equals sign.
+-- A change: at a break the text takes the place of `cut` bytes. They begin `start` bytes after the first byte of the key that
+-- is no leading dot. Where the break is, the text has an equals sign.
 pub record Change : Type 0 where
   pub text : List ℕ
   pub start : ℤ
@@ -76,8 +76,8 @@ after_slash line = after_first (λ b. b == slash) line
 abbrev pub field : List (List ℕ) → ℕ → List ℕ
 field fields number = unwrap_or (slice_get fields number) []
 
--- A text without the end of its line: a carriage return in the last place but one and what follows it, or else a line
--- feed or a carriage return in the last place.
+-- A text without the end of its line. The end is a carriage return in the last place but one and what follows it, or else one
+-- of the two in the last place.
 abbrev pub without_line_end : List ℕ → List ℕ
 without_line_end text =
     if slice_index text (length text - 2) == carriage_return && nat_lt 1 (length text) then take (length text - 2) text
@@ -88,8 +88,8 @@ without_line_end text =
 abbrev pub text_of : List (List ℕ) → List ℕ
 text_of fields = if length fields == 1 then without_line_end (field fields 0) else field fields 0
 
--- The region as it is written, by the number of bytes before the slash. Without a comma it has so many bytes; numbers
--- count only if both are there. The start is counted from 1.
+-- The region as it is written, by the number of bytes before the slash. Without a comma it has that many bytes; numbers count
+-- only if both are there. The start is counted from 1.
 abbrev pub region_written : ℕ → List (List ℕ) → Region
 region_written before fields =
     if length fields == 1 then record { start = 0; cut = before % 256 }
@@ -130,13 +130,12 @@ abbrev pub cut_between : ℕ → ℕ → Option ℕ → ℕ
 cut_between cut begin None = cut
 cut_between cut begin (Some end) = (end - begin) % 256
 
--- The cut in bytes, by the place at which the region begins. It stays a number of characters if the key has not so
--- many.
+-- The cut in bytes, by the place at which the region begins. It stays a number of characters if the key has fewer.
 abbrev pub cut_in_bytes : List ℕ → ℕ → ℕ → Option ℕ → ℕ
 cut_in_bytes key start cut None = cut
 cut_in_bytes key start cut (Some begin) = cut_between cut begin (char_end key start cut)
 
--- The start in bytes. It stays a number of characters if the key has not so many.
+-- The start in bytes. It stays a number of characters if the key has fewer.
 abbrev pub start_in_bytes : ℕ → Option ℕ → ℕ
 start_in_bytes start begin = unwrap_or begin start % 256
 

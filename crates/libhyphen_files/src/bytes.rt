@@ -15,7 +15,7 @@ pub fn before_nul(text: &[u8]) -> &[u8]
     text
 }
 
-/// Tests whether a byte continues a character of UTF-8.
+/// Reports whether a byte continues a character of UTF-8.
 #[inline(always)]
 pub fn continues(byte: u8) -> bool
     ensures { result ≡ continues byte }

@@ -49,7 +49,7 @@ impl LevelDictionary {
         &self.charset
     }
 
-    /// Tests whether the charset is UTF-8.
+    /// Reports whether the charset is UTF-8.
     pub fn is_utf8(&self) -> bool
         ensures { result ≡ self.now.utf8 }
     {
@@ -72,9 +72,9 @@ impl LevelDictionary {
 
     /// Makes the tables of steps by which words are read faster, each if there is none yet and the steps fit into one.
     ///
-    /// The contents stay as they are, and so does each answer. A level with 65,536 nodes or more has its table once
-    /// it is loaded. The table of a smaller one takes about as long as half of its loading, so it pays for a dictionary that is
-    /// asked for thousands of words. The only error is out of memory; the dictionary can be used on as it was.
+    /// The contents stay as they are, and so does each answer. A level with 65,536 nodes or more has its table once it
+    /// is loaded. The table of a smaller one takes about half the time of its loading, so it pays for thousands of
+    /// words. The only error is out of memory; the dictionary can be used on as it was.
     ///
     /// ```text
     /// let mut dictionary = load(alloc, bytes)?;
@@ -88,7 +88,7 @@ impl LevelDictionary {
         Ok(())
     }
 
-    /// Tests whether a byte is one of most words: no byte 0, no digit, and the first byte of no text without breaks of the
+    /// Reports whether a byte is one of most words. It is no byte 0, no digit, and begins no text without breaks of the
     /// level at the top.
     #[inline(always)]
     pub fn is_ordinary(&self, byte: u8) -> bool
@@ -162,7 +162,7 @@ fn dictionary_of_levels(
     })
 }
 
-// Tests whether a text begins with a byte. One without bytes stands everywhere, so it counts as one that does.
+// Reports whether a text begins with a byte. One without bytes is everywhere, so it counts as one that does.
 fn may_begin_with(text: &[u8], byte: u8) -> bool
     ensures { result ≡ may_begin_with byte text.now }
 {
@@ -172,7 +172,7 @@ fn may_begin_with(text: &[u8], byte: u8) -> bool
     }
 }
 
-// Tests whether none of some texts begins with a byte.
+// Reports whether none of some texts begins with a byte.
 fn begins_none(texts: &[Vec<u8>], byte: u8) -> bool
     ensures { IsTrue result → list_any (may_begin_with byte) (map (λ text. text.items) texts.now) ≡ false }
 {
@@ -184,7 +184,7 @@ fn begins_none(texts: &[Vec<u8>], byte: u8) -> bool
     true
 }
 
-// Tests whether a byte is one of most words, by the texts without breaks.
+// Reports whether a byte is one of most words, by the texts without breaks.
 fn is_ordinary(no_hyphen: &[Vec<u8>], byte: u8) -> bool
     ensures { IsTrue result → IsOrdinaryIn (map (λ text. text.items) no_hyphen.now) byte }
 {
@@ -217,14 +217,14 @@ fn charset_of(line: &[u8]) -> &[u8]
     line
 }
 
-// Tests whether a charset is UTF-8.
+// Reports whether a charset is UTF-8.
 fn is_utf8_name(charset: &[u8]) -> bool
     ensures { result ≡ is_utf8_name charset.now }
 {
     charset == b"UTF-8".as_slice()
 }
 
-// Tests whether a line parts two levels.
+// Reports whether a line parts two levels.
 fn has_next_level(lines: &[&[u8]]) -> bool
     ensures { result ≡ list_any is_next_level (map (λ l. l.now) lines.now) }
 {
@@ -263,7 +263,7 @@ fn next_level(lines: &[&[u8]]) -> usize
     lines.len()
 }
 
-// Tests whether a line parts two levels.
+// Reports whether a line parts two levels.
 #[inline(always)]
 fn is_next_level(line: &[u8]) -> bool
     ensures { result ≡ is_next_level line.now }
@@ -289,7 +289,7 @@ fn level_of(alloc: Global, utf8: bool, lines: &[&[u8]]) -> Result<GrowingLevel, 
     Ok(level)
 }
 
-// Returns the level at the top where the file has one level: it parts compounds at hyphens and apostrophes, and its
+// Returns the level at the top where the file has one level. It parts compounds at hyphens and apostrophes, and its
 // minima are those of the file. The only error is out of memory.
 fn default_top(alloc: Global, utf8: bool, below: &GrowingLevel) -> Result<GrowingLevel, AllocError>
     ensures level { IfOk result (λ top. level_in top ≡ default_top utf8 (level_in below.now)) }

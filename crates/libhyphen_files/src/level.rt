@@ -74,7 +74,7 @@ impl FrozenLevel {
         &self.minima
     }
 
-    /// Returns the texts directly before and after which no break stands.
+    /// Returns the texts directly before and after which no break is.
     pub fn no_hyphen(&self) -> &[Vec<u8>]
         ensures { map (λ text. text.items) result.now ≡ self.now.no_hyphen }
     {
@@ -98,14 +98,14 @@ impl FrozenLevel {
         (&self.patterns, &self.vectors)
     }
 
-    /// Tests whether a key may begin with a byte.
+    /// Reports whether a key may begin with a byte.
     pub fn may_begin(&self, byte: u8) -> bool
         ensures { IsFalse result → BeginsNoKey self.now.patterns byte }
     {
         self.first_bytes[byte as usize]
     }
 
-    /// Tests whether some pattern may have a change. If not, a caller need not look for changes.
+    /// Reports whether some pattern may have a change. If not, a caller need not look for changes.
     pub fn has_changes(&self) -> bool
         ensures { IsFalse result → HasNoChanges self.now.patterns }
     {
@@ -142,7 +142,7 @@ pub(crate) struct GrowingLevel {
 const SLOTS: usize = 4096;
 
 impl GrowingLevel {
-    // Returns the level without lines, with room for so many nodes. The only error is out of memory.
+    // Returns the level without lines, with room for that many nodes. The only error is out of memory.
     pub(crate) fn with_room(alloc: Global, nodes: usize) -> Result<GrowingLevel, AllocError>
         ensures empty { IfOk result (λ level. level_in level ≡ empty_level) }
         ensures growing { IfOk result (λ level. IsGrowing level) }
@@ -319,7 +319,7 @@ fn plain_part(line: &[u8]) -> Option<&[u8]>
     Some(part)
 }
 
-// Tests whether a line begins with a byte with which the name of a setting does.
+// Reports whether a line begins with a byte with which the name of a setting does.
 #[inline(always)]
 fn may_be_setting(line: &[u8]) -> bool
     ensures { result ≡ may_be_setting line.now }
@@ -347,7 +347,7 @@ fn set_node(known: &mut [u32], slot: usize, node: u32) {
     }
 }
 
-// Tests whether a node has a pattern without a change that has these digits.
+// Reports whether a node has a pattern without a change that has these digits.
 #[inline(always)]
 fn has_digits(patterns: &Trie<StoredPattern>, node: usize, digits: &[u8]) -> bool
     ensures { IsTrue result → HasDigits patterns.now node digits.now }
@@ -361,7 +361,7 @@ fn has_digits(patterns: &Trie<StoredPattern>, node: usize, digits: &[u8]) -> boo
     }
 }
 
-// Tests whether a pattern changes nothing and has these digits.
+// Reports whether a pattern changes nothing and has these digits.
 #[inline(always)]
 fn is_unchanging(pattern: &StoredPattern, digits: &[u8]) -> bool
     ensures { IsTrue result → pattern.now ≡ unchanging digits.now }

@@ -11,9 +11,9 @@
 //! ```
 //!
 //! [`load`] makes a [`LevelDictionary`] of the file, and its contract says which one. No charset is converted: keys are
-//! bytes as they are in the file. The modules, from the bottom up: `numbers` and `lines` read these, `settings` reads
-//! the number or the texts that a line sets, `pattern` reads a line with a pattern, [`vectors`] has the digits of each node's
-//! pattern side by side, and [`level`] collects the lines of one level.
+//! bytes as they are in the file. The modules, from the bottom up: `numbers` and `lines` read these, and `settings` the
+//! number or the texts that a line sets. `pattern` reads a line with a pattern. [`vectors`] has the digits of each
+//! node's pattern side by side, and [`level`] collects the lines of one level.
 #![tactic(auto)]
 
 pub mod bytes;

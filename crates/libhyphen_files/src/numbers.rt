@@ -95,7 +95,7 @@ fn without_spaces(text: &[u8]) -> &[u8]
     &[]
 }
 
-// Tests whether a byte is white space for C.
+// Reports whether a byte is white space for C.
 fn is_space(byte: u8) -> bool
     ensures { result ≡ is_space byte }
 {

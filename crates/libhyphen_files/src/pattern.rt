@@ -191,7 +191,7 @@ pub(crate) fn key_and_digits(
     Ok((found.count, digits))
 }
 
-// Tests whether a key begins with a dot.
+// Reports whether a key begins with a dot.
 fn begins_with_dot(key: &[u8]) -> bool
     ensures { result ≡ begins_with_dot key.now }
 {
@@ -269,7 +269,7 @@ fn first_place(key: &[u8]) -> usize
     if begins_with_dot(key) { 1 } else { 0 }
 }
 
-// Tests whether a place is at the beginning of a character, or at the end of the key.
+// Reports whether a place is at the beginning of a character, or at the end of the key.
 fn is_char_place(key: &[u8], at: usize) -> bool
     requires { at ≤ length key.now }
     ensures { result ≡ is_char_place key.now at }

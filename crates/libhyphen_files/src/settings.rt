@@ -86,7 +86,7 @@ fn without_blanks(text: &[u8]) -> &[u8]
     &[]
 }
 
-// Tests whether a byte is a space or a tab.
+// Reports whether a byte is a space or a tab.
 fn is_blank(byte: u8) -> bool
     ensures { result ≡ is_blank byte }
 {

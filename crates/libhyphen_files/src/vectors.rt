@@ -70,8 +70,9 @@ fn digit_value(byte: u8) -> Option<u8>
     }
 }
 
-// Writes the digit of one more place of a key with so many bytes into a vector, and returns whether it could: the byte is a
-// digit, and no digit other than 0 more than 15 bytes before the key's end. A digit past the key's end does not count.
+// Writes the digit of one more place of a key of that many bytes into a vector, and returns whether it could. The byte
+// must be a digit, and no digit other than 0 may be more than 15 bytes before the key's end. A digit past the key's end
+// does not count.
 #[tactic(auto, using(crate::proofs::DigitVectors::digit_far, crate::proofs::DigitVectors::digit_past))]
 #[inline(always)]
 fn put_place(vector: &mut [u8; 16], digits: &[u8], place: usize, bytes: usize) -> bool
@@ -93,7 +94,7 @@ fn put_place(vector: &mut [u8; 16], digits: &[u8], place: usize, bytes: usize) -
     value == 0
 }
 
-// Returns the vector of the digits of a key with so many bytes. `None` if a byte is no digit, or if a place more than
+// Returns the vector of the digits of a key with that many bytes. `None` if a byte is no digit, or if a place more than
 // 15 bytes before the key's end has a digit other than 0. Digits past the key's end do not count.
 fn vector_of_digits(digits: &[u8], bytes: usize) -> Option<[u8; 16]>
     ensures { IfSome result (λ vector. HasDigitsOf digits.now bytes vector) }
@@ -107,7 +108,7 @@ fn vector_of_digits(digits: &[u8], bytes: usize) -> Option<[u8; 16]>
     Some(vector)
 }
 
-// Returns the vector of a node with this pattern and so many bytes.
+// Returns the vector of a node with this pattern and that many bytes.
 fn vector_of(pattern: &StoredPattern, bytes: usize) -> [u8; 16]
     ensures lanes { length result ≡ 16 }
     ensures known { slice_index result 0 < 10 → IsVectorOf (Some pattern.now) bytes result }
@@ -235,8 +236,8 @@ fn numbered_vectors(
     Ok(Numbered { numbers, vectors })
 }
 
-// A level with so many nodes gets its table of steps when it is loaded. A smaller one is loaded in about two thirds of the time
-// without it.
+// A level with that many nodes gets its table of steps when it is loaded. A smaller one is loaded in about two thirds
+// of the time without it.
 const MANY_NODES: usize = 1 << 16;
 
 // Returns the vectors of all nodes. A level with few nodes has no table of steps yet. The only error is out of memory.
@@ -273,7 +274,7 @@ pub(crate) fn add_steps(
     Ok(())
 }
 
-// Tests whether a node's text begins with a byte. Only then may a key.
+// Reports whether a node's text begins with a byte. Only then may a key.
 fn may_begin(patterns: &Automaton<StoredPattern>, byte: u8) -> bool
     ensures { IsFalse result → BeginsNoKey (patterns_of patterns.now) byte }
 {

@@ -63,8 +63,8 @@ taken_digit (Some given) = 0
 abbrev pub digits_kept : Rules → Option CallMinima → List ℕ → List ℕ → List ℕ
 digits_kept rules given text digits = digits_beside rules.top.no_hyphen (taken_digit given) (before_nul text) digits
 
--- The answer of a call: for each character of the word the digit and the change of the place behind it, and whether any change was
--- made, also one that was taken away. In other charsets than UTF-8 each byte is a character.
+-- The answer of a call: for each character of the word the digit and the change of the place behind it. It also says whether
+-- any change was made, also one that was taken away. In other charsets than UTF-8 each byte is a character.
 pub record Answer : Type 0 where
   pub digits : List ℕ
   pub changes : List (Option ChangeAt)
@@ -123,8 +123,8 @@ text_of_call rules given text size = text_of_found rules given text size (found_
 
 -- ---- The oldest call.
 
--- The digits of the patterns at the top that change nothing, without those of the places behind the first byte, behind the last
--- but one, and behind the last.
+-- The digits of the patterns at the top that change nothing. Those of the places behind the first byte and behind the last two
+-- are left out.
 abbrev pub inner_digit : List ℕ → ℕ → ℕ
 inner_digit digits byte =
     if nat_lt 0 byte && nat_lt (byte + 2) (length digits) then slice_index digits byte else digit_zero

@@ -27,8 +27,9 @@ unfoldable pub longest_start : TextMap (List Pattern) → List ℕ → ℕ → O
 longest_start patterns frame end =
     find (λ start. begins_key patterns (slice_range frame start end)) (range_with_len 0 end)
 
--- A pattern that counts: where its key begins in the frame, where the key's first byte is that is no leading dot, its
--- digits from before the key to after it, and its change. The start of the change's region is counted from `first`.
+-- A pattern that counts. It has the place where its key begins in the frame, and `first`, that of the key's first byte that is
+-- no leading dot. It has its digits and its change. The digits are from before the key to after it. The start of the change's
+-- region is counted from `first`.
 pub record Counted : Type 0 where
   pub start : ℕ
   pub first : ℕ

@@ -42,7 +42,7 @@ minima_of levels = record { left = levels.left; right = levels.right }
 abbrev pub texts_of : PartTexts → Texts
 texts_of texts = record { text = texts.text.items; behind = texts.behind.items }
 
--- The changes of so many places. An empty list has none.
+-- The changes of this number of places. An empty list has none.
 abbrev pub placed_or_none : ℕ → List (Option PlacedChange) → List (Option ChangeAt)
 placed_or_none places [] = replicate places None
 placed_or_none places (change ∷ changes) = placed_all (change ∷ changes)

@@ -36,8 +36,7 @@ pub record Mark : Type 0 where
   pub behind : ℕ
   pub text : List ℕ
 
--- The mark of the place behind the byte with a number: the text of the change, or an equals sign in the place of no
--- byte.
+-- The mark of the place behind the byte of a number: the text of the change, or an equals sign in the place of no byte.
 abbrev pub mark_of : ℕ → Option ChangeAt → Mark
 mark_of number None = record { place = number + 1; before = 0; behind = 0; text = equals_sign ∷ [] }
 mark_of number (Some change) = record {
@@ -55,8 +54,8 @@ abbrev pub marks_in_first : List ℕ → List (Option ChangeAt) → ℕ → List
 marks_in_first digits changes bytes =
     map (mark_at changes) (filter (λ number. is_odd (slice_index digits number)) (range_with_len 0 bytes))
 
--- No mark reaches over another one: each place lies behind the end of the region before it, and the place's own region
--- begins there or later. The first one begins at the word's first byte or later.
+-- No mark reaches over another one. Each place lies behind the end of the region before it, and the place's own region begins
+-- there or later. The first one begins at the word's first byte or later.
 abbrev pub AreApart : ℕ → List Mark → Type 0
 AreApart from [] = Unit {0}
 AreApart from (mark ∷ marks) =
@@ -68,8 +67,8 @@ with_marks word from [] = drop from word
 with_marks word from (mark ∷ marks) =
     slice_range word from (mark.place - mark.before) ++ mark.text ++ with_marks word (mark.place + mark.behind) marks
 
--- The written word has all bytes of the word but those in the regions of marks, and each mark's text in the place of
--- its region.
+-- The written word has all bytes of the word except those in the regions of marks. Each mark's text is in the place of its
+-- region.
 abbrev pub NoLetterIsLost : Type 0
 NoLetterIsLost =
     (word digits : List ℕ) (changes : List (Option ChangeAt)) → AreApart 0 (marks_in_first digits changes (length word))
@@ -160,8 +159,8 @@ digit_of_pattern bytes number (Some pattern) = max digit_zero (slice_index (take
 abbrev pub digit_of_key : TextMap (List Pattern) → List ℕ → ℕ → ℕ
 digit_of_key patterns key number = digit_of_pattern (length key) number (pattern_at patterns key)
 
--- Patterns are closed if none hides a digit: a key that ends a beginning of a key gives no place more than that
--- beginning does itself.
+-- Patterns are closed if none hides a digit. A key that ends a beginning of a key gives no place more than that beginning does
+-- itself.
 abbrev pub IsClosed : TextMap (List Pattern) → Type 0
 IsClosed patterns =
     (text : List ℕ) → begins_key patterns text ≡ true → (start number : ℕ) → start < length text
@@ -174,14 +173,14 @@ pub record GivesDigit (patterns : TextMap (List Pattern)) (frame : List ℕ) (pl
   pub before : start ≤ place
   pub gives : digit_of_key patterns (slice_range frame start end) (place - start) ≡ digit
 
--- The digit of a place is the greatest that any key which stands in the frame gives to it, or 0.
+-- The digit of a place is the greatest that any key in the frame gives to it, or 0.
 pub record IsGreatestDigit (patterns : TextMap (List Pattern)) (frame : List ℕ) (place digit : ℕ) : Type 0 where
   pub most : (start end other : ℕ) → GivesDigit patterns frame place start end other → other ≤ digit
   pub given : (digit ≡ digit_zero)
       ⊎ ((start : ℕ) × (end : ℕ) × GivesDigit patterns frame place start end digit)
 
--- In closed patterns it makes no difference that the longest beginning alone counts at each end: the digit of each
--- place of a frame is the greatest that any key gives to it.
+-- In closed patterns it makes no difference that only the longest beginning counts at each end. The digit of each place of a
+-- frame is the greatest that any key gives to it.
 abbrev pub ClosedPatternsReadAlike : Type 0
 ClosedPatternsReadAlike =
     (patterns : TextMap (List Pattern)) → IsClosed patterns → (frame : List ℕ) (place : ℕ)

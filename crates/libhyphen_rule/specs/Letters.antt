@@ -10,7 +10,7 @@ use Rattle.libhyphen_files.specs.Bytes.{begins_with, continues}
 abbrev pub begins_char : Bool → List ℕ → ℕ → Bool
 begins_char utf8 text at = at == 0 || not utf8 || not (continues (slice_index text at))
 
--- The ligature ffi or ffl, U+FB03 or U+FB04, stands there. It is two letters.
+-- The ligature ffi or ffl, U+FB03 or U+FB04, is there. It is two letters.
 abbrev pub has_ligature : Bool → List ℕ → ℕ → Bool
 has_ligature utf8 text at =
     utf8 && (begins_with (drop at text) (0xEF ∷ 0xAC ∷ 0x83 ∷ []) || begins_with (drop at text) (0xEF ∷ 0xAC ∷ 0x84 ∷ []))

@@ -6,19 +6,19 @@ use Rattle.hyphenation_breaks.specs.Ascii.{digit_zero, equals_sign}
 use Rattle.libhyphen_rule.specs.Letters.{characters_from, digits_at_begin, digits_at_end, letters, letters_in_first, letters_in_hundred}
 use Rattle.libhyphen_rule.specs.OneLevel.{ChangeAt}
 
--- A text has an equals sign; what stands before the first one, and what after it.
+-- A text has an equals sign; what is before the first one, and what after it.
 abbrev pub is_equals : ℕ → Bool
 is_equals b = b == equals_sign
 
 abbrev pub has_equals : List ℕ → Bool
 has_equals text = list_any is_equals text
 
--- Fewer letters than a minimum. A minimum below 1 is never undercut by letters alone.
+-- Fewer letters than a minimum. A minimum below 1 is never undercut by letters.
 abbrev pub is_below : ℕ → ℤ → Bool
 is_below letters least = int_lt (pos letters) least
 
--- The place behind a byte has too few letters before it. `text` is the word with what stands behind it. Digits at its beginning
--- are no letters.
+-- The place behind a byte has too few letters before it. `text` is the word with what follows it. Digits at its beginning are
+-- no letters.
 abbrev pub is_short_before : Bool → ℤ → List ℕ → ℕ → Bool
 is_short_before utf8 least text byte =
     nat_lt byte (length text)
@@ -30,10 +30,10 @@ abbrev pub is_short_after : Bool → ℤ → List ℕ → ℕ → Bool
 is_short_after utf8 least word byte =
     nat_lt 0 byte && is_below (characters_from utf8 word (byte + 1)) (least +ℤ pos (digits_at_end word))
 
--- A change keeps its place, if it has enough letters itself, or its text has no equals sign: before the break those before its
--- region and those of its text before the equals sign; behind the break those behind its region, in 100 bytes at most, and those
--- of its text behind the equals sign.
--- A change has too few letters before its break, where so many bytes are before its place.
+-- A change keeps its place if it has enough letters itself, or its text has no equals sign. Before the break these are the
+-- letters before its region and those of its text before the equals sign. Behind the break they are those behind its region, in
+-- 100 bytes at most, and those of its text behind the equals sign. A change has too few letters before its break, where this
+-- number of bytes is before its place.
 abbrev pub change_is_short_before : Bool → ℤ → List ℕ → ℕ → ChangeAt → Bool
 change_is_short_before utf8 least text end change =
     has_equals change.text

@@ -96,7 +96,7 @@ cut_of_region counted begin =
 abbrev pub at_least_one : ℤ → ℕ
 at_least_one cut = if int_le (pos 1) cut then nat_abs cut else 1
 
--- A change at a place of a word: the text takes the place of `cut` bytes, of which `pos` stand before the place.
+-- A change at a place of a word: the text takes the place of `cut` bytes, of which `pos` are before the place.
 pub record ChangeAt : Type 0 where
   pub text : List ℕ
   pub pos : ℕ
@@ -125,7 +125,7 @@ abbrev pub claim : List Counted → ℕ → Option Claim
 claim counted begin =
     option_and_then (claim_at counted (offers counted) begin) (place_of_region (offers counted) begin)
 
--- A place of the frame is one of the word, not before its first byte. The end of the word is such a place, too.
+-- A place of the frame is one of the word, not before its first byte. The end of the word is one, too.
 abbrev pub put : Claim → List (Option ChangeAt) → List (Option ChangeAt)
 put made changes = if nat_lt 1 made.place then slice_set changes (made.place - 2) (Some made.change) else changes
 

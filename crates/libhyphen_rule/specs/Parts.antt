@@ -10,15 +10,15 @@ use Rattle.libhyphen_rule.specs.Counting.{shown}
 use Rattle.libhyphen_rule.specs.Minima.{changes_but, digits_but, is_equals, left_goes, right_goes}
 use Rattle.libhyphen_rule.specs.OneLevel.{ChangeAt, is_odd, level_changes, level_digits}
 
--- The finds in a text: for each byte the digit and the change of the place behind it, and whether a change was
--- made, also one that a minimum took away. `parts` is how many more parts of the word may be asked.
+-- The finds in a text: for each byte the digit and the change of the place behind it. They also say whether a change was made,
+-- also one that a minimum took away. `parts` is how many more parts of the word may be asked.
 pub record Found : Type 0 where
   pub digits : List ℕ
   pub changes : List (Option ChangeAt)
   pub made : Bool
   pub parts : ℕ
 
--- A word, or a part of one, that is asked. `behind` is what stands behind it.
+-- A word, or a part of one, that is asked. `behind` is what follows it.
 pub record Asked : Type 0 where
   pub text : List ℕ
   pub behind : List ℕ
@@ -33,7 +33,7 @@ pub record PartMinima : Type 0 where
 abbrev pub some_change : List (Option ChangeAt) → Bool
 some_change changes = list_any is_some changes
 
--- ---- Minima, of a text with what stands behind it.
+-- ---- Minima, of a text with what follows it.
 
 abbrev pub without_left : Bool → ℤ → List ℕ → Found → Found
 without_left utf8 least text found = record found {
@@ -47,7 +47,7 @@ without_right utf8 least word text found = record found {
   changes = changes_but (right_goes utf8 least word text found.changes) found.changes;
 }
 
--- A text with what stands behind it, up to the first byte 0.
+-- A text with what follows it, up to the first byte 0.
 unfoldable pub with_behind : Asked → List ℕ
 with_behind asked = before_nul (asked.text ++ asked.behind)
 
@@ -113,14 +113,13 @@ pub record Parting : Type 0 where
 abbrev pub ends_part : List ℕ → ℕ → Bool
 ends_part digits byte = is_odd (slice_index digits byte) || byte + 1 == length digits
 
--- The bytes of a part's text, and of what stands behind it.
+-- The bytes of a part's text, and of what follows it.
 pub record Texts : Type 0 where
   pub text : List ℕ
   pub behind : List ℕ
 
--- The text and what stands behind it, where a part ends at a change. The part of the change's text before the equals sign
--- takes the place of the part's last bytes. A text without an equals sign takes their place and goes on behind the
--- part.
+-- The text and what follows it, where a part ends at a change. The part of the change's text before the equals sign takes the
+-- place of the part's last bytes. A text without an equals sign takes their place and goes on behind the part.
 abbrev pub changed_part : List ℕ → ℕ → ℕ → ChangeAt → Option ℕ → Texts
 changed_part seen begin end change (Some equals) = record {
   text = drop begin (take (end - change.pos) seen ++ take equals change.text);
@@ -131,7 +130,7 @@ changed_part seen begin end change None = record {
   behind = drop end (take (end - change.pos) seen ++ change.text ++ replicate end 0);
 }
 
--- A part's text from its begin to its end, and what stands behind it.
+-- A part's text from its begin to its end, and what follows it.
 unfoldable pub part_text : List ℕ → ℕ → ℕ → Option ChangeAt → Texts
 part_text seen begin end None = record { text = slice_range seen begin end; behind = [] }
 part_text seen begin end (Some change) = changed_part seen begin end change (position is_equals change.text)
@@ -148,8 +147,7 @@ asked_of whole begin end texts = record {
 abbrev pub Asking : Type 0
 Asking = ℕ → Asked → Option Found
 
--- The finds in the whole, with those in a part that begins at `begin` and has this many places that count:
--- all but its last two.
+-- The finds in the whole, with those in a part that begins at `begin`. All places of the part count except its last two.
 unfoldable pub with_part : Found → ℕ → ℕ → Option Found → Found
 with_part whole begin count None = whole
 with_part whole begin count (Some part) = record {

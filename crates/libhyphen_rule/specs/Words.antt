@@ -1,6 +1,5 @@
--- The last steps over a whole word: texts beside which no break stands, the word written with its breaks, and
--- characters.
--- Source: libhyphen 2.8.8, hyphen.c and hyphen.h.
+-- The last steps over a whole word: texts beside which no break is, the word written with its breaks, and characters. Source:
+-- libhyphen 2.8.8, hyphen.c and hyphen.h.
 use Rattle.std.specs.Prelude.{ℕ, ◌+◌, ◌-◌, ◌==◌, ◌&&◌, ◌||◌, not, nat_le, nat_lt, Bool, if◌then◌else◌, List, [], ◌∷◌, ◌++◌, length, map, drop, take, filter, fold, count_by, Option, None, Some, option_map, slice_index, slice_index_or, slice_range}
 use Rattle.std.specs.List.{list_any, range_with_len}
 use Rattle.hyphenation_breaks.specs.Ascii.{equals_sign}
@@ -9,7 +8,7 @@ use Rattle.libhyphen_rule.specs.OneLevel.{ChangeAt, is_odd}
 
 -- ---- Texts without breaks.
 
--- A text stands in a word from a byte on. `text` is the word with what stands behind it, up to the first byte 0.
+-- A text is in a word from a byte on. `text` is the word with what follows it, up to the first byte 0.
 abbrev pub stands_at : List ℕ → ℕ → List ℕ → Bool
 stands_at text at part = begins_with (drop at text) part
 
@@ -35,12 +34,12 @@ pub record Writing : Type 0 where
 abbrev pub without_last_bytes : ℕ → List ℕ → List ℕ
 without_last_bytes count written = take (length written - count) written
 
--- The text with the mark of an odd place: an equals sign, or the text of the change in the place of the bytes before it.
+-- The text with the mark of an odd place. It is an equals sign, or the text of the change in the place of the bytes before it.
 abbrev pub with_mark : List ℕ → Option ChangeAt → List ℕ
 with_mark written None = written ++ equals_sign ∷ []
 with_mark written (Some change) = without_last_bytes change.pos written ++ change.text
 
--- The number of bytes of a change's region that stand behind the place. They are passed over.
+-- The number of bytes of a change's region that are behind the place. They are passed over.
 abbrev pub passed_over : Option ChangeAt → ℕ
 passed_over None = 0
 passed_over (Some change) = change.cut - change.pos
@@ -89,7 +88,7 @@ is_last word byte = byte + 1 == length word || begins (slice_index word (byte + 
 unfoldable pub last_bytes : List ℕ → List ℕ
 last_bytes word = filter (is_last word) (range_with_len 0 (length word))
 
--- A change with its numbers in characters. `text` is the word with all that stands behind it, and a byte 0.
+-- A change with its numbers in characters. `text` is the word with all that follows it, and a byte 0.
 abbrev pub change_in_characters : List ℕ → ℕ → ChangeAt → ChangeAt
 change_in_characters text byte change = record change {
   pos = characters (slice_range text (byte + 1 - change.pos) (byte + 1));

@@ -45,8 +45,8 @@ pub struct CallMinima {
 /// each byte is a character.
 #[derive(Debug, Drop)]
 pub struct CallAnswer<'d> {
-    /// The digits, from `b'0'` to `b'9'`; an odd one allows a break. Beside a text without breaks stands a byte 0, where the caller gave
-    /// minima.
+    /// The digits, from `b'0'` to `b'9'`; an odd one allows a break. Beside a text without breaks is a byte 0, where
+    /// the caller gave minima.
     pub digits: Vec<u8>,
     /// The changes, with their numbers in characters. The list may be empty if no place has a change.
     pub changes: Vec<Option<PlacedChange<'d>>>,
@@ -97,7 +97,7 @@ fn at_least_two(least: i32) -> i32
     if 0 < least { least } else { 2 }
 }
 
-// Tests whether a text begins within a character of UTF-8.
+// Reports whether a text begins within a character of UTF-8.
 fn begins_within(text: &[u8]) -> bool
     ensures { result ≡ continues (slice_index text.now 0) }
 {
@@ -107,8 +107,8 @@ fn begins_within(text: &[u8]) -> bool
     }
 }
 
-// Returns what is found in a word without the places that have too few letters before them. `text` is the word with what stands behind it, up to
-// the first byte 0.
+// Returns what is found in a word without the places that have too few letters before them. `text` is the word with
+// what follows it, up to the first byte 0.
 fn without_left<'d>(utf8: bool, least: i32, text: &[u8], found: WordFound<'d>) -> WordFound<'d>
     requires { length found.changes.items ≡ length found.digits.items }
     ensures found { found_of result ≡ without_left utf8 least text.now (found_of found.entry) }
@@ -130,8 +130,8 @@ fn without_left<'d>(utf8: bool, least: i32, text: &[u8], found: WordFound<'d>) -
     }
 }
 
-// Returns what is found in a word without the places that have too few letters behind them. `text` is the word with what stands behind it, up to
-// the first byte 0.
+// Returns what is found in a word without the places that have too few letters behind them. `text` is the word with
+// what follows it, up to the first byte 0.
 fn without_right<'d>(
     utf8: bool,
     least: i32,
@@ -192,9 +192,9 @@ fn found_by_call<'d>(
     Ok(without_right(utf8, at_least_two(least.right), word, text, found))
 }
 
-// Returns the digits that both levels find in the first bytes of a text, a word without digits, but not those of the places
-// that are too near to its ends; `None` where a pattern counts that may change letters. `seen` is the text up to its first
-// byte 0. The only error is out of memory.
+// Returns the digits that both levels find in a word without digits, the first bytes of a text. Those of places too
+// near to its ends are left out. `None` where a pattern counts that may change letters. `seen` is the text up to its
+// first byte 0. The only error is out of memory.
 fn digits_by_call(
     alloc: Global,
     dictionary: &LevelDictionary,
@@ -224,8 +224,9 @@ fn digits_by_call(
     Ok(Some(digits))
 }
 
-// Returns the digits that both levels find in the first bytes of a text, a word, without those of the places that are too near
-// to its ends; `None` where the word has digits, or a pattern counts that may change letters. The only error is out of memory.
+// Returns the digits that both levels find in a word, the first bytes of a text. Those of places too near to its ends
+// are left out. `None` where the word has digits, or a pattern counts that may change letters. The only error is out of
+// memory.
 fn unchanged_by_call(
     alloc: Global,
     dictionary: &LevelDictionary,
@@ -244,7 +245,7 @@ fn unchanged_by_call(
     digits_by_call(alloc, dictionary, minima, text, size, before_nul(text))
 }
 
-// Tests whether each byte of a text is one of most words.
+// Reports whether each byte of a text is one of most words.
 #[inline(always)]
 fn all_ordinary(dictionary: &LevelDictionary, text: &[u8]) -> bool
     ensures { IsTrue result → AllOrdinary dictionary.now text.now }
@@ -278,8 +279,9 @@ fn take_kept(
     );
 }
 
-// Returns the digits of a call for each byte of a word, the first bytes of a text; `None` where a pattern counts that may change
-// letters, or the word has digits. Beside a text of ordinary bytes stands no text without breaks. The only error is out of memory.
+// Returns the digits of a call for each byte of a word, the first bytes of a text; `None` where a pattern counts that
+// may change letters, or the word has digits. Beside a text of ordinary bytes is no text without breaks. The only error
+// is out of memory.
 fn kept_digits(
     alloc: Global,
     dictionary: &LevelDictionary,
@@ -301,8 +303,8 @@ fn kept_digits(
     Ok(Some(plain))
 }
 
-// Finds the digits of both levels in the first bytes of a text, a word without digits and of at most 64 bytes, but not those of
-// the places that are too near to its ends. Returns false, with anything in the list, where a pattern counts that may change
+// Finds the digits of both levels in a word without digits, the first bytes of a text, at most 64. Those of places too
+// near to its ends are left out. Returns false, with anything in the list, where a pattern counts that may change
 // letters. The text has no byte 0.
 fn put_digits_by_call(
     dictionary: &LevelDictionary,
@@ -349,9 +351,9 @@ fn keep_digits(utf8: bool, word: &[u8], digits: &mut [u8]) -> usize
 /// Writes the digits of a word's characters to the front of a list, and returns how many there are; `None`, with anything in
 /// the list, where [`hyphenate`] must be asked. No memory is taken.
 ///
-/// The answer of [`hyphenate`] has these digits then, and no changes. The word has at most 64 bytes, and the list a place for
-/// each. The result is `None` if the text has a digit, or the first byte of a text without breaks, or if a pattern counts that may
-/// change letters.
+/// The answer of [`hyphenate`] has these digits then, and no changes. The word has at most 64 bytes, and the list a
+/// place for each. The result is `None` if the text has a digit or the first byte of a text without breaks. It is also
+/// `None` if a pattern counts that may change letters.
 ///
 /// ```text
 /// let dictionary = load(alloc, b"UTF-8\nr5kin\n")?;
@@ -506,8 +508,8 @@ pub fn hyphenate<'d>(
     Ok(Some(answer))
 }
 
-/// Writes a word, the first bytes of a text, with an equals sign at each break, and with the texts of changes in the places of the
-/// bytes that they change. Minima are as for [`hyphenate`]. The only error is out of memory.
+/// Writes a word, the first bytes of a text, with an equals sign at each break. Texts of changes are in the places of
+/// the bytes that they change. Minima are as for [`hyphenate`]. The only error is out of memory.
 ///
 /// ```text
 /// let dictionary = load(alloc, b"UTF-8\nr5kin\n")?;
@@ -561,8 +563,8 @@ fn inner_digits(alloc: Global, digits: &[u8]) -> Result<Vec<u8>, AllocError>
     Ok(inner)
 }
 
-/// Returns the digits of the oldest call, `hnj_hyphen_hyphenate`, for each byte of a word that of the place behind it: those of the
-/// patterns of the level at the top that change nothing. The only error is out of memory.
+/// Returns the digits of the oldest call, `hnj_hyphen_hyphenate`: for each byte of a word that of the place behind it.
+/// They are those of the patterns of the level at the top that change nothing. The only error is out of memory.
 #[tactic(auto, unfolding(crate::specs::Calls::plain_digits))]
 pub fn plain_digits(
     alloc: Global,

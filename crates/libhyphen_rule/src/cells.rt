@@ -23,7 +23,7 @@ pub(crate) struct Cell<'d> {
     pub(crate) cut: i8,
 }
 
-// Returns cells of so many places, to which nothing is given. The only error is out of memory.
+// Returns cells of that many places, to which nothing is given. The only error is out of memory.
 pub(crate) fn empty_cells<'d>(alloc: Global, places: usize) -> Result<Vec<Cell<'d>>, AllocError>
     ensures size { IfOk result (λ cells. length cells.items ≡ places) }
     ensures cells { IfOk result (λ cells. HasCells [] [] cells.items) }
@@ -67,7 +67,7 @@ fn region_begin(first: usize, change: Option<&StoredChange>) -> Option<usize>
     }
 }
 
-// Tests whether a place lies within a region or at one of its ends.
+// Reports whether a place lies within a region or at one of its ends.
 #[inline(always)]
 fn reaches(begin: usize, place: usize, cut: i8) -> bool
     requires begin { begin < 2 ^ 63 - 200 }

@@ -18,7 +18,7 @@ pub(crate) fn framed_byte(word: &[u8], at: usize) -> u8
     if byte.is_ascii_digit() { b'.' } else { byte }
 }
 
-// Returns the first digits of a pattern, at most so many.
+// Returns the first digits of a pattern, at most that many.
 #[inline(always)]
 pub(crate) fn first_digits(pattern: &StoredPattern, most: usize) -> &[u8]
     ensures { result.now ≡ take most pattern.now.digits }

@@ -17,8 +17,8 @@ pub fn no_letter_is_lost()
     ensures { NoLetterIsLost }
 {}
 
-/// No break is at a place that has too few letters before it or behind it by the minima of a call, unless a change is
-/// there, and none is beside a text without breaks.
+/// No break is at a place with too few letters before it or behind it by the minima of a call, unless a change is
+/// there. None is beside a text without breaks.
 pub fn forbidden_places_are_even()
     ensures { ForbiddenPlacesAreEven }
 {}
@@ -34,7 +34,7 @@ pub fn regions_lie_within_the_word()
     ensures { RegionsLieWithinTheWord }
 {}
 
-/// Where no pattern hides a digit, the longest beginnings alone give the digits that all patterns give.
+/// Where no pattern hides a digit, the longest beginnings give the digits that all patterns give.
 pub fn closed_patterns_read_alike()
     ensures { ClosedPatternsReadAlike }
 {}

@@ -15,7 +15,7 @@ pub(crate) fn characters_at(utf8: bool, byte: u8) -> usize
     if utf8 && continues(byte) { 0 } else { 1 }
 }
 
-// Returns whether a text begins with the ligature ffi or ffl.
+// Reports whether a text begins with the ligature ffi or ffl.
 fn begins_with_ligature(text: &[u8]) -> bool
     ensures { result
         ≡ (begins_with text.now (0xEF ∷ 0xAC ∷ 0x83 ∷ []) || begins_with text.now (0xEF ∷ 0xAC ∷ 0x84 ∷ [])) }

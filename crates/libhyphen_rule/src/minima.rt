@@ -14,14 +14,14 @@ use crate::letters::{
 };
 use crate::one_level::PlacedChange;
 
-// Returns whether some letters and those of a text are fewer than a minimum.
+// Reports whether some letters and those of a text are fewer than a minimum.
 fn is_below(utf8: bool, least: i32, count: usize, text: &[u8]) -> bool
     ensures { result ≡ is_below (count + letters utf8 text.now) least }
 {
     (count as i128) + (letters(utf8, text) as i128) < (least as i128)
 }
 
-// Returns whether letters are fewer than a minimum and some digits, which are no letters.
+// Reports whether letters are fewer than a minimum and some digits, which are no letters.
 fn is_few(letters: usize, least: i32, digits: usize) -> bool
     ensures { result ≡ is_below letters (least +ℤ pos digits) }
 {
@@ -45,9 +45,9 @@ fn text_from(text: &[u8], from: usize) -> &[u8]
     &text[from..]
 }
 
-// Returns whether a change has too few letters before its break: those of the word before the change's region, and
-// those of its text before the equals sign. `end` is how many bytes are before the place. A change without an equals
-// sign is never short.
+// Reports whether a change has too few letters before its break. These are those of the word before the change's
+// region, and those of its text before the equals sign. `end` is how many bytes are before the place. A change without
+// an equals sign is never short.
 fn is_short_before(
     utf8: bool,
     least: i32,
@@ -68,9 +68,9 @@ fn is_short_before(
     }
 }
 
-// Returns whether a change has too few letters behind its break: those behind the change's region, in 100 bytes at
-// most, and those of its text behind the equals sign. `end` is how many bytes are before the place. A change without an
-// equals sign is never short.
+// Reports whether a change has too few letters behind its break. These are those behind the change's region, in 100
+// bytes at most, and those of its text behind the equals sign. `end` is how many bytes are before the place. A change
+// without an equals sign is never short.
 fn is_short_after(
     utf8: bool,
     least: i32,
@@ -117,9 +117,9 @@ fn take_place(digits: &mut [u8], changes: &mut [Option<PlacedChange<'_>>], byte:
 
 // Takes away the places that have fewer letters before them than a minimum.
 //
-// `text` is the word with what stands behind it, up to the first byte 0; it may be shorter than the word. There is a
-// digit for each byte of the word. The list of changes may be shorter: there are no changes behind its end. A place that
-// goes gets the digit 0, and no change. The count of letters never falls, so the first place that has enough ends the
+// `text` is the word with what follows it, up to the first byte 0; it may be shorter than the word. There is a digit
+// for each byte of the word. The list of changes may be shorter: there are no changes behind its end. A place that goes
+// gets the digit 0, and no change. The count of letters never falls, so the first place that has enough ends the
 // search.
 pub(crate) fn take_left(
     utf8: bool,
@@ -152,9 +152,9 @@ pub(crate) fn take_left(
 
 // Takes away the places that have fewer letters behind them than a minimum.
 //
-// `text` is the word with what stands behind it, up to the first byte 0. There is a digit for each byte of the word.
-// The list of changes may be shorter: there are no changes behind its end. A place that goes gets the digit 0, and no
-// change. The search goes from the end, and the first place that has enough ends it.
+// `text` is the word with what follows it, up to the first byte 0. There is a digit for each byte of the word. The list
+// of changes may be shorter: there are no changes behind its end. A place that goes gets the digit 0, and no change.
+// The search goes from the end, and the first place that has enough ends it.
 pub(crate) fn take_right(
     utf8: bool,
     least: i32,

@@ -51,7 +51,7 @@ fn read_cells<'d>(patterns: &'d Automaton<StoredPattern>, word: &[u8], cells: &m
         if let Some(pattern) = pattern_of_node(patterns, node) {
             let depth = patterns.depth(node);
             let start = at + 1 - depth;
-            // A leading dot of the key stands at the word's beginning, or is one of the word.
+            // A leading dot of the key is at the word's beginning, or is one of the word.
             let first = start + usize::from(framed_byte(word, start) == b'.');
             let digits = first_digits(pattern, depth + 1);
             take_pattern(cells, start, first, digits, pattern.change.as_ref());

@@ -30,7 +30,7 @@ pub(crate) struct BothLevels<'d> {
     pub(crate) right: i32,
 }
 
-// A word, or a part of one, that is asked. `behind` is what stands behind it.
+// A word, or a part of one, that is asked. `behind` is what follows it.
 #[derive(Clone, Copy, Drop)]
 pub(crate) struct AskedText<'a> {
     pub(crate) text: &'a [u8],
@@ -39,21 +39,21 @@ pub(crate) struct AskedText<'a> {
     pub(crate) at_right: bool,
 }
 
-// A part's text, and what stands behind it.
+// A part's text, and what follows it.
 #[derive(Drop)]
 pub(crate) struct PartTexts {
     text: Vec<u8>,
     behind: Vec<u8>,
 }
 
-// Tests whether some digit is odd.
+// Reports whether some digit is odd.
 pub(crate) fn has_break(digits: &[u8]) -> bool
     ensures { result ≡ list_any is_odd digits.now }
 {
     digits.iter().any(|digit| *digit % 2 == 1)
 }
 
-// Tests whether there is a change.
+// Reports whether there is a change.
 #[tactic(auto, using(crate::proofs::PlacesOfParts::any_past, crate::proofs::PlacesOfParts::any_end))]
 pub(crate) fn has_change(changes: &[Option<PlacedChange<'_>>]) -> bool
     ensures { result ≡ some_change (placed_all changes.now) }
@@ -67,7 +67,7 @@ pub(crate) fn has_change(changes: &[Option<PlacedChange<'_>>]) -> bool
     false
 }
 
-// Tests whether a part ends behind a byte.
+// Reports whether a part ends behind a byte.
 pub(crate) fn ends_part(digits: &[u8], byte: usize) -> bool
     requires { byte < length digits.now }
     ensures { result ≡ ends_part digits.now byte }
@@ -132,14 +132,14 @@ fn joined(alloc: Global, first: &[u8], second: &[u8]) -> Result<Vec<u8>, AllocEr
     Ok(all)
 }
 
-// Returns where the first byte 0 stands.
+// Returns where the first byte 0 is.
 fn nul_at(text: &[u8]) -> Option<usize>
     ensures { result ≡ position (λ b. b == 0) text.now }
 {
     text.iter().position(|byte| *byte == 0)
 }
 
-// Returns a text with what stands behind it, up to the first byte 0. The only error is out of memory.
+// Returns a text with what follows it, up to the first byte 0. The only error is out of memory.
 fn with_behind(alloc: Global, asked: AskedText<'_>) -> Result<Vec<u8>, AllocError>
     ensures { IfOk result (λ v. v.items ≡ with_behind (asked_in asked.entry)) }
 {
@@ -174,7 +174,7 @@ fn change_over<'d>(
     }
 }
 
-// Tests whether there is a change at the first bytes.
+// Reports whether there is a change at the first bytes.
 fn has_change_within(changes: &[Option<PlacedChange<'_>>], count: usize) -> bool
     ensures { result ≡ some_change (take count (placed_all changes.now)) }
 {
@@ -391,7 +391,7 @@ fn found_below<'d>(
     Ok(found)
 }
 
-// Returns the text of a part that ends at a change, and what stands behind it. The only error is out of memory.
+// Returns the text of a part that ends at a change, and what follows it. The only error is out of memory.
 fn texts_at_change(
     alloc: Global,
     seen: &[u8],
@@ -425,7 +425,7 @@ fn texts_at_change(
     }
 }
 
-// Returns a part's text, and what stands behind it. The only error is out of memory.
+// Returns a part's text, and what follows it. The only error is out of memory.
 fn part_texts(
     alloc: Global,
     seen: &[u8],
@@ -549,8 +549,8 @@ fn found_in<'d>(
     Ok(found)
 }
 
-// Returns what is found in a word by both levels, before the minima of the whole word. `behind` is what stands behind
-// the word; `left` and `right` are the least numbers of letters in its parts. The only error is out of memory.
+// Returns what is found in a word by both levels, before the minima of the whole word. `behind` is what is behind the
+// word; `left` and `right` are the least numbers of letters in its parts. The only error is out of memory.
 pub(crate) fn word_found<'d>(
     alloc: Global,
     dictionary: &'d LevelDictionary,

@@ -1,10 +1,10 @@
 //! Words in which no pattern counts that changes letters: their digits, found in one pass without a look at changes.
 //!
-//! The pass reads one cell of a table of steps for each byte of the word's frame, or steps from node to node of the
-//! automaton where there is no table. Each node has a vector: the digits that its own pattern gives to the 16 last places,
-//! counted from 0. The pass keeps the digits of these places in one register. With each byte it moves them by one place,
-//! raises them to those of the vector, and writes them to a list. A digit that is moved out of the register is written for
-//! good, since no pattern that ends later gives one so far back.
+//! The pass reads one cell of a table of steps for each byte of the word's frame. Where there is no table, it steps
+//! from node to node of the automaton. Each node has a vector: the digits that its own pattern gives to the 16 last
+//! places, counted from 0. The pass keeps the digits of these places in one register. With each byte it moves them by
+//! one place, raises them to those of the vector, and writes them to a list. A digit that is moved out of the register
+//! is written for good, since no pattern that ends later gives one so far back.
 //!
 //! A vector with a lane above 9 does not tell the node's pattern. The pass goes on then, and its digits are not used.
 
@@ -64,7 +64,7 @@ fn store(last: u8x16, list: &mut [u8], at: usize)
     last.copy_to_slice(&mut list[at..at + 16]);
 }
 
-// Tests whether all lanes are digits.
+// Reports whether all lanes are digits.
 #[inline(always)]
 fn all_known(seen: u8x16) -> bool
     requires { length seen ≡ 16 }
@@ -73,8 +73,8 @@ fn all_known(seen: u8x16) -> bool
     seen.simd_gt(u8x16::splat(9)).to_bitmask() == 0
 }
 
-// A frame of which some bytes are read: the node of the longest text there, or the row for it, the digits of the 16 last
-// places, and for each lane the greatest number of all vectors that were met.
+// A frame of which some bytes are read. It has the node of the longest text there, or the row for it, and the digits of
+// the 16 last places. For each lane it has the greatest number of all vectors that were met.
 #[derive(Clone, Copy, Drop)]
 struct FramePass {
     place: usize,
@@ -290,7 +290,7 @@ fn read_frame(
     true
 }
 
-// Tests whether some byte of a word's frame may begin a key. The word has no digits.
+// Reports whether some byte of a word's frame may begin a key. The word has no digits.
 #[inline(always)]
 fn may_count(level: &FrozenLevel, word: &[u8]) -> bool
     ensures dot { IsFalse result → BeginsNoKey level.now.patterns dot }

@@ -16,15 +16,15 @@ use libhyphen_files::LevelDictionary;
 use libhyphen_files::bytes::before_nul;
 use std::alloc::{AllocError, Global};
 
-// Tests whether a word has a digit.
+// Reports whether a word has a digit.
 pub(crate) fn has_digit(word: &[u8]) -> bool
     ensures { result ≡ list_any is_ascii_digit word.now }
 {
     word.iter().any(|byte| byte.is_ascii_digit())
 }
 
-// Takes away the places that are too near to the begin of a part, if it does not begin the word. Nothing stands behind
-// it then.
+// Takes away the places that are too near to the begin of a part, if it does not begin the word. Nothing is behind it
+// then.
 fn take_left_end(levels: BothLevels<'_>, asked: AskedText<'_>, digits: &mut [u8])
     requires behind { IsFalse asked.at_left → asked.behind.now ≡ [] }
     ensures digits { LeavesLeft levels.entry asked.entry digits.old digits.new }
@@ -41,8 +41,7 @@ fn take_left_end(levels: BothLevels<'_>, asked: AskedText<'_>, digits: &mut [u8]
     }
 }
 
-// Takes away the places that are too near to the end of a part, if it does not end the word. Nothing stands behind it
-// then.
+// Takes away the places that are too near to the end of a part, if it does not end the word. Nothing is behind it then.
 fn take_right_end(levels: BothLevels<'_>, asked: AskedText<'_>, digits: &mut [u8])
     requires behind { IsFalse asked.at_right → asked.behind.now ≡ [] }
     requires length { length digits.old ≡ length asked.text.now }
@@ -189,8 +188,8 @@ fn read_word(
     unchanged_in(levels, MOST_DEPTH, word.len(), asked, list, digits).is_some()
 }
 
-// Returns the digits of a word by both levels, before the minima of the whole word; `None` where a pattern counts that may
-// change letters. The word has no digits. `behind` is what stands behind it; `left` and `right` are the least numbers of
+// Returns the digits of a word by both levels, before the minima of the whole word; `None` where a pattern counts that
+// may change letters. The word has no digits. `behind` is what follows it; `left` and `right` are the least numbers of
 // letters in its parts. The only error is out of memory.
 pub(crate) fn word_without_digits(
     alloc: Global,
@@ -221,9 +220,9 @@ pub(crate) fn word_without_digits(
     if is_found { Ok(Some(digits)) } else { Ok(None) }
 }
 
-// Finds the digits of a word by both levels, before the minima of the whole word. Returns false, with anything in the list,
-// where a pattern counts that may change letters. The word has at most 64 bytes, and no digits. `behind` is what stands behind it;
-// `left` and `right` are the least numbers of letters in its parts.
+// Finds the digits of a word by both levels, before the minima of the whole word. Returns false, with anything in the
+// list, where a pattern counts that may change letters. The word has at most 64 bytes, and no digits. `behind` is what
+// follows it; `left` and `right` are the least numbers of letters in its parts.
 pub(crate) fn read_short_word(
     dictionary: &LevelDictionary,
     left: i32,

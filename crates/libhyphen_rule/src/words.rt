@@ -1,5 +1,4 @@
-//! The last steps over a whole word: texts beside which no break stands, the word written with its breaks, and
-//! characters.
+//! The last steps over a whole word: texts beside which no break is, the word written with its breaks, and characters.
 
 ghost use Rattle.std.specs.Prelude.{◌≡◌, ◌<◌, ◌≤◌, ◌==◌, ℕ, false, List, [], ◌∷◌, nat_lt, length, map, option_map, take};
 ghost use Rattle.std.specs.Prelude.{slice_index_or, slice_range, IfOk, OnOk};
@@ -14,7 +13,7 @@ use crate::one_level::PlacedChange;
 use libhyphen_files::bytes::continues;
 use std::alloc::{AllocError, Global};
 
-// Returns whether a text stands in a word from a byte on.
+// Reports whether a text is in a word from a byte on.
 #[inline(always)]
 fn stands_at(text: &[u8], at: usize, part: &[u8]) -> bool
     ensures { result ≡ stands_at text.now at part.now }
@@ -29,7 +28,7 @@ fn stands_at(text: &[u8], at: usize, part: &[u8]) -> bool
     }
 }
 
-// Returns whether a text begins or ends at the place behind a byte.
+// Reports whether a text begins or ends at the place behind a byte.
 #[inline(always)]
 fn is_beside(text: &[u8], byte: usize, part: &[u8]) -> bool
     requires { byte < usize.MAX }
@@ -51,8 +50,7 @@ fn occurring(text: &[u8]) -> [bool; 256]
     occurs
 }
 
-// Returns whether a text may begin or end at a place of a word: whether its first byte is one of those that occur in
-// the word.
+// Reports whether a text may begin or end at a place of a word: its first byte is one of those that occur in the word.
 #[inline(always)]
 fn may_stand(part: &[u8], occurs: &[bool; 256]) -> bool
     ensures { result ≡ false → (text : List ℕ) → AreOccurring occurs.now text
@@ -77,8 +75,8 @@ fn take_beside_one(part: &[u8], instead: u8, text: &[u8], digits: &mut [u8])
 
 // Puts another byte in the place of each digit beside which a text without breaks begins or ends.
 //
-// `text` is the word with what stands behind it, up to the first byte 0; it may be shorter than the word. The digits
-// have one item for each byte of the word.
+// `text` is the word with what follows it, up to the first byte 0; it may be shorter than the word. The digits have one
+// item for each byte of the word.
 pub(crate) fn take_beside(parts: &[Vec<u8>], instead: u8, text: &[u8], digits: &mut [u8])
     ensures { digits.new ≡ digits_beside (map (λ part. part.items) parts.now) instead text.now digits.old }
 {
@@ -139,21 +137,21 @@ pub(crate) fn written_word(
     Ok(written)
 }
 
-// Returns whether each byte of a word is a character of ASCII.
+// Reports whether each byte of a word is a character of ASCII.
 pub(crate) fn is_ascii(word: &[u8]) -> bool
     ensures { result ≡ list_all (λ b. nat_lt b 128) word.now }
 {
     word.iter().all(|byte| *byte < 128)
 }
 
-// Returns whether a byte begins a character of UTF-8.
+// Reports whether a byte begins a character of UTF-8.
 fn begins(byte: u8) -> bool
     ensures { result ≡ begins byte }
 {
     !continues(byte)
 }
 
-// Returns whether a byte of a word is the last one of a character.
+// Reports whether a byte of a word is the last one of a character.
 fn is_last(word: &[u8], byte: usize) -> bool
     requires { byte < length word.now }
     ensures { result ≡ is_last word.now byte }
@@ -259,7 +257,7 @@ fn character_change<'d>(
 
 // Returns, for each character of a word in UTF-8, the change behind its last byte, with its numbers in characters.
 //
-// `text` is the word with all that stands behind it, and a byte 0. The only error is out of memory.
+// `text` is the word with all that follows it, and a byte 0. The only error is out of memory.
 pub(crate) fn changes_of_characters<'d>(
     alloc: Global,
     word: &[u8],

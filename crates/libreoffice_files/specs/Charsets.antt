@@ -1,5 +1,5 @@
--- The charsets of a `.dic`: their names, and the characters that their bytes mean.
--- The characters of the bytes from 128 on stand in the tables of src/charset/tables.rt.
+-- The charsets of a `.dic`: their names, and the characters that their bytes mean. The characters of the bytes from 128 on are
+-- in the tables of src/charset/tables.rt.
 use Rattle.std.specs.Prelude.{ℕ, ◌+◌, ◌-◌, ◌==◌, if◌then◌else◌, not, List, take, codes, Option, Some, None, option_map, is_some, position, slice_index}
 use Rattle.std.specs.List.{filter_map}
 use Rattle.std.specs.Char.{is_ascii}
@@ -60,7 +60,7 @@ upper_half Koi8R = Some KOI8_R
 upper_half Koi8U = Some KOI8_U
 upper_half Cp1251 = Some CP1251
 
--- A character of a table; 0 stands for none.
+-- A character of a table; 0 means none.
 abbrev pub char_unless_nul : ℕ → Option ℕ
 char_unless_nul char = if char == 0 then None else Some char
 

@@ -146,7 +146,7 @@ abbrev pub kept_in : {C : Type 0} → (C → Option Change) → (Option Change �
     → Option (List ℕ × List (Entry C))
 kept_in change_of payload_of p = kept_if_fit change_of p.0 (entries_kept change_of payload_of p.1)
 
--- The dictionary of patterns, with these minima. If a key stands several times, the last one counts.
+-- The dictionary of patterns, with these minima. If a key comes several times, the last one counts.
 abbrev pub contents_of_patterns : {C B : Type 0} → (C → Option Change) → (Option Change → C) → List ℕ → ℕ → ℕ
     → List (List ℕ × Spelt) → Contents C B
 contents_of_patterns change_of payload_of language left right patterns =

@@ -13,7 +13,7 @@ use Rattle.pattern_results.specs.declared.errors.FileCause.TheVariants.{Minimum}
 use Rattle.libreoffice_files.specs.declared.lines.Kind.{Kind}
 use Rattle.libreoffice_files.specs.declared.lines.Kind.TheVariants.{Ignored, Left, Right, Level, NoHyphen, Other, Pattern}
 
--- A text, split at the first such byte, which is left out. None if the text has no such byte.
+-- A text, split at the first byte of this kind, which is left out. None if the text has none.
 abbrev pub split_at_byte : ℕ → List ℕ → Option (List ℕ × List ℕ)
 split_at_byte mark text = option_map (λ at. (take at text, drop (at + 1) text)) (position (λ b. b == mark) text)
 
@@ -24,8 +24,7 @@ number_below bound text =
     && nat_lt (digits_value 10 (without_leading_plus text)) bound
     then Some (digits_value 10 (without_leading_plus text)) else None
 
--- A line: its number, its kind and its text. The text of a setting stands after its name; the text of a pattern is the
--- whole line.
+-- A line: its number, its kind and its text. The text of a setting is after its name; the text of a pattern is the whole line.
 pub record DicLine : Type 0 where
   pub number : ℕ
   pub kind : Kind
@@ -50,7 +49,7 @@ is_ignored (b ∷ bs) = b == percent || b == hash
 abbrev pub word_and_rest : List ℕ → List ℕ × List ℕ
 word_and_rest line = unwrap_or (split_at_byte space line) (line, [])
 
--- The text of a setting stands after its name; that of a pattern is the whole line.
+-- The text of a setting is after its name; that of a pattern is the whole line.
 abbrev pub text_by_kind : Kind → List ℕ → List ℕ → List ℕ
 text_by_kind Pattern line rest = line
 text_by_kind kind line rest = rest
@@ -74,14 +73,14 @@ abbrev pub lines_from : ℕ → List (List ℕ) → List DicLine
 lines_from number [] = []
 lines_from number (line ∷ lines) = read_line number (trim_end line) ∷ lines_from (number + 1) lines
 
--- The lines of a text, which stand between line feeds.
+-- The lines of a text, which are between line feeds.
 abbrev pub lines_in : ℕ → List ℕ → List DicLine
 lines_in first text = lines_from first (slice_split (λ b. b == line_feed) text)
 
 -- ---- Settings.
 
--- The settings for all levels: the least numbers of letters before and after a break, and texts: no break stands
--- directly before or after them.
+-- The settings for all levels: the least numbers of letters before and after a break, and texts: no break is directly before or
+-- after them.
 pub record Settings : Type 0 where
   pub left : Option (List ℕ)
   pub right : Option (List ℕ)
@@ -91,7 +90,7 @@ pub record Settings : Type 0 where
 abbrev pub nothing_set : Settings
 nothing_set = record { left = None; right = None; no_hyphen = None }
 
--- The setting of one more line. If a setting stands several times, the last one counts.
+-- The setting of one more line. If a setting comes several times, the last one counts.
 abbrev pub set_by : Kind → List ℕ → Settings → Settings
 set_by Left text settings = record settings { left = Some text }
 set_by Right text settings = record settings { right = Some text }

@@ -36,8 +36,8 @@ begins_with_digit (b ∷ bs) = is_digit b
 abbrev pub value_of_digit : ℕ → ℕ → List Value
 value_of_digit at digit = if digit == digit_zero then [] else (record { place = at; value = digit - digit_zero }) ∷ []
 
--- The digits of a pattern other than 0, each with the number of letters before it plus `at`, counted in bytes. If
--- several digits stand in one place, the last one counts.
+-- The digits of a pattern other than 0, each with the number of letters before it plus `at`, counted in bytes. If several
+-- digits are in one place, the last one counts.
 abbrev pub last_values : ℕ → List ℕ → List Value
 last_values at [] = []
 last_values at (b ∷ bs) =
@@ -105,7 +105,7 @@ are_several values range = nat_lt 1 (count_by (is_odd_in range) values)
 
 -- ---- Changes.
 
--- The replacement, which stands before the first comma, and the numbers after it.
+-- The replacement, which is before the first comma, and the numbers after it.
 abbrev pub replacement_and_numbers : List ℕ → Option (List ℕ × List ℕ) → List ℕ × Option (List ℕ)
 replacement_and_numbers text None = (text, None)
 replacement_and_numbers text (Some parts) = (parts.0, Some parts.1)
@@ -176,7 +176,7 @@ change_of key values text = change_by_parts key values (replacement_and_numbers 
 
 -- ---- Patterns.
 
--- A slash splits a pattern from its change if a `=` stands after it.
+-- A slash splits a pattern from its change if a `=` follows it.
 abbrev pub split_if_change : List ℕ → Option (List ℕ × List ℕ) → List ℕ × Option (List ℕ)
 split_if_change line None = (line, None)
 split_if_change line (Some parts) = if list_any (λ b. b == equals_sign) parts.1 then (parts.0, Some parts.1) else (line, None)

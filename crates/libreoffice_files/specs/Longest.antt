@@ -1,6 +1,5 @@
--- Patterns read as LibreOffice reads them: at each letter the longest beginning of a pattern alone counts.
--- Sources: F. M. Liang, Word Hy-phen-a-tion by Com-put-er (1983), for patterns that all count; libhyphen 2.8.8,
--- hyphen.c, for the longest beginning.
+-- Patterns read as LibreOffice reads them: at each letter only the longest beginning of a pattern counts. Sources: F. M. Liang,
+-- Word Hy-phen-a-tion by Com-put-er (1983), for patterns that all count; libhyphen 2.8.8, hyphen.c, for the longest beginning.
 use Rattle.std.specs.Prelude.{◌≡◌, ℕ, ◌+◌, ◌-◌, ◌<◌, ◌≤◌, ◌⊎◌, ◌==◌, nat_eq, nat_lt, Bool, false, List, [], length, take, drop, filter}
 use Rattle.std.specs.Prelude.{slice_range, unwrap_or, IsSome, IsTrue}
 use Rattle.std.specs.List.{list_any, range_with_len, starts_with}
@@ -63,7 +62,7 @@ hides_value keys key = list_any (λ len. is_exceeded keys (take len key)) (range
 abbrev pub IsClosed : {C : Type 0} → Patterns C → Type 0
 IsClosed keys = (key : List ℕ) → IsSome (keys key) → hides_value keys key ≡ false
 
--- In closed patterns the greatest value over all patterns is the one that the longest beginnings alone give.
+-- In closed patterns the longest beginnings give each place the greatest value over all patterns.
 abbrev pub ClosedReadAlike : Type 0 → Type 0
 ClosedReadAlike C =
     (patterns : TextMap (List (Entry C))) → IsClosed (entries_of patterns) → (word : List ℕ) (p : ℕ)

@@ -17,8 +17,8 @@ fn to_even(value: u8) -> u8
     value.saturating_add(value % 2)
 }
 
-/// The entry that a kind of dictionary keeps of an entry with a change or none. If the kind has no room for the change,
-/// the value is made even, so that it forbids the break.
+/// Returns the entry that a kind of dictionary keeps of an entry with a change or none. If the kind has no room for the
+/// change, the value is made even, so that it forbids the break.
 pub fn carried_entry<C: Payload>(entry: Entry<Option<Subregion>>) -> Entry<C>
     ensures { entry.value < 255 → result ≡ carried_entry C.change_of C.payload_of entry }
 {
@@ -46,7 +46,7 @@ pub fn kinds_keep()
     ensures { KindsKeep }
 {}
 
-/// If patterns without their changes allow a break, the patterns with them allow it by an equal value, and that break
+/// A law: if patterns without their changes allow a break, the patterns with them allow it by an equal value, and it
 /// changes nothing.
 pub fn no_break_loses_its_change()
     ensures { NoBreakLosesItsChange }

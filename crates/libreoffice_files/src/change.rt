@@ -129,7 +129,7 @@ fn is_place(at: Option<usize>, place: usize) -> bool
     }
 }
 
-// Whether a value is odd, and stands after the range's first letter and within the range.
+// Whether a value is odd, and is after the range's first letter and within the range.
 fn is_after_first(range: Range, value: Value) -> bool
     ensures { result ≡ is_after_first range value }
 {

@@ -149,7 +149,7 @@ fn utf8_text(alloc: Global, bytes: &[u8], first: usize) -> Result<String, FileEr
     }
 }
 
-/// Where the first byte stands that means no character.
+/// The place of the first byte that means no character.
 fn first_bad(upper: Option<&[char; 128]>, bytes: &[u8]) -> Option<usize>
     ensures { result ≡ first_bad (option_map (λ table. table.now) upper.entry) bytes.now }
 {

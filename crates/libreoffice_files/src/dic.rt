@@ -1,8 +1,8 @@
 //! LibreOffice's `hyph_*.dic`: a charset, settings, and patterns in one or two levels.
 //!
 //! The last of several lines with one key counts, and the last of several digits in one place, as in LibreOffice. The
-//! two levels are joined, and all patterns that stand in a word count, as in TeX. In LibreOffice itself only the longest beginning
-//! of a pattern that ends at a letter counts; [`crate::longest`] says where that differs.
+//! two levels are joined, and all patterns that occur in a word count, as in TeX. In LibreOffice itself only the
+//! longest beginning of a pattern that ends at a letter counts; [`crate::longest`] says where that differs.
 
 ghost use Rattle.std.specs.Prelude.{◌≡◌, ◌<◌, ◌==◌, [], All, map, position, option_map, IfOk, IfErr, IfSome, OnOk, None};
 ghost use Rattle.pattern_results.specs.Errors.{IsConvertError};
@@ -280,7 +280,7 @@ fn dictionary_in<C: Payload, B: Listing>(
 /// Makes a dictionary of a `.dic`. A least number of letters before or after a break that is not given is the file's,
 /// or else 2, as in LibreOffice.
 ///
-/// Each pattern of both levels gives a key with its values. If a key stands several times, the last one counts, and of
+/// Each pattern of both levels gives a key with its values. If a key comes several times, the last one counts, and of
 /// several digits in one place the last one. A text that NOHYPHEN names has the value 8 at both ends. An extended
 /// dictionary has the changes of the file's patterns. A standard one has no room for them: its pattern forbids the
 /// break that it would change, which is noted.

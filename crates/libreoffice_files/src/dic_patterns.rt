@@ -27,7 +27,7 @@ use pattern_results::texts::text_from_utf8;
 use std::alloc::{AllocError, Global};
 use std::collections::BTreeMap;
 
-// A pattern without its key: its values, its change, and the line that it stands on.
+// A pattern without its key: its values, its change, and the line that it is on.
 #[derive(Drop)]
 pub(crate) struct Pattern {
     values: Vec<Value>,
@@ -100,7 +100,7 @@ fn is_digit(byte: u8) -> bool
     matches!(byte, b'0'..=b'9')
 }
 
-// Whether two digits stand in succession.
+// Whether two digits are in succession.
 fn has_two_values_in_one_place(body: &[u8]) -> bool {
     let mut after_digit = false;
     for byte in body {
@@ -122,8 +122,8 @@ fn begins_with_digit(text: &[u8]) -> bool
     }
 }
 
-// The letters of a pattern, and its values other than 0. If several digits stand in one place, the last one counts, as
-// in LibreOffice.
+// The letters of a pattern, and its values other than 0. If several digits are in one place, the last one counts, as in
+// LibreOffice.
 fn spelling_of(alloc: Global, body: &[u8]) -> Result<(Vec<u8>, Vec<Value>), AllocError>
     ensures letters { IfOk result (λ found. found.0.items ≡ letters body.now) }
     ensures values { IfOk result (λ found. found.1.items ≡ last_values 0 body.now) }
@@ -295,7 +295,7 @@ pub(crate) fn patterns_of(
     Ok(patterns)
 }
 
-// Whether a value stands strictly within a key of that length.
+// Whether a value is strictly within a key of that length.
 fn is_within(len: usize, value: Value) -> bool
     ensures { result ≡ is_within len value }
 {

@@ -28,7 +28,7 @@ pub(crate) enum Kind {
     Pattern,
 }
 
-// A line: its number, its kind and its text. The text of a setting stands after its name; the text of a pattern is the
+// A line: its number, its kind and its text. The text of a setting is after its name; the text of a pattern is the
 // whole line.
 #[derive(Clone, Copy)]
 pub(crate) struct Line<'a> {
@@ -159,11 +159,11 @@ pub(crate) fn lines_of(alloc: Global, first: usize, text: &str) -> Result<Vec<Li
 pub(crate) struct Settings<'a> {
     pub left: Option<&'a str>,
     pub right: Option<&'a str>,
-    // Texts with commas between them; no break stands directly before or after them.
+    // Texts with commas between them; no break is directly before or after them.
     pub no_hyphen: Option<&'a str>,
 }
 
-// Adds the setting of one more line. If a setting stands several times, the last one counts.
+// Adds the setting of one more line. If a setting comes several times, the last one counts.
 fn with_line<'a>(settings: Settings<'a>, line: Line<'a>) -> Settings<'a>
     ensures { settings_view result ≡ with_line (settings_view settings.entry) (line_view line.entry) }
 {

@@ -1,7 +1,7 @@
 //! Patterns as LibreOffice reads them, and whether TeX reads them alike.
 //!
-//! In TeX all patterns count that stand in a word. LibreOffice takes, at each letter, the longest text that ends there
-//! and begins some pattern. This text alone counts, if it is a pattern itself:
+//! In TeX all patterns count that occur in a word. LibreOffice takes, at each letter, the longest text that ends there
+//! and begins some pattern. Only this text counts, if it is a pattern itself:
 //!
 //! ```text
 //!   patterns a1b and xab2c, word xaby
@@ -79,7 +79,8 @@ fn is_exceeded<C: Drop>(automaton: &Automaton<Entry<C>>, node: usize) -> bool
     false
 }
 
-/// Whether a pattern hides a value of a shorter one from LibreOffice. A text that is no pattern gets no promise.
+/// Reports whether a pattern hides a value of a shorter one from LibreOffice. A text that is no pattern gets no
+/// promise.
 pub fn hides_value<C: Drop>(automaton: &Automaton<Entry<C>>, key: &[u8]) -> bool
     ensures { IsSome (entries_of_key automaton.now key.now) → result ≡ hides_value (entries_of_key automaton.now) key.now }
 {
@@ -94,8 +95,8 @@ pub fn hides_value<C: Drop>(automaton: &Automaton<Entry<C>>, key: &[u8]) -> bool
     false
 }
 
-/// In closed patterns, of which none hides a value, the greatest value over all patterns is the one that the longest
-/// beginnings alone give.
+/// A law: in closed patterns, of which none hides a value, the longest beginnings give each place the greatest value
+/// over all patterns.
 pub fn closed_patterns_read_alike<C>()
     ensures { ClosedReadAlike C }
 {

@@ -5,12 +5,12 @@ use Rattle.line_division.specs.declared.cost.Cost.{Cost}
 use Rattle.line_division.specs.Cost.{nothing, together, CostsNoMore}
 use Rattle.line_division.specs.Lines.{line_width, hyphens_to, line_cost}
 
--- A line may stand in a division where it fits, or where it holds one stretch, which can't be divided.
+-- A line may be in a division where it fits, or where it holds one stretch, which can't be divided.
 abbrev pub MayStand : List Stretch → ℕ → ℕ → ℕ → Type 0
 MayStand stretches columns start end = (line_width stretches start end ≤ columns) ⊎ (end ≡ start + 1)
 
--- A row of ends divides the stretches after a start: each is after the one before, their lines may stand, and the last
--- one is the end of all.
+-- A row of ends divides the stretches after a start. Each end is after the one before, each line is allowed, and the last end
+-- is that of all.
 abbrev pub Divides : List Stretch → ℕ → ℕ → List ℕ → Type 0
 Divides stretches columns start [] = start ≡ length stretches
 Divides stretches columns start (end ∷ ends) =
@@ -22,7 +22,7 @@ EachFits stretches columns start [] = ⊤
 EachFits stretches columns start (end ∷ ends) =
     (line_width stretches start end ≤ columns) × EachFits stretches columns end ends
 
--- The cost of the lines from a start to a row of ends. So many hyphens stand in a row before them.
+-- The cost of the lines from a start to a row of ends. This number of hyphens is in a row before them.
 abbrev pub cost_of : List Stretch → ℕ → ℕ → Option ℕ → ℕ → ℕ → List ℕ → Cost
 cost_of stretches columns last_columns ladder before start [] = nothing
 cost_of stretches columns last_columns ladder before start (end ∷ ends) = together
@@ -39,12 +39,12 @@ abbrev pub FitsIfAny : List Stretch → ℕ → List ℕ → Type 0
 FitsIfAny stretches columns row = (other : List ℕ) → Divides stretches columns 0 other
     → EachFits stretches columns 0 other → EachFits stretches columns 0 row
 
--- So many hyphens in a row are no more than a ladder may have.
+-- This number of hyphens in a row is no more than a ladder may have.
 abbrev pub IsWithin : Option ℕ → ℕ → Type 0
 IsWithin None hyphens = ⊤
 IsWithin (Some most) hyphens = hyphens ≤ most
 
--- No more lines in a row end in a hyphen than a ladder may have. Before the lines to this row of ends so many do.
+-- No more lines in a row end in a hyphen than a ladder may have. This number of them do before the lines to this row of ends.
 abbrev pub KeepsLadder : List Stretch → Option ℕ → ℕ → List ℕ → Type 0
 KeepsLadder stretches ladder before [] = ⊤
 KeepsLadder stretches ladder before (end ∷ ends) =

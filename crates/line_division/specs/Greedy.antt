@@ -4,7 +4,7 @@ use Rattle.line_division.specs.declared.stretch.Stretch.{Stretch}
 use Rattle.line_division.specs.Lines.{stretch_at, joined_width, line_width}
 use Rattle.line_division.specs.Division.{MayStand}
 
--- The line from a start to an end may stand, and none from there that fits ends later.
+-- The line from a start to an end is allowed, and none from there that fits ends later.
 pub record IsFurthest (stretches : List Stretch) (columns start end : ℕ) : Type 0 where
   pub after : start < end
   pub within : end ≤ length stretches
@@ -18,7 +18,7 @@ AreFurthest stretches columns start [] = start ≡ length stretches
 AreFurthest stretches columns start (end ∷ ends) =
     IsFurthest stretches columns start end × AreFurthest stretches columns end ends
 
--- A line that begins a stretch later is no wider for it, but for the first line of all, whose indent may be its own.
+-- A line that begins a stretch later is no wider for it, except the first line of all, whose indent may be its own.
 abbrev pub IsOrderly : List Stretch → Type 0
 IsOrderly stretches = (place : ℕ) → 0 < place → place + 1 < length stretches
     → (stretch_at stretches (place + 1)).opening ≤ (stretch_at stretches place).opening + joined_width (stretch_at stretches place)

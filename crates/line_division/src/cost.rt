@@ -7,9 +7,9 @@ ghost use Rattle.std.specs.Prelude.{◌≡◌, ◌+◌, ◌<◌, ◌^◌, MatchB
 pub struct Cost {
     /// The columns by which lines are too wide.
     pub excess: u64,
-    /// The lines at whose ends more hyphens stand in a row than the ladder has.
+    /// The lines at whose ends more hyphens are in a row than the ladder has.
     pub over: u64,
-    /// The squares of the columns that lines lack, and the prices of their ends.
+    /// The squares of the columns that lines are short of, and the prices of their ends.
     pub spent: u64,
 }
 
@@ -38,7 +38,7 @@ impl Cost {
         }
     }
 
-    // Tests whether it is less than another.
+    // Reports whether it is less than another.
     #[inline(always)]
     pub(crate) fn is_less(self, other: Cost) -> bool
         ensures { MatchBool result (CostsNoMore self other) (CostsNoMore other self) }

@@ -1,12 +1,12 @@
 //! The division whose cost is least.
 //!
 //! From the last stretch to the first, the best line to begin with it is sought, and kept with what it and all lines
-//! after it cost. Only lines that fit are tried, the longest first, and the one that holds this stretch alone. All
-//! lines after an end that is in reach cost at least a floor. Shorter lines are not tried once the columns that they lack,
-//! added to the floor, cost as much as the best line. A floor of all places in reach is one of the places before them
-//! too. So it is sought anew but once in the length of a line.
+//! after it cost. Only lines that fit are tried, the longest first, and the one that holds only this stretch. All lines
+//! after an end that is in reach cost at least a floor. Shorter lines are not tried once the columns that they are
+//! short of, added to the floor, cost as much as the best line. A floor of all places in reach is one of the places
+//! before them too. So it is sought anew only once in the length of a line.
 //!
-//! The cost of lines depends on the hyphens that stand in a row before them. So with a ladder of n lines the best line is
+//! The cost of lines depends on the hyphens that are in a row before them. So with a ladder of n lines the best line is
 //! sought n + 1 times: after a run of 0 to n hyphens. After a longer run it is that after n. Without a ladder it is
 //! sought once.
 
@@ -44,7 +44,7 @@ fn wanted_columns(stretches: &[Stretch], columns: u16, last_columns: u16, end: u
     }
 }
 
-// Returns the square of the columns that a line of such a width lacks.
+// Returns the square of the columns that a line of this width is short of.
 #[inline(always)]
 fn square_lacked(wanted: u16, wide: u64) -> u64
     ensures value { result ≡ (wanted - wide) * (wanted - wide) }
@@ -67,7 +67,7 @@ fn runs(ladder: Option<u8>) -> usize
     }
 }
 
-// Returns the run that stands for so many hyphens in a row.
+// Returns the state for that many hyphens in a row.
 #[inline(always)]
 fn run_of(ladder: Option<u8>, hyphens: usize) -> usize
     ensures value { result ≡ run_of ladder hyphens }
@@ -92,7 +92,7 @@ fn hyphens_to(stretches: &[Stretch], run: usize, end: usize) -> usize
     }
 }
 
-// Returns 1 for a line at whose end more hyphens stand in a row than the ladder may have, and else 0.
+// Returns 1 for a line at whose end more hyphens are in a row than the ladder may have, and else 0.
 #[inline(always)]
 fn line_over(ladder: Option<u8>, hyphens: usize) -> u64
     ensures value { result ≡ line_over ladder hyphens }
@@ -104,7 +104,7 @@ fn line_over(ladder: Option<u8>, hyphens: usize) -> u64
     }
 }
 
-// Returns the cost of a line of such a width, at whose end so many hyphens stand in a row.
+// Returns the cost of a line of this width, at whose end that many hyphens are in a row.
 #[inline(always)]
 fn line_cost(
     stretches: &[Stretch],
@@ -159,7 +159,7 @@ fn as_known(plain: bool, cost: Cost) -> Cost
     }
 }
 
-// Returns the line of such a width, followed by the best lines after it.
+// Returns the line of this width, followed by the best lines after it.
 #[inline(always)]
 fn choose(
     stretches: &[Stretch],
@@ -220,7 +220,7 @@ fn joined_width(stretch: &Stretch) -> u64
     widened(stretch.width) + widened(stretch.joint)
 }
 
-// Tests whether a stretch goes past the columns of a line, or is none.
+// Reports whether a stretch goes past the columns of a line, or is none.
 #[inline(always)]
 fn goes_past(stretches: &[Stretch], columns: u16, last: usize, joined: u64) -> bool
     requires { joined < 2 ^ 34 }
@@ -332,7 +332,7 @@ fn longest_line(stretches: &[Stretch], columns: u16, start: usize, reach: Reach)
     Longest { last, joined, wide }
 }
 
-// Tests whether a line of such a width may stand.
+// Reports whether a line of this width may stand.
 #[inline(always)]
 fn may_stand(columns: u16, plain: bool, start: usize, last: usize, wide: u64) -> bool
     requires order { start ≤ last }
@@ -342,8 +342,8 @@ fn may_stand(columns: u16, plain: bool, start: usize, last: usize, wide: u64) ->
     wide <= u64::from(columns) || (!plain && last == start)
 }
 
-// Tests whether a cost is no more than that of any line that lacks at least so many columns, if lines cost at least a floor
-// after it.
+// Reports whether a cost is no more than that of any line that is short of that many columns or more. The lines after
+// it cost at least a floor.
 #[inline(always)]
 fn is_enough(best: Cost, floor: Cost, lacked: u64) -> bool
     requires lacked { lacked < 2 ^ 16 }
@@ -358,8 +358,8 @@ fn is_enough(best: Cost, floor: Cost, lacked: u64) -> bool
 
 // Returns the line that is best to begin at a place after a run of hyphens, where the best ones after it are known.
 //
-// The lines that may stand are tried from the longest one on. None is tried that is so short that the columns which it
-// lacks, added to the floor, cost as much as the best line so far.
+// The lines that are allowed are tried from the longest one on. A line is not tried once the columns that it is short
+// of, added to the floor, cost as much as the best line so far.
 #[inline(always)]
 fn best_line(
     stretches: &[Stretch],
@@ -473,7 +473,7 @@ fn widest_of(stretches: &[Stretch]) -> Widest
     most
 }
 
-// Tests whether it is seen that no stretch alone is too wide for a line.
+// Reports whether it is seen that no stretch alone is too wide for a line.
 #[inline(always)]
 fn each_fits(widest: Widest, columns: u16) -> bool
     ensures { result ≡ true → widest.opening + widest.width + widest.closing ≤ columns }
@@ -693,10 +693,11 @@ fn best_lines_for(
 
 /// Returns the ends of the lines of a paragraph, divided so that it costs the least.
 ///
-/// An end is the number of stretches before it. Each line has at most so many columns, or holds one stretch. No such
-/// division of the paragraph has less excess. None with the same excess has fewer lines over the ladder: lines at whose
-/// ends more hyphens stand in a row than `ladder`. None that is the same in both spends less. Where several cost the
-/// least, it is not said which one is returned. The last line lacks columns only where it has fewer than `last_columns`.
+/// An end is the number of stretches before it. Each line has at most `columns` columns, or holds one stretch. No other
+/// division of this kind has less excess. None with the same excess has fewer lines over the ladder: lines at whose
+/// ends more hyphens are in a row than `ladder`. None that is the same in both spends less. Where several cost the
+/// least, it is not said which one is returned. The last line is short of columns only where it has fewer than
+/// `last_columns`.
 ///
 /// Where the paragraph can be divided into lines that fit, each line fits. Where these can end in at most `ladder`
 /// hyphens in a row, they do. The only error is that memory was refused.

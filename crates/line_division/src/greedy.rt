@@ -34,10 +34,10 @@ fn furthest_end(stretches: &[Stretch], columns: u16, start: usize) -> usize
 
 /// Returns the ends of the lines of a paragraph, each of which holds as much as fits.
 ///
-/// An end is the number of stretches before it. Each line has at most so many columns, or holds one stretch. A paragraph
-/// is orderly where no line is wider because it begins later; indents that differ at most on the first line keep it so.
-/// Then no division into lines that fit has fewer lines, and where there is one, each line fits. The only error is that
-/// memory was refused.
+/// An end is the number of stretches before it. Each line has at most `columns` columns, or holds one stretch. A
+/// paragraph is orderly where no line is wider because it begins later; indents that differ at most on the first line
+/// keep it so. Then no division into lines that fit has fewer lines, and where there is one, each line fits. The only
+/// error is that memory was refused.
 pub fn greedy_ends(
     alloc: Global,
     stretches: &[Stretch],

@@ -7,7 +7,7 @@ ghost use Rattle.line_division.specs.Greedy.{AreFurthest, IsOrderly};
 
 /// Where each line ends as late as it can, no division of an orderly paragraph into lines that fit has fewer lines.
 ///
-/// Where there is such a division, each line fits. It is a law of all rows of ends, and the call does nothing.
+/// Where some division fits, each line fits. It is a law of all rows of ends, and the call does nothing.
 pub fn furthest_ends_are_fewest()
     ensures divide { (all : List Stretch) (columns : ℕ) (row : List ℕ)
         → AreFurthest all columns 0 row → Divides all columns 0 row }

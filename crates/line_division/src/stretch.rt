@@ -17,7 +17,7 @@ pub struct Stretch {
     pub opening: u32,
     /// Those of its own text.
     pub width: u32,
-    /// Those of the text between it and the next one where both stand in one line.
+    /// Those of the text between it and the next one where both are in one line.
     pub joint: u32,
     /// Those of the text that is set after it where a line ends with it.
     pub closing: u32,

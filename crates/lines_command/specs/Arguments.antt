@@ -9,9 +9,9 @@ use Rattle.paragraphs.specs.Parts.{Style}
 use Rattle.paragraphs.specs.declared.setting.Aim.{Aim}
 use Rattle.paragraphs.specs.declared.setting.Aim.TheVariants.{Full, Even}
 
--- The options: whether texts are paragraphs alone; the columns of a line; whether lines are even; the columns below which the last line of a paragraph lacks
--- some; how many lines in a row may end in a hyphen, if it is limited; the cost of a hyphen; the text before the first
--- line, if it has its own; the text before the others.
+-- The options: whether texts are only paragraphs; the columns of a line; whether lines are even; the columns below which the
+-- last line of a paragraph is too short; how many lines in a row may end in a hyphen, if it is limited; the cost of a hyphen;
+-- the text before the first line, if it has its own; the text before the others.
 pub record ParsedOptions : Type 0 where
   pub plain : Bool
   pub columns : ℕ
@@ -28,7 +28,7 @@ pub record ParsedArgs : Type 0 where
   pub dictionary : List ℕ
   pub inputs : List (List ℕ)
 
--- The number that limits a row of hyphens; 0 stands for no limit.
+-- The number that limits a row of hyphens; 0 means no limit.
 abbrev pub limit_of : ℕ → Option ℕ
 limit_of n = if n == 0 then None else Some n
 
@@ -36,7 +36,7 @@ limit_of n = if n == 0 then None else Some n
 abbrev pub has_idle_ladder : ParsedOptions → Bool
 has_idle_ladder options = is_some options.ladder && not options.even
 
--- The options, unless they have a limit that is for even lines alone.
+-- The options, unless they have a limit that is only for even lines.
 abbrev pub if_limit_serves : Option (List ℕ) → ParsedOptions → Result ParsedOptions RefusedArgument
 if_limit_serves ladder options =
     if has_idle_ladder options then Err (refused (codes "--ladder") ladder EvenLines) else Ok options

@@ -33,12 +33,12 @@ asked_text args = help_or_version NAME.now VERSION.now USAGE.now args
 
 -- ---- what is written
 
--- A standard dictionary has plain breaks alone.
+-- A standard dictionary has only plain breaks.
 abbrev pub PlainIfStandard : Kind → (List ℕ → List Break) → Type 0
 PlainIfStandard Standard breaks_of = ArePlain breaks_of
 PlainIfStandard Extended breaks_of = ⊤
 
--- These are the lines of a text: of its paragraphs alone, if it is plain, else of a text as people write it.
+-- These are the lines of a text: of its paragraphs, if it is plain, else of a text as people write it.
 abbrev pub AreLines : Bool → Aim → (List ℕ → List Break) → Style → ℕ → List ℕ → List (List ℕ) → Type 0
 AreLines true aim breaks_of style columns text lines = IsPage aim breaks_of style columns text lines
 AreLines false aim breaks_of style columns text lines = IsWritten aim breaks_of style columns text lines

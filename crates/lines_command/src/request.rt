@@ -52,13 +52,13 @@ const OPTIONS: [OptionForm; 8] = [
 /// The options as parsed.
 #[derive(Clone, Copy)]
 pub struct Options<'w> {
-    /// Whether texts are paragraphs alone, and not as people write them.
+    /// Whether texts are plain paragraphs, and not as people write them.
     pub plain: bool,
     /// The columns of a line.
     pub columns: u16,
     /// Whether the lines are even, and not as full as possible.
     pub even: bool,
-    /// The columns below which the last line of a paragraph lacks some.
+    /// The columns below which the last line of a paragraph is too short.
     pub last_columns: u16,
     /// How many lines in a row may end in a hyphen, if it is limited.
     pub ladder: Option<u8>,
@@ -109,7 +109,7 @@ fn ladder_given<'w>(arguments: &Arguments<'w>) -> Result<u8, BadArgument<'w>>
     Ok(number as u8)
 }
 
-// The limit that a number stands for.
+// The limit that a number means.
 fn limit_of(number: u8) -> Option<u8>
     ensures { result ≡ limit_of number }
 {

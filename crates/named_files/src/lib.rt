@@ -1,7 +1,7 @@
 //! Files that are opened by their paths, and what is known of their bytes.
 //!
-//! [`NamedFiles`] stands for the files of a runtime, of which nothing is known, and for files that are listed with their
-//! bytes ([`Listed`]). So a contract over any `NamedFiles` says what a call does whatever the files hold.
+//! [`NamedFiles`] is implemented for the files of a runtime, of which nothing is known, and for files that are listed
+//! with their bytes ([`Listed`]). So a contract over any `NamedFiles` says what a call does whatever the files hold.
 #![tactic(auto)]
 
 ghost use Rattle.std.specs.Prelude.{◌≡◌, ◌≢◌, ℕ, List, Option, None, Some, IfErr, IfOk, IfSome, MatchOption, MatchResult};
@@ -14,7 +14,7 @@ use std::{fs, io};
 
 /// Files that can be opened by their paths.
 ///
-/// `bytes` says what is known of the file at a path: `None` if nothing is known, `Some None` if there is no such file,
+/// `bytes` says what is known of the file at a path. It is `None` if nothing is known, `Some None` if there is no file,
 /// and else `Some (Some bytes)`.
 pub trait NamedFiles {
     /// A file that was opened.

@@ -31,8 +31,8 @@ abbrev pub IsAimedAt : Aim → List Stretch → ℕ → List ℕ → Type 0
 IsAimedAt Full stretches columns row = IsFull stretches columns row
 IsAimedAt (Even last_columns ladder) stretches columns row = IsEven stretches columns last_columns ladder row
 
--- These are lines of a paragraph's parts, to ends as an aim asks for them. Nothing is lost: as they would stand in one
--- line, they join to the whole paragraph.
+-- These are lines of a paragraph's parts, to ends as an aim asks for them. Nothing is lost: as they would be in one line, they
+-- join to the whole paragraph.
 pub record IsSet (aim : Aim) (parts : List Setting) (columns : ℕ) (lines : List (List ℕ)) : Type 0 where
   pub row : List ℕ
   pub aimed : IsAimedAt aim (map stretch_of parts) columns row

@@ -7,11 +7,11 @@ use Rattle.paragraphs.specs.Words.{is_gap, if_any}
 abbrev pub is_line_feed : ℕ → Bool
 is_line_feed b = b == 10
 
--- The lines of a text: what stands between its line feeds.
+-- The lines of a text: what is between its line feeds.
 abbrev pub lines_of : List ℕ → List (List ℕ)
 lines_of text = slice_split is_line_feed text
 
--- A line has gaps alone.
+-- A line has only gaps.
 abbrev pub is_blank : List ℕ → Bool
 is_blank line = list_all is_gap (chars line)
 
@@ -35,7 +35,7 @@ pub record IsTextLine (line : List ℕ) : Type 0 where
   pub one : IsTrue (list_all (λ b. not (is_line_feed b)) line)
   pub worded : is_blank line ≡ false
 
--- A text is one or more such lines, each with its line feed. So it has no blank line.
+-- A text is one or more of these lines, each with its line feed. So it has no blank line.
 pub record IsParagraph (text : List ℕ) : Type 0 where
   pub lines : List (List ℕ)
   pub some : 0 < length lines

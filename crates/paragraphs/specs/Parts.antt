@@ -8,11 +8,11 @@ use Rattle.hyphenation_breaks.specs.Ascii.{space, hyphen}
 use Rattle.hyphenation_breaks.specs.Break.{Break, begin_of, end_of, before_of, after_of}
 use Rattle.paragraphs.specs.Settings.{Setting, joined_text}
 
--- A break of a piece that stands after an offset, counted from the beginning of the word.
+-- A break of a piece that is after an offset, counted from the beginning of the word.
 abbrev pub set_off : ℕ → Break → Break
 set_off offset b = record { place = offset + b.place; change = b.change }
 
--- The breaks of a piece, which stands after an offset.
+-- The breaks of a piece, which is after an offset.
 abbrev pub breaks_in : (List ℕ → List Break) → ℕ × List ℕ → List Break
 breaks_in breaks_of piece = map (set_off piece.0) (breaks_of piece.1)
 
@@ -44,7 +44,7 @@ part_at style word opening from b = record {
   price = style.price;
 }
 
--- The parts of a word from a place on, where the first one has this opening: one up to each break, and the last one,
+-- The parts of a word from a place on, where the first one has this opening. There is one up to each break, and the last one,
 -- with a space between it and the next word.
 abbrev pub parts_from : Style → List ℕ → List ℕ → ℕ → List Break → List Setting
 parts_from style word opening from [] =

@@ -10,7 +10,7 @@ is_no_break_space c = c == 0xA0 || c == 0x2007 || c == 0x202F
 abbrev pub is_gap : ℕ → Bool
 is_gap c = is_whitespace c && not (is_no_break_space c)
 
--- The text alone, or nothing if it is empty.
+-- The text as the only one, or nothing if it is empty.
 abbrev pub if_any : List ℕ → List (List ℕ)
 if_any text = if length text == 0 then [] else text ∷ []
 
@@ -21,7 +21,7 @@ words_after begun [] = if_any begun
 words_after begun (c ∷ cs) =
     if is_gap c then if_any begun ++ words_after [] cs else words_after (begun ++ encode_utf8 c) cs
 
--- The words of a text: what stands between its gaps.
+-- The words of a text: what is between its gaps.
 abbrev pub words : List ℕ → List (List ℕ)
 words text = words_after [] (chars text)
 

@@ -11,7 +11,7 @@ use crate::words::is_gap;
 use std::alloc::{AllocError, Global};
 use std::mem;
 
-// Whether a line has gaps alone.
+// Whether a line has only gaps.
 fn is_blank(line: &str) -> bool
     ensures { result ≡ is_blank line.now }
 {
@@ -58,8 +58,8 @@ fn pass_line(all: &mut Vec<String>, gathered: &mut String, line: &str) -> Result
 
 /// Returns the paragraphs of a text, each line with a line feed after it.
 ///
-/// A line that has gaps alone ends a paragraph, and is in none. Any other line is in one. So the words of all
-/// paragraphs are the words of the text. The only error is that memory was refused.
+/// A line that has only gaps ends a paragraph, and is in none. Any other line is in one. So the words of all paragraphs
+/// are the words of the text. The only error is that memory was refused.
 ///
 /// ```text
 /// paragraphs_of(alloc, "one\ntwo\n\n\nthree")?      // "one\ntwo\n", "three\n"

@@ -5,7 +5,7 @@ ghost use Rattle.paragraphs.specs.Private.PartSettings.{is_short_part};
 
 use crate::part::Part;
 
-// Tests whether no text of a part is too long to be measured.
+// Reports whether no text of a part is too long to be measured.
 pub(crate) fn is_short(part: &Part) -> bool
     ensures { result ≡ is_short_part part.now }
 {

@@ -1,9 +1,9 @@
 //! Paragraphs in lines of a width, broken by a dictionary of either kind.
 //!
-//! [`fill_text`] returns the lines of a whole text, and [`fill`] those of one paragraph: as few as any choice of breaks
-//! gives, or those whose cost is least ([`Aim`]). Widths are columns of a terminal.
+//! [`fill_text`] returns the lines of a whole text, and [`fill`] those of one paragraph. They are as few as any choice
+//! of breaks gives, or those whose cost is least ([`Aim`]). Widths are columns of a terminal.
 //!
-//! A word is what stands between gaps: white space, but no no-break space ([`split_word`]). A paragraph is a row of lines
+//! A word is what is between gaps: white space, but no no-break space ([`split_word`]). A paragraph is a row of lines
 //! that have a word, up to the next line that has none ([`paragraphs_of`]).
 #![tactic(auto)]
 

@@ -1,8 +1,8 @@
 //! Parts of a paragraph in which words that fit whole are not broken.
 //!
 //! A line that holds as much as fits ends within the first word that does not fit whole, or before it. So the breaks of
-//! the other words are not needed. Which words to leave whole is a guess, and the lines are used only where it was right:
-//! where no line ends before words that were left whole. Those that stand one space apart are one part.
+//! the other words are not needed. Which words to leave whole is a guess. The lines are used only where it was right:
+//! no line ends before words that were left whole. Those that are one space apart are one part.
 
 ghost use Rattle.std.specs.Prelude.{◌≡◌, ◌≤◌, ◌++◌, true, false, IfOk, OnOk, length, map, replicate};
 ghost use Rattle.std.specs.List.{list_all};
@@ -61,7 +61,7 @@ fn joined_after(
     Ok(joined)
 }
 
-// Tests whether a line of such columns fits with one more stretch at its end.
+// Reports whether a line of such columns fits with one more stretch at its end.
 fn fits_after(stretch: &Stretch, columns: u16, joined: usize) -> bool {
     joined
         .saturating_add(stretch.width as usize)
@@ -69,7 +69,7 @@ fn fits_after(stretch: &Stretch, columns: u16, joined: usize) -> bool {
         <= usize::from(columns)
 }
 
-// Adds words that stand one space apart in a text, as one whole. A line that begins with them has this indent.
+// Adds words that are one space apart in a text, as one whole. A line that begins with them has this indent.
 fn push_whole<'t>(
     alloc: Global,
     indent: &'t str,
@@ -97,7 +97,7 @@ fn push_whole<'t>(
     Ok(())
 }
 
-// Adds for so many parts that they are no whole words.
+// Marks that many parts as not being whole words.
 fn push_falses(wholes: &mut Vec<bool>, count: usize) -> Result<(), AllocError>
     ensures { OnOk result (wholes.new.items ≡ wholes.old.items ++ replicate count false) }
 {
@@ -250,7 +250,7 @@ pub(crate) fn mixed_of<'t, 'h, H: Hyphenator<'h>>(
     Ok(mixed)
 }
 
-// Tests whether the part after so many is a whole word.
+// Reports whether the part of an index is a whole word.
 fn is_whole(wholes: &[bool], place: usize) -> bool
     ensures { result ≡ whole_at wholes.now place }
 {
@@ -261,7 +261,7 @@ fn is_whole(wholes: &[bool], place: usize) -> bool
     }
 }
 
-// Tests whether no whole word follows an end.
+// Reports whether no whole word follows an end.
 fn end_before_parts(wholes: &[bool], row: &[usize]) -> bool
     ensures { result ≡ true → EndBeforeParts wholes.now row.now }
 {
@@ -273,14 +273,14 @@ fn end_before_parts(wholes: &[bool], row: &[usize]) -> bool
     true
 }
 
-// Tests whether a closing is no wider than the joint, if a whole word follows.
+// Reports whether a closing is no wider than the joint, if a whole word follows.
 fn is_narrow(stretch: &Stretch, before_whole: bool) -> bool
     ensures { result ≡ true → before_whole ≡ true → (stretch.now).closing ≤ (stretch.now).joint }
 {
     !before_whole || stretch.closing <= stretch.joint
 }
 
-// Tests whether the closing before each whole word is no wider than the joint.
+// Reports whether the closing before each whole word is no wider than the joint.
 fn have_narrow_closings(wholes: &[bool], stretches: &[Stretch]) -> bool
     ensures { result ≡ true → HaveNarrowClosings wholes.now stretches.now }
 {
@@ -292,7 +292,7 @@ fn have_narrow_closings(wholes: &[bool], stretches: &[Stretch]) -> bool
     true
 }
 
-// Tests whether lines to a row of ends stay the same where the whole words are broken.
+// Reports whether lines to a row of ends stay the same where the whole words are broken.
 fn are_settled(wholes: &[bool], stretches: &[Stretch], row: &[usize]) -> bool
     ensures { result ≡ true → AreSettled wholes.now stretches.now row.now }
 {
@@ -319,8 +319,8 @@ impl From<AllocError> for NotFull {
     }
 }
 
-// Returns the lines of a paragraph for whose parts these stand, each as full as can be, where no line ends before a word
-// that was left whole.
+// Returns the fullest lines of a paragraph that is made of these parts, where no line ends before a word that was left
+// whole.
 pub(crate) fn full_lines(
     alloc: Global,
     parts: &[Part],

@@ -49,8 +49,8 @@ fn push_lines<'h, H: Hyphenator<'h>>(
 ///
 /// A paragraph ends at a line without a word. [`fill`] says which lines a paragraph has.
 ///
-/// The error says that memory was refused, or that one of the paragraphs is too long: it has 2^30 parts, or a text of one
-/// of them has 2^31 bytes.
+/// The error says that memory was refused, or that one of the paragraphs is too long. It then has 2^30 parts, or a text
+/// of one of them has 2^31 bytes.
 ///
 /// ```text
 /// let style = Style { first: "", indent: "", price: 0 };

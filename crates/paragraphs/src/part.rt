@@ -12,7 +12,7 @@ ghost use Rattle.paragraphs.specs.Private.Printable.{is_printable};
 // ```
 //
 // The last part of a word has a space for its joint. Any other has a hyphen. Where its break changes letters, the joint
-// has those letters, `before` the first half of the change, and `after` of the next part the second half.
+// has those letters. Then `before` has the first half of the change, and `after` of the next part the second half.
 #[derive(Debug, Drop)]
 pub struct Part<'t> {
     // The indent of a line that begins with it.

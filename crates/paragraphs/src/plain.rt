@@ -1,6 +1,6 @@
 //! Words of printable ASCII.
 //!
-//! They are found byte by byte. Where they stand one space apart, they are one slice of the text.
+//! They are found byte by byte. Where they are one space apart, they are one slice of the text.
 
 ghost use Rattle.std.specs.Prelude.{◌≡◌, ◌∷◌, ◌++◌, ◌+◌, ◌<◌, ◌≤◌, [], true, MatchOption, IfSome, length};
 ghost use Rattle.std.specs.Char.{is_ascii_alphabetic};
@@ -11,7 +11,7 @@ ghost use Rattle.paragraphs.specs.Words.{words, EndsIn};
 
 use crate::words::split_word;
 
-// Tests whether a byte is a printable character of ASCII, but no space.
+// Reports whether a byte is a printable character of ASCII, but no space.
 #[inline(always)]
 fn is_plain(byte: u8) -> bool
     ensures { result ≡ is_plain byte }
@@ -19,7 +19,7 @@ fn is_plain(byte: u8) -> bool
     0x21 <= byte && byte <= 0x7e
 }
 
-// Tests whether a byte is a gap of ASCII.
+// Reports whether a byte is a gap of ASCII.
 #[inline(always)]
 fn is_ascii_gap(byte: u8) -> bool
     ensures { result ≡ is_ascii_gap byte }
@@ -94,7 +94,7 @@ pub(crate) struct Word<'t> {
     pub(crate) text: &'t str,
     // Whether it is known to be of printable ASCII.
     pub(crate) plain: bool,
-    // Whether it is known to be of letters of ASCII alone.
+    // Whether it is known to be of letters of ASCII only.
     pub(crate) letters: bool,
     // The text after it.
     pub(crate) after: &'t str,
@@ -168,7 +168,7 @@ fn run_end(bytes: &[u8], most: usize) -> Option<usize>
     Some(end)
 }
 
-// Splits a text after words of printable ASCII that stand one space apart, and have at most so many bytes.
+// Splits a text after words of printable ASCII that are one space apart, and have at most that many bytes.
 pub(crate) fn split_run(text: &str, most: usize) -> Option<(&str, &str)>
     ensures run { IfSome result (λ x. BeginsWith text.now x.0.now x.1.now) }
     ensures less { IfSome result (λ x. length x.1.now < length text.now) }

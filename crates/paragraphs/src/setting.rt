@@ -23,9 +23,9 @@ pub enum Aim {
     Full,
     /// The sum of the costs of all lines is least.
     ///
-    /// A line costs the square of the columns that it lacks, and its price where it ends at a break of a word. The last
-    /// line lacks columns only where it has fewer than `last_columns`. Before all else, at most `ladder` lines in a row
-    /// end in a hyphen, where lines that fit can be had so.
+    /// A line costs the square of the columns that it is short of, and its price where it ends at a break of a word.
+    /// The last line is short of columns only where it has fewer than `last_columns`. Before all else, at most `ladder`
+    /// lines in a row end in a hyphen, where lines that fit can be had so.
     Even {
         last_columns: u16,
         ladder: Option<u8>,
@@ -153,7 +153,7 @@ fn columns_of_part(alloc: Global, part: &Part) -> Result<Stretch, AllocError>
     })
 }
 
-// Tests whether a part is of printable ASCII, without an indent and without a change, and short, as most parts are.
+// Reports whether a part is of printable ASCII, without an indent and without a change, and short, as most parts are.
 #[inline(always)]
 fn is_bare(part: &Part) -> bool
     ensures { result ≡ true → IsBare part.now }
@@ -275,7 +275,7 @@ fn push_any(line: &mut String, text: &str) -> Result<(), AllocError>
     Ok(())
 }
 
-// Returns the text before a line that begins with a part. There is room for so many bytes.
+// Returns the text before a line that begins with a part. There is room for that many bytes.
 fn opening(alloc: Global, part: &Part, bytes: usize) -> Result<String, AllocError>
     ensures { IfOk result (λ opening. string_bytes opening ≡ (setting_of part.now).opening) }
 {
@@ -335,7 +335,7 @@ fn push_slice(line: &mut String, text: &str, slice: Slice) -> Result<(), AllocEr
     Ok(())
 }
 
-// Appends a part that is not the last one of its line. Parts that stand side by side in a text are appended at once, as a
+// Appends a part that is not the last one of its line. Parts that are side by side in a text are appended at once, as a
 // slice of it. This slice is still to be appended.
 #[inline(always)]
 fn push_part(
@@ -391,7 +391,7 @@ fn push_last(line: &mut String, part: &Part) -> Result<(), AllocError>
     Ok(())
 }
 
-// Returns the line from a start to an end. It is said in which text the parts stand.
+// Returns the line from a start to an end. The parts are slices of the given text.
 fn line(
     alloc: Global,
     text: &str,
@@ -415,7 +415,7 @@ fn line(
     Ok(line)
 }
 
-// Returns the lines to a row of ends. It is said in which text the parts stand.
+// Returns the lines that end at a row of ends. The parts are slices of the given text.
 pub(crate) fn lines(
     alloc: Global,
     text: &str,
@@ -460,8 +460,8 @@ fn ends(
     }
 }
 
-// Returns the lines of a paragraph that is made of such parts, which have such columns. It is said in which text the parts
-// stand.
+// Returns the lines of a paragraph that is made of these parts, which have these columns. The parts are slices of the
+// given text.
 pub(crate) fn set(
     alloc: Global,
     text: &str,

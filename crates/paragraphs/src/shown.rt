@@ -8,21 +8,21 @@ ghost use Rattle.paragraphs.specs.Settings.{is_soft_hyphen, shown};
 
 use std::alloc::{AllocError, Global};
 
-// Tests whether a byte is a printable character of ASCII.
+// Reports whether a byte is a printable character of ASCII.
 fn is_printable_byte(byte: u8) -> bool
     ensures { result ≡ is_printable byte }
 {
     0x20 <= byte && byte <= 0x7e
 }
 
-// Tests whether a text has printable characters of ASCII alone. Such a text is shown as it is, a column for each byte.
+// Reports whether a text has printable characters of ASCII only. Such a text is shown as it is, a column for each byte.
 pub(crate) fn is_printable(text: &str) -> bool
     ensures { result ≡ list_all is_printable text.now }
 {
     text.as_bytes().iter().all(|byte| is_printable_byte(*byte))
 }
 
-// Tests whether a text has a soft hyphen.
+// Reports whether a text has a soft hyphen.
 pub(crate) fn has_soft_hyphen(text: &str) -> bool
     ensures { result ≡ list_any is_soft_hyphen (chars text.now) }
 {

@@ -23,7 +23,7 @@ use crate::word::push_word;
 use hyphenation_hyphenator::hyphenator::Hyphenator;
 use std::alloc::{AllocError, Global};
 
-// Tests whether a text begins with a space.
+// Reports whether a text begins with a space.
 #[inline(always)]
 fn begins_with_space(text: &str) -> bool
     ensures { result ≡ true → BeginsWithSpace text.now }
@@ -223,10 +223,10 @@ fn fill_all<'h, H: Hyphenator<'h>>(
 
 /// Returns the lines of a paragraph: its words with one space between them, broken where a line ends.
 ///
-/// A word is what stands between gaps. It may be broken where the dictionary breaks one of its pieces between Unicode's
+/// A word is what is between gaps. It may be broken where the dictionary breaks one of its pieces between Unicode's
 /// word bounds, if some of the word is on either side. An address of the web or of mail is not broken. A soft hyphen is
-/// shown only as the hyphen of a line that ends there. A line has at most so many columns of a terminal, or it holds one
-/// part, which can't be divided.
+/// shown only as the hyphen of a line that ends there. A line has at most `columns` columns of a terminal, or it holds
+/// one part, which can't be divided.
 ///
 /// The error says that memory was refused, or that the paragraph is too long.
 ///

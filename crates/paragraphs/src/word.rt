@@ -34,7 +34,7 @@ struct Open<'t> {
     from: usize,
 }
 
-// Passes a break of a piece of a word: the part that is being made ends there, where some of the word is on either
+// Passes a break of a piece of a word. The part that is being made ends there, where some of the word is on either
 // side.
 #[inline(always)]
 #[tactic(auto, using(crate::proofs::Printable::printable_between))]
@@ -152,8 +152,8 @@ fn pass_each_piece<'t, 'h, H: Hyphenator<'h>>(
     Ok(())
 }
 
-// Passes the breaks of a word: those of all its pieces, or none if it is an address. One of letters of ASCII alone is one
-// piece, and no address.
+// Passes the breaks of a word: those of all its pieces, or none if it is an address. One of letters of ASCII only is
+// one piece, and no address.
 #[inline(always)]
 fn pass_pieces<'t, 'h, H: Hyphenator<'h>>(
     alloc: Global,
@@ -194,8 +194,8 @@ fn pass_pieces<'t, 'h, H: Hyphenator<'h>>(
     Ok(())
 }
 
-// Returns where the joint of a word's last part ends in the text of the paragraph, where the word begins at such a place
-// there. If no space stands after the word, the end is past any text.
+// Returns the end of the space after a word that begins at this place in the text of the paragraph. If no space is
+// after the word, the end is past any text.
 #[inline(always)]
 fn end_of_word(word: &str, at: usize, spaced: bool) -> usize
     requires { at + length word.now < 2 ^ 63 }
@@ -209,9 +209,9 @@ fn end_of_word(word: &str, at: usize, spaced: bool) -> usize
     }
 }
 
-// Adds the parts of a word. A line that begins with the word has this indent. It is said where the word begins in the text
-// of the paragraph; whether a space stands after it there; and whether it is known to be of printable ASCII, and of
-// letters of ASCII alone. The list is for the breaks of its pieces.
+// Adds the parts of a word. A line that begins with the word has this indent. `at` is the place of the word in the
+// paragraph, and `spaced` says whether a space follows. `plain` and `letters` say whether it is known to have only
+// printable ASCII, and only ASCII letters. `breaks` is scratch space.
 #[tactic(auto, using(crate::proofs::Printable::printable_drop))]
 pub(crate) fn push_word<'t, 'h, H: Hyphenator<'h>>(
     alloc: Global,

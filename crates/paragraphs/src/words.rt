@@ -4,7 +4,7 @@ ghost use Rattle.std.specs.Prelude.{◌≡◌, ◌∷◌, ◌++◌, ◌<◌, ◌
 ghost use Rattle.paragraphs.specs.Words.{is_gap, words, EndsIn};
 ghost use Rattle.paragraphs.specs.Private.Cuts.{begins_with, is_word_part, CutsWord};
 
-/// Tests whether a character is a gap: white space, but no no-break space.
+/// Reports whether a character is a gap: white space, but no no-break space.
 ///
 /// The no-break spaces are U+00A0, U+2007 and U+202F.
 pub fn is_gap(c: char) -> bool

@@ -21,7 +21,7 @@ with_key before key = record { patterns = before.patterns ++ key ∷ []; excepti
 abbrev pub with_word : {C B : Type 0} → SpeltWords C B → List ℕ × List B → SpeltWords C B
 with_word before word = record { patterns = before.patterns; exceptions = before.exceptions ++ word ∷ [] }
 
--- The dictionary of keys and words. If a key or a word stands several times, the last one counts.
+-- The dictionary of keys and words. If a key or a word comes several times, the last one counts.
 abbrev pub contents_made : {C B : Type 0} → List ℕ → ℕ → ℕ → SpeltWords C B → Contents C B
 contents_made language left right all = record {
   language = language;

@@ -41,7 +41,7 @@ impl<C: Payload, B: Listing> Model for DictionaryParts<C, B> {
 }
 
 impl<C: Payload, B: Listing> DictionaryParts<C, B> {
-    /// Neither a key nor a word.
+    /// Makes parts with neither a key nor a word.
     pub fn new(alloc: Global) -> DictionaryParts<C, B>
         ensures { result ≡ nothing_spelt }
     {
@@ -73,8 +73,8 @@ impl<C: Payload, B: Listing> DictionaryParts<C, B> {
         Ok(())
     }
 
-    /// Makes the dictionary of these keys and words, with least numbers of characters before and after a break. If a key
-    /// or a word stands several times, the last one counts. The only error is out of memory.
+    /// Makes the dictionary of these keys and words, with least numbers of characters before and after a break. If a
+    /// key or a word comes several times, the last one counts. The only error is out of memory.
     pub fn make(
         self,
         alloc: Global,

@@ -24,7 +24,7 @@ pub enum FileCause {
     Unclosed,
     /// Line 1 of a `.dic` names a charset that is not known here.
     Charset,
-    /// A byte stands for no character in the charset that line 1 of a `.dic` names.
+    /// A byte means no character in the charset that line 1 of a `.dic` names.
     NotInCharset,
     /// No number from 0 to 255 follows LEFTHYPHENMIN or RIGHTHYPHENMIN.
     Minimum,

@@ -10,7 +10,7 @@ pub struct LineRef {
     pub line: usize,
 }
 
-/// The kind of a remark. Its message stands at `Display`.
+/// The kind of a remark. `Display` has its message.
 #[derive(Clone, Copy, Debug, PartialEq, Eq)]
 pub enum NoteKind {
     Setting,

@@ -6,7 +6,7 @@ ghost use Rattle.std.specs.String.{string_bytes};
 
 use hyphenation_grammar::lines::is_utf8;
 
-/// The text of bytes that are UTF-8, and none of other bytes.
+/// Returns the text of bytes that are UTF-8, and none of other bytes.
 pub fn text_from_utf8(bytes: Vec<u8>) -> Option<String>
     ensures same_bytes { IfSome result (λ text. string_bytes text ≡ bytes.items) }
     ensures utf8 { IfSome result (λ _. is_utf8 bytes.items ≡ true) }

@@ -1,7 +1,7 @@
 //! Files that are replaced by new ones, so that nothing is lost where memory or the disk fails.
 //!
-//! [`ReplaceFiles`] stands for the files of a runtime, and for a list that records what was written ([`Recorded`]). So a
-//! contract over any `ReplaceFiles` says which file gets which bytes.
+//! [`ReplaceFiles`] is implemented for the files of a runtime, and for a list that records what was written
+//! ([`Recorded`]). So a contract over any `ReplaceFiles` says which file gets which bytes.
 #![tactic(auto)]
 
 ghost use Rattle.std.specs.Prelude.{◌∷◌, [], Option, None, Some, OnErr, OnOk, map};

@@ -243,7 +243,7 @@ impl ReferenceDictionary {
         Ok(self.value_in_frame(frame.as_bytes(), place))
     }
 
-    // The value at a place of a word that stands between two dots.
+    // The value at a place of a word that is between two dots.
     fn value_in_frame(&self, frame: &[u8], place: usize) -> Option<Value> {
         let mut winner: Option<Candidate> = None;
         for start in 0..frame.len() {

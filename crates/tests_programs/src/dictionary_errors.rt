@@ -1,4 +1,4 @@
-//! Each error of a dictionary has the status 3, and its message stands after the dictionary's path.
+//! Each error of a dictionary has the status 3, and its message is after the dictionary's path.
 
 use crate::faults::{Fault, PERMISSION_DENIED};
 use crate::harness::{FileList, Run, expect_failing_run, expect_run};

@@ -18,7 +18,7 @@ use test_support::{expect_equal_bytes, expect_equal_in, expect_text_in};
 // How a reader gives its bytes.
 #[derive(Clone, Copy)]
 enum Reads {
-    // At most so many bytes a read.
+    // At most that many bytes a read.
     AtMost(usize),
     // One byte a read; the read of this number and all later ones fail with this code.
     FailFrom(usize, i32),

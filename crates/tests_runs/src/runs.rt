@@ -15,7 +15,7 @@ use test_support::{CallError, expect_equal_bytes, expect_text, expect_text_in, r
 pub(crate) enum Task<'t> {
     /// Its input by a dictionary of a kind, after edits, with a mark.
     Text(Kind, &'t [&'t str], &'t str),
-    /// The lines of its input, of so many columns.
+    /// The lines of its input, of that many columns.
     Lines(usize),
     /// The values of a word, by a dictionary of a kind.
     Values(Kind, &'t str),
@@ -493,7 +493,7 @@ fn edits_are_done_in_order_or_the_first_refused_is_named(rt: HostRuntime) -> Res
     Ok(())
 }
 
-// Rows: what each shows, the task, the language, the dictionary, a text, what is written of it, and how often it stands in
+// Rows: what each shows, the task, the language, the dictionary, a text, what is written of it, and how often it is in
 // an input of more than 1,000,000 bytes.
 const LONG: [(&str, Task, &str, &str, &str, &str, usize); 3] = [
     (

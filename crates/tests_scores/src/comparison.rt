@@ -434,7 +434,7 @@ fn extended_dictionaries_agree_with_the_reference(rt: HostRuntime) -> Result<(),
     )
 }
 
-// Fails unless a word of this many bytes has the scores and breaks of the reference. Returns whether it is broken.
+// Fails unless a word of this many bytes has the scores and breaks of the reference. Reports whether it is broken.
 fn compare_long_word<K: Kind>(
     alloc: Global,
     random: &mut Random,

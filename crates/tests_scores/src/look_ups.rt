@@ -29,7 +29,7 @@ pub fn look_ups_by(alloc: Global, head: &str, lines: &str, word: &str) -> Result
     }
 }
 
-/// Fails, with the case and both numbers, unless a score takes so many look-ups, and as many reports.
+/// Fails, with the case and both numbers, unless a score takes that many look-ups, and as many reports.
 pub fn expect_look_ups(
     shows: &str,
     count: &LookUps,

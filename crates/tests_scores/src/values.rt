@@ -285,7 +285,7 @@ const VALUES: &[(&str, &[&str], &str, &[&str], &str)] = &[
         &[""],
         ",",
     ),
-    // It has two bytes, so that the value stands at place 3.
+    // It has two bytes, so that the value is at place 3.
     (
         "a soft hyphen of a key is a letter",
         BOTH,
@@ -293,7 +293,7 @@ const VALUES: &[(&str, &[&str], &str, &[&str], &str)] = &[
         &["a\u{ad}b"],
         "0 0 1 ,",
     ),
-    // The key stands at the first and at the second accent.
+    // The key is at the first and at the second accent.
     (
         "combining characters alone have values",
         BOTH,

@@ -16,7 +16,7 @@ const ONLY_SOFT_HYPHENS: &str = "p a1b\ne \u{ad} 2\ne \u{ad}ab 2 3\ne ab 1";
 // Three acute accents, with no letter below them; each has two bytes.
 const ACCENTS: &str = "\u{301}\u{301}\u{301}";
 
-// It stands in the word twice, at the first and at the second accent.
+// It is in the word twice, at the first and at the second accent.
 const ACCENT_KEY: &str = "p \u{301}1\u{301}";
 
 // A man, a woman and a girl, joined: 4, 3, 4, 3 and 4 bytes.
@@ -244,8 +244,8 @@ fn unusual_words_are_broken_alike_by_both_kinds(rt: HostRuntime) -> Result<(), F
     expect_rows_of_both(rt.alloc(), ROWS)
 }
 
-// A sentence of what it shows, the minima, a number of letters, and the breaks of a word of so many. A pattern allows a
-// break between each two letters.
+// A sentence of what it shows, the minima, a number of letters, and the breaks of a word of that many. A pattern allows
+// a break between each two letters.
 const LETTERS: &[(&str, &str, usize, &str)] = &[
     (
         "the greatest minima leave 509 letters no break",

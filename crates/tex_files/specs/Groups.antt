@@ -72,7 +72,7 @@ pub record GroupScan : Type 0 where
   pub at_end : Bool
   pub fault : Option (ℕ × FileCause)
 
--- A scan at the start of a file: the first piece stands outside of groups.
+-- A scan at the start of a file: the first piece is outside of groups.
 abbrev pub nothing_scanned : GroupScan
 nothing_scanned = record { words = []; place = Outside; at_end = false; fault = None }
 
@@ -89,8 +89,7 @@ with_piece_outside found piece =
     else (if is_same piece.text (codes "\\endinput") then record found { at_end = true }
     else record found { place = place_after piece.text })
 
--- A piece at that place. A group is the text in braces after its command; without a brace, the next piece stands
--- outside of groups.
+-- A piece at that place. A group is the text in braces after its command; without a brace, the next piece is outside of groups.
 abbrev pub with_piece_at : Place → GroupScan → Piece → GroupScan
 with_piece_at Outside found piece = with_piece_outside found piece
 with_piece_at (Before group) found piece =

@@ -90,7 +90,7 @@ abbrev pub says_place : Group → ℕ → Bool
 says_place Patterns b = is_digit b
 says_place Exceptions b = b == hyphen
 
--- Two of them stand in succession; `after` says whether one stands directly before the text.
+-- Two of them are in succession; `after` says whether one is directly before the text.
 abbrev pub two_in_one_place : Group → Bool → List ℕ → Bool
 two_in_one_place group after [] = false
 two_in_one_place group after (b ∷ bs) =

@@ -51,7 +51,7 @@ fault_later lines fault = option_map (λ f. (lines + f.0, f.1)) fault
 
 -- ---- Texts.
 
--- A text stands nowhere in another.
+-- A text is nowhere in another.
 abbrev pub HasNo : List ℕ → List ℕ → Type 0
 HasNo part text = (before after : List ℕ) → text ≡ before ++ part ++ after → ⊥
 

@@ -81,7 +81,7 @@ fn take_files<C: Payload, B: Listing>(
 /// Makes a dictionary of files, one after the other: TeX files, and plain ones.
 ///
 /// Each pattern of their groups gives a key with its values, and each exception a word with its breaks, in small
-/// letters. If a key or a word stands several times, the last one counts. `left` and `right` are the least numbers of
+/// letters. If a key or a word comes several times, the last one counts. `left` and `right` are the least numbers of
 /// characters before and after a break.
 ///
 /// An error is the first fault: the file, its line, and the first test that a word there fails. Out of memory says

@@ -21,7 +21,7 @@ pub(crate) struct Minima {
     pub(crate) right: Option<u8>,
 }
 
-// The number after a name, in a comment. A remark may stand after it.
+// The number after a name, in a comment. A remark may be after it.
 fn setting_of(comment: &str, name: &str) -> Option<u8> {
     let text = comment.strip_prefix(name)?.trim();
     let (number, _remark) = text.split_once(' ').unwrap_or((text, ""));
@@ -31,7 +31,7 @@ fn setting_of(comment: &str, name: &str) -> Option<u8> {
     }
 }
 
-// Takes in a comment of the head, where hyph-utf8's files have their minima. Those of typesetting count, which stand
+// Takes in a comment of the head, where hyph-utf8's files have their minima. Those of typesetting count, which are
 // before or after those of generation.
 fn take_comment(minima: &mut Minima, head: Head, comment: &str) -> Head {
     match (head, comment) {
@@ -69,8 +69,8 @@ fn minima_of(bytes: &[u8]) -> Minima {
     minima
 }
 
-/// The least numbers of characters before and after a break. Each is the given one, or else that of the first file
-/// whose head has it. None if one of the two is neither given nor in a head.
+/// Returns the least numbers of characters before and after a break. Each is the given one, or else that of the first
+/// file whose head has it. None if one of the two is neither given nor in a head.
 pub fn minima_for(left: Option<u8>, right: Option<u8>, files: &[File<'_>]) -> Option<(u8, u8)>
     ensures some_if_both_given { IsSome left → IsSome right → IsSome result }
     ensures left_if_given { IfSome result (λ minima. IfSome left (λ given. minima.0 ≡ given)) }

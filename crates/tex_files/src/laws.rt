@@ -2,7 +2,7 @@
 //!
 //! They say the words of every file, so that nobody needs to read the definition in specs/Groups.antt. The first law
 //! leaves the comments out. A text without comments is outside of groups up to its first command that means something.
-//! Each of the other laws says what follows such a command.
+//! Each of the other laws says what follows one of these commands.
 
 ghost use Rattle.std.specs.Prelude.{◌≡◌, List, ℕ, [], None};
 ghost use Rattle.tex_files.specs.Converting.{words_of, group_fault};
@@ -20,8 +20,8 @@ pub fn comments_say_nothing()
     ensures last_fault { (form : Form) → IgnoresLastComment (group_fault form) }
 {}
 
-/// A TeX file without comments has the words of its first group, and then those of the text after that group, with their
-/// lines. White space may stand before the group's brace. A brace and a command within the group are words.
+/// A TeX file without comments has the words of its first group, and then those of the text after that group, with
+/// their lines. White space may be before the group's brace. A brace and a command within the group are words.
 pub fn groups_are_read_in_order()
     ensures words { HasWordsOfFirstGroupAndRest }
     ensures fault { HasFaultOfRest }

@@ -1,7 +1,7 @@
 //! TeX files of hyphenation patterns, and plain ones, made into dictionaries.
 //!
 //! A TeX file of hyph-utf8 has its patterns in a group after `\patterns`, and its exceptions in one after
-//! `\hyphenation`. A plain file has the inside of one such group:
+//! `\hyphenation`. A plain file has the inside of one of these groups:
 //!
 //! ```text
 //! \patterns{                   .fi2      2 after fi, where a word begins with it

@@ -69,7 +69,7 @@ pub(crate) fn says_place(group: Group, b: u8) -> bool
     }
 }
 
-// Whether two digits of a pattern, or two hyphens of an exception, stand in succession.
+// Whether two digits of a pattern, or two hyphens of an exception, are in succession.
 pub(crate) fn has_two_in_one_place(group: Group, text: &[u8]) -> bool
     ensures { result ≡ two_in_one_place group false text.now }
 {

@@ -69,7 +69,7 @@ impl Lexer {
         Ok(())
     }
 
-    // Reads a byte that neither stands in a comment, nor begins one, nor ends a line.
+    // Reads a byte that neither is in a comment, nor begins one, nor ends a line.
     fn take_byte(&mut self, alloc: Global, b: u8) -> Result<(), AllocError>
         ensures { OnOk result (lexer_view self.new ≡ with_read_byte (lexer_view self.old) b) }
     {
@@ -161,7 +161,7 @@ impl Scan {
         }
     }
 
-    // Takes in a piece that stands outside of groups.
+    // Takes in a piece that is outside of groups.
     fn take_outside(&mut self, line: usize, text: &[u8])
         ensures { scan_view self.new
             ≡ with_piece_outside (scan_view self.old) (record { line = line; text = text.now }) }

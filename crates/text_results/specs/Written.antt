@@ -10,8 +10,8 @@ use Rattle.hyphenation_load.specs.Load.{AppendsTo}
 use Rattle.replaced_files.specs.Files.{WrittenFiles, WritesFiles}
 use Rattle.text_results.specs.Targets.{Target, ToOutput, ToFile, InPlace}
 
--- The files that get results: the file of the output gets all of them, one after the other, or each of the named files
--- gets its own.
+-- The files that get results. The file of the output gets all of them, one after the other, or each of the named files gets its
+-- own.
 abbrev pub files_of : Target → List (List ℕ) → List (List ℕ) → WrittenFiles
 files_of ToOutput names results = []
 files_of (ToFile path) names results = (path, concat results) ∷ []
@@ -23,7 +23,7 @@ output_of ToOutput results = concat results
 output_of (ToFile path) results = []
 output_of InPlace results = []
 
--- Results that are such ones were written: these bytes were appended to the output, and these files were replaced.
+-- Results that are right were written: these bytes were appended to the output, and these files were replaced.
 abbrev pub WritesResults : {W S : Type 0} → (List (List ℕ) → Type 0) → Target → List (List ℕ)
     → (W → Option (List ℕ)) → W → W → (S → Option WrittenFiles) → S → S → Type 0
 WritesResults AreSuch target names contents old new written old_files new_files =
@@ -44,7 +44,7 @@ IsFailureOfWriting target names results old new (failed.Writing path) =
 IsFailureOfWriting target names results old new failed.Memory = ⊤
 IsFailureOfWriting target names results old new _ = ⊥
 
--- A program fails so: before it writes, and then no file was replaced; or by the writing of results that are such ones.
+-- A program fails so: before it writes, and then no file was replaced; or by the writing of results that are right.
 abbrev pub IsFailureFor : {S : Type 0} → (List (List ℕ) → Type 0) → (Failure → Type 0) → Target → List (List ℕ)
     → (S → Option WrittenFiles) → S → S → Failure → Type 0
 IsFailureFor AreSuch FailsBefore target names written old new failure =
@@ -59,7 +59,7 @@ EndsFailed AreSuch FailsBefore target names EndsSo old new written old_files new
     × EndsSo (Fails failure) × IsFailureFor AreSuch FailsBefore target names written old_files new_files failure
     × ((failure ≡ failed.Output) ⊎ (new ≡ old))
 
--- A program ends so whose arguments are accepted: it is done, and results that are such ones were written, or it fails.
+-- A program ends so whose arguments are accepted: it is done, and results that are right were written, or it fails.
 abbrev pub Ends : {W S : Type 0} → (List (List ℕ) → Type 0) → (Failure → Type 0) → Target → List (List ℕ)
     → (End → Type 0) → (W → Option (List ℕ)) → W → W → (S → Option WrittenFiles) → S → S → Type 0
 Ends AreSuch FailsBefore target names EndsSo contents old new written old_files new_files =

@@ -36,7 +36,7 @@ pub record IsSlice (text : List ℕ) (piece : ℕ × List ℕ) : Type 0 where
   pub end : IsCharBoundary text (piece.0 + length piece.1)
   pub bytes : piece.1 ≡ slice_range text piece.0 (piece.0 + length piece.1)
 
--- Each piece is such a slice.
+-- Each piece is a slice of that kind.
 abbrev pub AreSlices : List ℕ → List (ℕ × List ℕ) → Type 0
 AreSlices text [] = Unit {0}
 AreSlices text (piece ∷ pieces) = IsSlice text piece × AreSlices text pieces

@@ -131,8 +131,8 @@ impl<'t> WordPieceIndices<'t> {
 
     /// Passes pieces that end at or before a place, in bytes of the text, without looking at most of them.
     ///
-    /// It need not pass all of these. With all pieces of `to be or not` to come and the place 7, it passes `to`, a space,
-    /// `be` and a space, and `or` is the next one.
+    /// It need not pass all of these. An example is the place 7 with all pieces of `to be or not` to come. It passes
+    /// `to`, a space, `be` and a space, and `or` is the next one.
     #[inline]
     pub fn pass_before(&mut self, place: usize)
         ensures { PassesBefore place (piece_indices_left self.old) (piece_indices_left self.new) }

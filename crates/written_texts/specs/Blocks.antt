@@ -38,8 +38,7 @@ abbrev pub is_open : Option Paragraph → List ℕ → Bool
 is_open None line = false
 is_open (Some p) line = signs_in p.first.quote == signs_in (quote_of line)
 
--- The lines so far: the place after them, the paragraph that may go on, and the empty line that is to come before the next
--- line.
+-- The lines so far: the place after them, the paragraph that may go on, and the empty line that comes before the next line.
 pub record State : Type 0 where
   pub place : Place
   pub current : Option Paragraph

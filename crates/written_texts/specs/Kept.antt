@@ -103,7 +103,7 @@ is_no_prose line = is_heading line || begins (bare line) (codes "|") || not (has
 abbrev pub is_code : List ℕ → Bool
 is_code line = is_deep line || is_deep (unquoted line)
 
--- ---- where a line stands
+-- ---- where a line is
 
 -- A line begins the head of a mail: it parts the mails of a mailbox, or is a usual field.
 abbrev pub begins_head : List ℕ → Bool

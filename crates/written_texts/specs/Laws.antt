@@ -34,7 +34,7 @@ seen_in block = seen (block_text block)
 abbrev pub BlocksKeepTexts : Type 0
 BlocksKeepTexts = (text : List ℕ) → flat_map seen_in (blocks text) ≡ seen text
 
--- A line is prose: it has a word, and no quote, no indent and no mark, and it does not stay as it is, wherever it stands.
+-- A line is prose: it has a word, no quote, no indent and no mark. It does not stay as it is, wherever it is.
 pub record IsProse (line : List ℕ) : Type 0 where
   pub unquoted : quote_length line ≡ 0
   pub unled : lead_length line ≡ 0
@@ -64,8 +64,8 @@ abbrev pub LinesBegin : List ℕ → List ℕ → List (List ℕ) → Type 0
 LinesBegin first others [] = ⊤
 LinesBegin first others (line ∷ lines) = Begins first line × All (Begins others) lines
 
--- The lines of a paragraph have its prefixes, after the text that is asked for before lines: the first line has that of the
--- paragraph's first line, and each other one that of the other lines, where spaces stand in place of indent and mark.
+-- The lines of a paragraph have its prefixes, after the text that is asked for before lines. The first line has that of the
+-- paragraph's first line. Each other line has that of the other lines, with spaces in place of indent and mark.
 abbrev pub LinesKeepPrefixes : Type 0
 LinesKeepPrefixes =
     (aim : Aim) (breaks_of : List ℕ → List Break) (style : Style) (columns : ℕ) (p : Paragraph) (lines : List (List ℕ))

@@ -19,7 +19,7 @@ is_sign b = b == 62
 abbrev pub is_deep : List ℕ → Bool
 is_deep text = begins text (codes "    ") || begins text (tab ∷ [])
 
--- The bytes up to the last quote sign, where a byte is before so many.
+-- The bytes up to the last quote sign, where a byte is before this many.
 abbrev pub with_sign : ℕ → ℕ → ℕ
 with_sign b others = if is_sign b || b == space && nat_lt 0 others then others + 1 else 0
 

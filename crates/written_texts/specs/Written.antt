@@ -9,7 +9,7 @@ use Rattle.paragraphs.specs.declared.setting.Aim.{Aim}
 use Rattle.written_texts.specs.Prefixes.{written_prefix, blank_prefix}
 use Rattle.written_texts.specs.Blocks.{Paragraph, Block, Line, Filled, blocks}
 
--- The style of a paragraph: before each line stand the text that is asked for, and the prefix.
+-- The style of a paragraph: before each line are the text that is asked for, and the prefix.
 abbrev pub style_for : Style → Paragraph → Style
 style_for style p = record {
   first = style.first ++ written_prefix p.first;

@@ -95,7 +95,7 @@ fn signs_in(quote: &str) -> usize
         .count()
 }
 
-// Tests whether a paragraph goes on with a line of as many quote signs.
+// Reports whether a paragraph goes on with a line of as many quote signs.
 fn is_open(current: &Option<Paragraph<'_>>, line: &Parted<'_>) -> bool
     ensures { result ≡ is_open (option_map views.paragraph_of current.now) line.now.text.now }
 {

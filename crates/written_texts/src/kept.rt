@@ -22,7 +22,7 @@ fn name_of(line: &[u8]) -> &[u8]
     line
 }
 
-// Tests whether a line begins with a name and a colon.
+// Reports whether a line begins with a name and a colon.
 fn is_field(line: &[u8]) -> bool
     ensures { result ≡ is_field line.now }
 {
@@ -30,14 +30,14 @@ fn is_field(line: &[u8]) -> bool
     !name.is_empty() && line[name.len()..].starts_with(b":")
 }
 
-// Tests whether two names are one.
+// Reports whether two names are one.
 fn is_same_name(a: &[u8], b: &[u8]) -> bool
     ensures { result ≡ is_same_name a.now b.now }
 {
     a.eq_ignore_ascii_case(b)
 }
 
-// Tests whether a name is that of a usual field.
+// Reports whether a name is that of a usual field.
 fn is_usual_name(name: &[u8]) -> bool
     ensures { result ≡ list_any (is_same_name name.now) usual_names }
 {
@@ -55,14 +55,14 @@ fn is_usual_name(name: &[u8]) -> bool
         || is_same_name(name, b"Newsgroups")
 }
 
-// Tests whether a line is a field with a usual name.
+// Reports whether a line is a field with a usual name.
 fn is_usual_field(line: &[u8]) -> bool
     ensures { result ≡ is_usual_field line.now }
 {
     is_field(line) && is_usual_name(name_of(line))
 }
 
-// Tests whether a text begins with a capital letter.
+// Reports whether a text begins with a capital letter.
 fn is_capitalized(text: &[u8]) -> bool
     ensures { result ≡ is_capitalized text.now }
 {
@@ -72,63 +72,63 @@ fn is_capitalized(text: &[u8]) -> bool
     }
 }
 
-// Tests whether a text has a hyphen.
+// Reports whether a text has a hyphen.
 fn has_hyphen(text: &[u8]) -> bool
     ensures { result ≡ list_any is_hyphen text.now }
 {
     text.iter().any(|byte| *byte == b'-')
 }
 
-// Tests whether a name has two words.
+// Reports whether a name has two words.
 fn has_two_words(name: &[u8]) -> bool
     ensures { result ≡ has_two_words name.now }
 {
     is_capitalized(name) && has_hyphen(name)
 }
 
-// Tests whether a line that a text begins with is a field of a head.
+// Reports whether a line that a text begins with is a field of a head.
 fn is_first_field(line: &[u8]) -> bool
     ensures { result ≡ is_first_field line.now }
 {
     is_usual_field(line) || (is_field(line) && has_two_words(name_of(line)))
 }
 
-// Tests whether a line goes on with the field before it.
+// Reports whether a line goes on with the field before it.
 fn goes_on(line: &[u8]) -> bool
     ensures { result ≡ goes_on line.now }
 {
     line.starts_with(b" ") || line.starts_with(b"\t")
 }
 
-// Tests whether a text has digits alone.
+// Reports whether a text has digits alone.
 fn are_digits(text: &[u8]) -> bool
     ensures { result ≡ list_all is_ascii_digit text.now }
 {
     text.iter().all(|byte| byte.is_ascii_digit())
 }
 
-// Tests whether a line parts the mails of a mailbox.
+// Reports whether a line parts the mails of a mailbox.
 fn is_from_line(line: &[u8]) -> bool
     ensures { result ≡ is_from_line line.now }
 {
     line.starts_with(b"From ") && are_digits(&line[line.len().saturating_sub(4)..])
 }
 
-// Tests whether a line begins or ends lines of code.
+// Reports whether a line begins or ends lines of code.
 fn is_fence(line: &Parted<'_>) -> bool
     ensures { result ≡ is_fence line.now.text.now }
 {
     line.bare.as_bytes().starts_with(b"```")
 }
 
-// Tests whether a line begins or ends lines of code between tildes.
+// Reports whether a line begins or ends lines of code between tildes.
 fn is_tildes(line: &Parted<'_>) -> bool
     ensures { result ≡ is_tildes line.now.text.now }
 {
     line.bare.as_bytes().starts_with(b"~~~")
 }
 
-// Tests whether a line is the mark of a signature.
+// Reports whether a line is the mark of a signature.
 fn is_signature_mark(line: &Parted<'_>) -> bool
     ensures { result ≡ is_signature_mark line.now.text.now }
 {
@@ -148,7 +148,7 @@ fn hashes(text: &[u8]) -> usize
     text.len()
 }
 
-// Tests whether a line is a heading.
+// Reports whether a line is a heading.
 fn is_heading(line: &Parted<'_>) -> bool
     ensures { result ≡ is_heading line.now.text.now }
 {
@@ -157,28 +157,28 @@ fn is_heading(line: &Parted<'_>) -> bool
     0 < hashes && hashes < 7 && bare[hashes..].starts_with(b" ")
 }
 
-// Tests whether a line has a letter or a digit after its prefix.
+// Reports whether a line has a letter or a digit after its prefix.
 fn has_letters(line: &Parted<'_>) -> bool
     ensures { result ≡ has_letters line.now.text.now }
 {
     line.rest.chars().any(|c| c.is_alphanumeric())
 }
 
-// Tests whether a line is no prose.
+// Reports whether a line is no prose.
 fn is_no_prose(line: &Parted<'_>) -> bool
     ensures { result ≡ is_no_prose line.now.text.now }
 {
     is_heading(line) || line.bare.as_bytes().starts_with(b"|") || !has_letters(line)
 }
 
-// Tests whether a line is indented as code is.
+// Reports whether a line is indented as code is.
 fn is_code(line: &Parted<'_>) -> bool
     ensures { result ≡ is_code line.now.text.now }
 {
     is_deep(line.text.as_bytes()) || is_deep(line.unquoted.as_bytes())
 }
 
-// Tests whether a line begins the head of a mail.
+// Reports whether a line begins the head of a mail.
 fn begins_head(line: &[u8]) -> bool
     ensures { result ≡ begins_head line.now }
 {
@@ -206,7 +206,7 @@ fn place_in_body(joins: bool, line: &Parted<'_>) -> Option<Place>
     }
 }
 
-// Returns the place after a line that stays, where it stands at this place.
+// Returns the place after a line that stays, where it is at this place.
 pub(crate) fn place_of_words(place: Place, joins: bool, line: &Parted<'_>) -> Option<Place>
     ensures { result ≡ place_of_words place joins line.now.text.now }
 {
@@ -223,28 +223,28 @@ pub(crate) fn place_of_words(place: Place, joins: bool, line: &Parted<'_>) -> Op
     }
 }
 
-// Tests whether a byte is white space.
+// Reports whether a byte is white space.
 fn is_white(byte: u8) -> bool
     ensures { result ≡ is_white byte }
 {
     byte == b' ' || (b'\t' <= byte && byte <= b'\r')
 }
 
-// Tests whether a text has white space alone.
+// Reports whether a text has only white space.
 fn are_white(text: &[u8]) -> bool
     ensures { result ≡ list_all is_white text.now }
 {
     text.iter().all(|byte| is_white(*byte))
 }
 
-// Tests whether a place is within fences.
+// Reports whether a place is within fences.
 fn is_fenced(place: Place) -> bool
     ensures { result ≡ is_fenced place }
 {
     matches!(place, Place::Fence | Place::Tildes)
 }
 
-// Tests whether a line has nothing beside quote signs and white space, where it stands at this place.
+// Reports whether a line has nothing beside quote signs and white space, where it is at this place.
 pub(crate) fn is_empty_line(place: Place, line: &Parted<'_>) -> bool
     ensures { result ≡ is_empty_line place line.now.text.now }
 {

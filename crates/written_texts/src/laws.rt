@@ -2,7 +2,7 @@
 
 ghost use Rattle.written_texts.specs.Laws.{BlocksKeepTexts, LinesKeepPrefixes, ProseIsFilledAlike};
 
-/// The blocks of a text have all of it, in its order, but for white space and quote signs.
+/// The blocks of a text have all of it, in its order, except white space and quote signs.
 ///
 /// So no word is lost or put elsewhere, and no mark of an item. It is a law of all texts, and the call does nothing.
 pub fn blocks_keep_texts()
@@ -11,7 +11,7 @@ pub fn blocks_keep_texts()
 
 /// The lines of a paragraph have its prefixes: its quote signs, and its indent.
 ///
-/// The first line has the mark of an item too, and the other lines have spaces in place of it. All of this stands after the
+/// The first line has the mark of an item too, and the other lines have spaces in place of it. All of this follows the
 /// text that is asked for before lines. It is a law of all texts, and the call does nothing.
 pub fn lines_keep_prefixes()
     ensures { LinesKeepPrefixes }

@@ -160,15 +160,15 @@ fn push_block<'h, H: Hyphenator<'h>>(
 
 /// Returns the lines of a text as people write it: quotes keep their signs on each line, items their indent.
 ///
-/// A paragraph has lines with as many quote signs (`>`). It ends at an empty line, and the mark of an item (`-`, `*`, `+`,
-/// a bullet, or a number with a dot or a parenthesis) begins another one. Each of its lines begins with its quote signs,
-/// and with its indent, or with spaces below the mark. A tab there is four spaces.
+/// A paragraph has lines with as many quote signs (`>`). It ends at an empty line, and the mark of an item begins
+/// another one. The mark is `-`, `*`, `+`, a bullet, or a number with a dot or a parenthesis. Each of its lines begins
+/// with its quote signs, and with its indent, or with spaces below the mark. A tab there is four spaces.
 ///
-/// The head of a mail, headings (`#`), rows of tables (`|`), lines without a letter, code between fences or indented by
-/// four spaces or a tab, and signatures stay as they are. Empty lines in a row are one.
+/// These stay as they are: the head of a mail, headings (`#`), rows of tables (`|`), lines without a letter, and
+/// signatures. So does code between fences, or indented by four spaces or a tab. Empty lines in a row are one.
 ///
-/// The texts of the style stand before all of that. The error says that memory was refused, or that one of the paragraphs
-/// is too long: it has 2^30 parts, or a text of one of them has 2^31 bytes.
+/// The texts of the style come before all of that. The error says that memory was refused, or that one of the
+/// paragraphs is too long. It then has 2^30 parts, or a text of one of them has 2^31 bytes.
 ///
 /// ```text
 /// let style = Style { first: "", indent: "", price: 0 };

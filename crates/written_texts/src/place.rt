@@ -1,6 +1,6 @@
-//! Where a line stands in a text.
+//! Where a line is in a text.
 
-/// Where a line stands in a text.
+/// Where a line is in a text.
 #[derive(Clone, Copy, Debug)]
 pub enum Place {
     /// Before the first line.

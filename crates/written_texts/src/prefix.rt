@@ -8,7 +8,7 @@ ghost use Rattle.written_texts.specs.Prefixes.{is_deep, is_indent, is_item, inde
 ghost use Rattle.written_texts.specs.Prefixes.{quote_length, sign_length, signs_length, lead_of, quote_of, rest_of};
 ghost use Rattle.written_texts.specs.Prefixes as parts;
 
-// Tests whether a text is indented as code is.
+// Reports whether a text is indented as code is.
 pub(crate) fn is_deep(text: &[u8]) -> bool
     ensures { result ≡ is_deep text.now }
 {
@@ -93,7 +93,7 @@ fn sign_length(text: &[u8]) -> usize
     }
 }
 
-// Returns the text after so many bytes, which end in ASCII.
+// Returns the text after that many bytes, which end in ASCII.
 fn after(text: &str, place: usize) -> &str
     requires { EndsInAscii text.now place }
     ensures { result.now ≡ drop place text.now }

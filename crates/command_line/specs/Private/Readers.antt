@@ -1,4 +1,4 @@
--- How a reader of arguments stands for the definitions.
+-- How a reader of arguments corresponds to the definitions.
 use Rattle.std.specs.Prelude.{◌≡◌, Result, Ok, Err}
 use Rattle.command_line.specs.Options.{ReadArguments, RefusedArgument, Next, Any, ValueOf, OperandsAlone}
 use Rattle.command_line.specs.Reading.{as_read, IsReadError}

@@ -1,4 +1,4 @@
--- How a request in code stands for parsed arguments.
+-- How a request in code corresponds to parsed arguments.
 use Rattle.std.specs.Prelude.{ℕ, Bool, true, false, List, map, Option}
 use Rattle.std.specs.declared.vec.Vec.{Vec}
 use Rattle.hyphenation_breaks.specs.Break.{Break, Change}

@@ -1,4 +1,4 @@
--- How requests in code stand for parsed arguments, and the steps of a run.
+-- How requests in code correspond to parsed arguments, and the steps of a run.
 use Rattle.std.specs.Prelude.{ℕ, List, Result, Err, ⊤}
 use Rattle.std.specs.Borrow.{Bor}
 use Rattle.hyphenation_breaks.specs.Borrowed.{texts_now}

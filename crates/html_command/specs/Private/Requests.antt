@@ -1,4 +1,4 @@
--- How a request in code stands for parsed arguments.
+-- How a request in code corresponds to parsed arguments.
 use Rattle.std.specs.Prelude.{◌≡◌, ℕ, List, map, option_copied, Result, Ok, Err}
 use Rattle.hyphenation_breaks.specs.Borrowed.{texts_now}
 use Rattle.command_line.specs.Options.{RefusedArgument}

@@ -38,7 +38,7 @@ changed left right substitution breakpoint =
 abbrev pub entry : ℕ → ℕ → Option Change → Entry (Option Change)
 entry place value change = record { place = place; value = value; change = change }
 
--- Lines with a change that lacks a part, is not allowed there, or reaches past the key or word.
+-- Lines with a change that has not all parts, is not allowed there, or reaches past the key or word.
 abbrev pub bad_changes : List (List ℕ)
 bad_changes =
     codes "p a1b 1" ∷ codes "p a1b 0,0,0,0,\\e" ∷ codes "p a1b 1,2,0,0,\\e" ∷ codes "e ab 1,0,0"

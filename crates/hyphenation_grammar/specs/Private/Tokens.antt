@@ -6,7 +6,7 @@ use Rattle.hyphenation_grammar.specs.Tokens.{escaped_bytes_of, parts_within, tex
 use Rattle.hyphenation_grammar.specs.declared.tokens.Escapes.TheVariants.{Plain}
 use Rattle.hyphenation_breaks.specs.Ascii.{backslash, carriage_return, open_brace, space}
 
--- A byte that stands for itself, without an escape.
+-- A byte that means itself, without an escape.
 abbrev pub stands_for_itself : ℕ → Bool
 stands_for_itself b = not (b == backslash || b == carriage_return)
 
@@ -14,18 +14,18 @@ stands_for_itself b = not (b == backslash || b == carriage_return)
 abbrev pub is_ordinary : ℕ → Bool
 is_ordinary b = nat_lt space b && not (b == backslash) && (nat_lt b open_brace || nat_lt 127 b)
 
--- A comma that may split the text stands between the two.
+-- A comma that may split the text is between the two.
 abbrev pub IsSplit : ℕ → List ℕ → List ℕ → List ℕ → Type 0
 IsSplit commas text before after =
     (0 < commas) × (parts_within commas text ≡ before ∷ parts_within (commas - 1) after)
 
--- Each part can be read; `\e` may stand after the fourth comma alone.
+-- Each part can be read; `\e` may be after the fourth comma alone.
 abbrev pub are_readable : List (List ℕ) → Bool
 are_readable parts =
     list_all (λ written. is_some (escaped_bytes_of Plain written)) (take 4 parts)
     && list_all (λ written. is_some (text_spelt written)) (drop 4 parts)
 
--- The number of the first part, if so many parts are numbers.
+-- The number of the first part, if that many parts are numbers.
 abbrev pub first_number : ℕ → List (List ℕ) → Option ℕ
 first_number count parts =
     if list_all is_number (take count parts) then Some (number (slice_index_or parts 0 [])) else None

@@ -11,7 +11,7 @@ use Rattle.hyphenation_hyphenator.specs.Private.Opportunities.{realigned_break}
 abbrev pub holds_shift : List Shift → ℕ → ℕ → Bool
 holds_shift shifts begin end = list_any (λ shift. nat_le begin shift.index && nat_lt shift.index end) shifts
 
--- The range of a break lies in a folded word of so many bytes, and holds no shift.
+-- The range of a break lies in a folded word of that many bytes, and holds no shift.
 unfoldable pub range_holds_no_shift : ℕ → List Shift → Break → Bool
 range_holds_no_shift size shifts b =
     nat_le (left_of b.change) b.place && nat_le (end_of b) size && not (holds_shift shifts (begin_of b) (end_of b))

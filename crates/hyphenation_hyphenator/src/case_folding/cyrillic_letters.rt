@@ -1,4 +1,4 @@
-//! Testing whether a word has common lowercase letters of Cyrillic alone, as most Russian words do.
+//! Testing whether a word has only common lowercase letters of Cyrillic, as most Russian words do.
 //!
 //! Each of them takes two bytes. The pairs of the word's first bytes and those of its last bytes are tested at once, in
 //! the lanes of vectors. They have some pairs in common, and together they are all.

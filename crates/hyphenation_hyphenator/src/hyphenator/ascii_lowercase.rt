@@ -1,4 +1,4 @@
-//! Testing whether a word has the letters a to z alone, as most words do.
+//! Testing whether a word has only the letters a to z, as most words do.
 
 ghost use Rattle.std.specs.Prelude.{◌≡◌, ◌+◌, ◌≤◌, ◌&&◌, length};
 ghost use Rattle.std.specs.Char.{is_ascii_lowercase};

@@ -58,7 +58,7 @@ pub(super) fn boundaries_of_long_ascii(minima: (usize, usize), word: &str) -> (u
     (left, word.len() - right.max(1))
 }
 
-// Returns the place of a character by its number from 0, or the text's end where there are not so many.
+// Returns the place of a character by its number from 0, or the text's end where there are not that many.
 fn place_of_character(text: &str, number: usize) -> usize
     ensures value { result ≡ place_of_character text.now number }
     ensures boundary { IsCharBoundary text.now result }
@@ -74,7 +74,7 @@ fn place_of_character(text: &str, number: usize) -> usize
     text.len() - rest.len()
 }
 
-// Returns the place from which on the text has so many characters, or `None` where it has fewer.
+// Returns the place from which on the text has that many characters, or `None` where it has fewer.
 fn place_of_character_from_end(text: &str, number: usize) -> Option<usize>
     ensures enough { IfSome result (λ place. number ≤ length (chars text.now)) }
     ensures value { IfSome result (λ place. place ≡ place_of_character text.now (length (chars text.now) - number)) }

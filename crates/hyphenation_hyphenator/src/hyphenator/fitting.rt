@@ -49,7 +49,7 @@ fn fitting_end<B: Break>(length: usize, shifts: &[Shift], last_end: usize, b: &B
     }
 }
 
-// Keeps those breaks of a folded word of so many bytes that fit the word as written.
+// Keeps those breaks of a folded word of that many bytes that fit the word as written.
 pub(crate) fn keep_fitting<B: Break + Copy>(
     alloc: Global,
     length: usize,

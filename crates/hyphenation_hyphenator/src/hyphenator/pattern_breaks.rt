@@ -1,6 +1,6 @@
 //! Finding the breaks that patterns allow, at the places of odd values.
 //!
-//! A standard dictionary needs the values alone. An extended one needs the winners of the places, whose entries may
+//! A standard dictionary needs only the values. An extended one needs the winners of the places, whose entries may
 //! carry changes. If it has a table, the ranks of the places show the words whose winners carry none, which are most.
 
 ghost use Rattle.std.specs.Prelude.{◌≡◌, ◌+◌, ◌-◌, ◌<◌, ◌≤◌, [], ◌∷◌, ◌++◌, ℕ, false, not, length, map, take, Option, None, option_copied};
@@ -144,14 +144,14 @@ fn winning_breaks<'h>(
 {
     let places = word.len().saturating_sub(1);
     if places <= 16 {
-        // The winners of most words stand on the stack. So few are set to `None` without a call.
+        // The winners of most words are on the stack. So few are set to `None` without a call.
         let mut winners: [Option<&'h Entry<Option<Subregion>>>; 16] = [None; 16];
         return winning_breaks_with_buffer(patterns, word, &mut winners[..places], bounds, breaks);
     }
     winning_breaks_of_long(patterns, word, bounds, breaks)
 }
 
-// Returns whether a place within bounds may have a break with a change: its value is odd, and so is its rank. The ranks
+// Reports whether a place within bounds may have a break with a change: its value is odd, and so is its rank. The ranks
 // begin with that of place 1. No branch depends on a rank, since a processor foresees few of those.
 #[inline(always)]
 fn may_change(ranks: &[u8], bounds: (usize, usize)) -> bool
@@ -178,9 +178,9 @@ fn halve_all(ranks: &mut [u8])
     }
 }
 
-// Puts plain breaks at the places within bounds whose value is odd into an empty list, given the ranks of the places from
-// place 1 on, and returns `true`. Where one of them may have a change, it returns `false`, and the list is empty. The ranks
-// may be overwritten.
+// Puts plain breaks at the places within bounds whose value is odd into an empty list, and returns `true`. It is given
+// the ranks of the places from place 1 on. Where one of them may have a change, it returns `false`, and the list is
+// empty. The ranks may be overwritten.
 #[inline(always)]
 fn unchanged_breaks<'h>(
     ranks: &mut [u8],
@@ -228,8 +228,8 @@ fn breaks_by_ranks<'h>(
     unchanged_breaks(&mut list[16..end], bounds, breaks)
 }
 
-// Puts the breaks within bounds that the patterns of an extended dictionary allow into an empty list. With a table a word is
-// searched by links only where its breaks may have changes, or where it is so long that few words are.
+// Puts the breaks within bounds that the patterns of an extended dictionary allow into an empty list. With a table a
+// word is searched by links only where its breaks may have changes, or where it is longer than most.
 #[inline(always)]
 pub(super) fn breaks_with_changes<'h>(
     patterns: &'h Automaton<Entry<Option<Subregion>>>,
@@ -272,8 +272,8 @@ fn write_odd_places(values: &[u8], bounds: (usize, usize), found: &mut [u8; 64])
     count
 }
 
-// Puts plain breaks at the places within bounds that have an odd value into an empty list, one after another. The values
-// begin with that of place 1. It is kept out of line, since few words have so many places.
+// Puts plain breaks at the places within bounds that have an odd value into an empty list, one after another. The
+// values begin with that of place 1. It is kept out of line, since few words have that many places.
 #[inline(never)]
 fn odd_places_in_turn<F: FoundBreak>(
     values: &[u8],
@@ -369,7 +369,7 @@ pub(super) fn plain_breaks(
 {
     let count = word.len();
     if count <= 62 {
-        // The values of most words stand on the stack.
+        // The values of most words are on the stack.
         let mut values = [0u8; 80];
         return plain_breaks_with_buffer(
             patterns,

@@ -1,6 +1,6 @@
 //! Finding the breaks of a word, for both kinds of dictionaries.
 //!
-//! The calls for lowercase words stand first. Then come the paths of a word as written, a fast one for each sort of
+//! The calls for lowercase words come first. Then come the paths of a word as written, a fast one for each sort of
 //! words that is common.
 
 ghost use Rattle.std.specs.Prelude.{◌≡◌, ◌≤◌, [], true, ◌-◌, ◌<◌, ◌&&◌, length, map, take};
@@ -130,8 +130,8 @@ pub(crate) fn exception<'h, F: BreakKind<'h>>(
     }
 }
 
-// Puts the breaks from the first bound to the second into an empty list: the listed ones of an exception, and else
-// those that patterns allow.
+// Puts the breaks from the first bound to the second into an empty list. They are the listed ones of an exception, and
+// else those that patterns allow.
 #[inline(always)]
 fn opportunities_in<'h, F: BreakKind<'h>>(
     dictionary: &'h Dictionary<F::Payload, F::Listing>,
@@ -243,8 +243,8 @@ fn breaks_of_ascii_lowercase<'h, F: BreakKind<'h>>(
     breaks_of_folded_ascii(dictionary, word, list)
 }
 
-// Folds a word of ASCII over the first bytes of a buffer. All of the buffer is folded, since so many bytes are folded at
-// once.
+// Folds a word of ASCII over the first bytes of a buffer. All of the buffer is folded, since that many bytes are folded
+// at once.
 #[inline(always)]
 fn fold_ascii(word: &[u8], buffer: &mut [u8; 64])
     requires { length word.now ≤ 64 }

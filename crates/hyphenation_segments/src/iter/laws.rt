@@ -8,7 +8,7 @@ ghost use Rattle.hyphenation_segments.specs.Laws.{JoinsToMarkedText, MadeAreSegm
 use hyphenation_breaks::breaks::Break;
 use hyphenation_breaks::laws::{boundary_is_of_chars, listed_in_order};
 
-/// A segment depends on its two neighbouring breaks alone.
+/// A segment depends only on its two neighbouring breaks.
 pub fn segments_are_given_by_neighbours()
     ensures { IsGivenByNeighbours }
 {}

@@ -6,7 +6,7 @@ use Rattle.hyphenation_breaks.specs.declared.entry.Entry.{Entry}
 use Rattle.hyphenation_trie.specs.Trie.{Tree, node_text, entries_of_key}
 use Rattle.hyphenation_trie.specs.Vectors.{AreNearEntries, IsVector, keys_at_end}
 
--- The new vector is the old one raised to the ranks of entries of a key with so many bytes.
+-- The new vector is the old one raised to the ranks of entries of a key with that many bytes.
 pub record IsRaisedBy {C : Type 0} (rank : C → ℕ → ℕ) (old new : List ℕ) (entries : List (Entry C)) (bytes : ℕ) : Type 0 where
   pub lanes : length new ≡ 16
   pub each : (lane distance : ℕ) → lane + distance ≡ 15

@@ -1,8 +1,9 @@
 //! The rows of a table: one for the root, and one for each other node with children.
 //!
-//! The cell of a child leads to the child. Where a node has no child at a byte, its cell is that of its link, as the link has
-//! the longest text that ends the node's text and is shorter. So first the cells of all children are set, and then each row
-//! takes its other cells from the row of its link. Rows are in the order of depths, so the row of the link is complete by then.
+//! The cell of a child leads to the child. Where a node has no child at a byte, its cell is that of its link. The link
+//! has the longest text that ends the node's text and is shorter. So first the cells of all children are set, and then
+//! each row takes its other cells from the row of its link. Rows are in the order of depths, so the row of the link is
+//! complete by then.
 
 ghost use Rattle.std.specs.Prelude.{◌≡◌, ◌+◌, ◌*◌, ◌-◌, ◌^◌, ◌<◌, ◌≤◌, ℕ, List, length, slice_index, IfOk, IfSome, OnOk};
 ghost use Rattle.hyphenation_trie.specs.Private.Known.{AreByDepth, AreClasses};

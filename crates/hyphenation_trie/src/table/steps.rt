@@ -1,8 +1,8 @@
 //! Steps by rows of cells, with a number for each node.
 //!
-//! A row stands for a node with children, and has a cell for each class of bytes. The cell of a byte leads to the row of the
-//! longest node with children that ends the row's text with the byte. It also has the number of the longest node that does,
-//! with children or without. The caller chooses the numbers.
+//! A row belongs to a node with children, and has a cell for each class of bytes. The cell of a byte leads to the row
+//! of the longest node with children that ends the row's text with the byte. It also has the number of the longest node
+//! that does, with children or without. The caller chooses the numbers.
 
 ghost use Rattle.std.specs.Prelude.{◌≡◌, ◌<◌, ℕ, List, [], length, slice_index, IfOk, IfSome};
 ghost use Rattle.hyphenation_trie.specs.Steps.{AreSteps, StandsFor, StepsBy};
@@ -46,8 +46,7 @@ impl Steps {
     }
 }
 
-/// Makes a table of the steps of an automaton, with a number for each node, or returns `None` where there can be none of this
-/// form.
+/// Makes a table of the steps of an automaton, with a number for each node. `None` if there can be none of this form.
 ///
 /// There is none if the rows would have 4,194,304 cells or more, or if all 256 bytes are in keys. The numbers are below 4096, and that of
 /// the root is 0. The only error is out of memory.

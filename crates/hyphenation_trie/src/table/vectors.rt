@@ -38,8 +38,8 @@ const TRIES: usize = 64;
 // A free slot holds this, which is the number of no pair.
 const FREE: u32 = u32::MAX;
 
-// Returns a vector raised to the ranks of the entries of a key with so many bytes. `None` if an entry is more than 15 bytes
-// before the key's end, or past it, or has a rank above 255.
+// Returns a vector raised to the ranks of the entries of a key with that many bytes. `None` if an entry is more than 15
+// bytes before the key's end, or past it, or has a rank above 255.
 fn raised_by<C: Payload>(vector: &[u8; 16], entries: &[Entry<C>], bytes: usize) -> Option<[u8; 16]>
     requires lanes { length vector.now ≡ 16 }
     ensures raised { IfSome result (λ new. IsRaisedBy C.rank_of vector.now new entries.now bytes) }
@@ -142,9 +142,9 @@ fn link_of<C: Payload>(automaton: &Automaton<Entry<C>>, node: usize) -> usize
     automaton.trie.links(node).link as usize
 }
 
-// Returns the number of a node, given its link and the link's number. A node that is no key has that number, too. `None` if an
-// entry is more than 15 bytes before the key's end, or past it, or has a rank above 255, or if there would be more than 4,096
-// pairs. The only error is out of memory.
+// Returns the number of a node, given its link and the link's number. A node that is no key has that number, too.
+// `None` if an entry is more than 15 bytes before the key's end, or past it, or has a rank above 255. So it is if there
+// would be more than 4,096 pairs. The only error is out of memory.
 fn number_of<C: Payload>(
     automaton: &Automaton<Entry<C>>,
     node: usize,
@@ -180,8 +180,9 @@ fn number_of<C: Payload>(
     find_or_add(vectors, counts, slots, &raised, count)
 }
 
-// Returns the vectors of all nodes, given the nodes by their depths. `None` if an entry is more than 15 bytes before its
-// key's end, or past it, or has a rank above 255, or if there are more than 4,096 numbers. The only error is out of memory.
+// Returns the vectors of all nodes, given the nodes by their depths. `None` if an entry is more than 15 bytes before
+// its key's end, or past it, or has a rank above 255. So it is if there are more than 4,096 numbers. The only error is
+// out of memory.
 pub(super) fn known_of_all<C: Payload>(
     alloc: Global,
     automaton: &Automaton<Entry<C>>,

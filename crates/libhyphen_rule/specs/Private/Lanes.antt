@@ -33,11 +33,11 @@ pub record IsFound (counted : List Counted) (bytes : ℕ) (last list : List ℕ)
   pub digits : (lane : ℕ) → lane < 16 → slice_index last lane < 10
   pub written_digits : (place : ℕ) → place < bytes → slice_index list (place + 14) < 10
 
--- A pass stands at a node: the longest that ends the text.
+-- A pass is at a node: the longest that ends the text.
 abbrev pub AtNode : Tree Pattern → List ℕ → ℕ → Type 0
 AtNode tree text place = IsLongest tree.texts text place
 
--- A pass stands at the row that stands for the text, in a table of steps.
+-- A pass is at the row that stands for the text, in a table of steps.
 abbrev pub AtRow : Tree Pattern → NodeVectors → Steps → List ℕ → ℕ → Type 0
 AtRow tree vectors steps text place = StandsFor tree vectors.numbers.items steps place text
 

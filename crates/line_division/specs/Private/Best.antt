@@ -17,7 +17,7 @@ abbrev pub runs : Option ℕ → ℕ
 runs None = 1
 runs (Some most) = most + 1
 
--- The run that stands for so many hyphens in a row.
+-- The state for that many hyphens in a row.
 abbrev pub run_of : Option ℕ → ℕ → ℕ
 run_of ladder hyphens = if nat_lt hyphens (runs ladder) then hyphens else runs ladder - 1
 
@@ -43,11 +43,11 @@ pub record IsMade (stretches : List Stretch) (columns last_columns : ℕ) (ladde
       (line_cost stretches columns last_columns ladder (hyphens_to stretches run choice.end) start choice.end)
       (choice_at ladder choices (run_of ladder (hyphens_to stretches run choice.end)) choice.end).cost
 
--- The best line is known for a run at a place. It is after a place, or there, and the run is one of the first so many.
+-- The best line is known for a run at a place. It is after a place, or there, and the run is one of the first of that number.
 abbrev pub IsKnown : Option ℕ → ℕ → ℕ → ℕ → ℕ → Type 0
 IsKnown ladder low known run place = (run < runs ladder) × ((low < place) ⊎ ((low ≡ place) × (run < known)))
 
--- The choices for all places after one, and for the first so many runs there, are the best ones.
+-- The choices for all places after one, and for the first that many runs there, are the best ones.
 pub record AreBest (stretches : List Stretch) (columns last_columns : ℕ) (ladder : Option ℕ) (choices : List Choice) (low known : ℕ) : Type 0 where
   pub many : length choices ≡ (length stretches + 1) * runs ladder
   pub least : (r e : ℕ) → IsKnown ladder low known r e → e ≤ length stretches

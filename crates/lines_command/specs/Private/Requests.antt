@@ -1,4 +1,4 @@
--- How a request in code stands for parsed arguments.
+-- How a request in code corresponds to parsed arguments.
 use Rattle.std.specs.Prelude.{◌≡◌, ℕ, List, option_map, Result, Ok, Err, ⊤}
 use Rattle.std.specs.Borrow.{Bor}
 use Rattle.hyphenation_breaks.specs.Borrowed.{texts_now}

@@ -59,7 +59,7 @@ pub record AreMixed (flags : List Bool) (some all : List Setting) : Type 0 where
   pub parts : some ≡ parts_in entries
   pub settings : all ≡ settings_in entries
 
--- The part after so many is a whole word.
+-- The part after that many is a whole word.
 abbrev pub whole_at : List Bool → ℕ → Bool
 whole_at wholes place = slice_index_or wholes place false
 

@@ -16,11 +16,11 @@ StandsIn text part = part.end ≤ length text
 abbrev pub AllStandIn : List ℕ → List Part → Type 0
 AllStandIn text parts = All (StandsIn text) parts
 
--- Where a word stands at a place of a text, the parts that were added stand in it as well.
+-- Where a word is at a place of a text, the parts that were added stand in it as well.
 abbrev pub KeepPlaces : ℕ → List ℕ → List Part → List Part → Type 0
 KeepPlaces at word old new = (text : List ℕ) → IsSlice text (at, word) → AllStandIn text old → AllStandIn text new
 
--- A word stands at a place of a text, and where it is said to be spaced, a space after it.
+-- A word is at a place of a text, and where it is said to be spaced, a space after it.
 pub record WordStands (text : List ℕ) (at : ℕ) (word : List ℕ) (spaced : Bool) : Type 0 where
   pub short : length text < 2 ^ 63
   pub there : IsSlice text (at, word)

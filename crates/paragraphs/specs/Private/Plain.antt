@@ -27,7 +27,7 @@ EachBetween test bytes start end = (k : ℕ) → start ≤ k → k < end → tes
 abbrev pub EndsAt : List ℕ → ℕ → Type 0
 EndsAt bytes place = place < length bytes → is_ascii_gap (slice_index bytes place) ≡ true
 
--- A word of such characters stands between two places.
+-- A word of such characters is between two places.
 pub record IsPlainWord (bytes : List ℕ) (start end : ℕ) : Type 0 where
   pub after : start < end
   pub within : end ≤ length bytes

@@ -66,7 +66,7 @@ abbrev pub word_may_go_on : List ℕ → ℕ → Bool
 word_may_go_on text at =
     nat_lt at (length text) && may_join_letter (kind_of_byte (slice_index text at)) (letter_may_begin text (at + 1))
 
--- Letters, digits and underscores are all that stands between two offsets of a text.
+-- Letters, digits and underscores are all that is between two offsets of a text.
 abbrev pub IsRun : List ℕ → ℕ → ℕ → Type 0
 IsRun text from to =
     (from ≤ to) × (to ≤ length text) × ((k : ℕ) → from ≤ k → k < to → kind_of_byte (slice_index text k) ≡ Letter)
