@@ -1,6 +1,7 @@
 """The crates for scripts: the lines of crates.txt, and how the toolchain checks one crate over built libraries."""
 import os
 import pathlib
+import re
 import subprocess
 import sys
 
@@ -49,6 +50,19 @@ def crates_of(root=ROOT):
     lines = [line.split("#")[0].strip() for line in (root / "crates.txt").read_text().splitlines()]
     crates = [Crate(root, line) for line in lines if ":" in line]
     return {crate.name: crate for crate in crates}
+
+
+def layers_of(root=ROOT):
+    """The layers of crates.txt, from the lowest one on: the text of each heading, as `# 2. A dictionary`, and the names of the
+    crates below it. Crates above the first heading have an empty one."""
+    layers = [("", [])]
+    for line in (root / "crates.txt").read_text().splitlines():
+        heading = re.fullmatch(r"# (\d+\. .*)", line)
+        if heading:
+            layers.append((heading.group(1), []))
+        elif ":" in line.split("#")[0]:
+            layers[-1][1].append(line.split(":")[0].split()[0])
+    return layers if layers[0][1] else layers[1:]
 
 
 def stop(text):

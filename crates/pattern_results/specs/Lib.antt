@@ -2,3 +2,4 @@ pub mod Texts
 pub mod Parts
 pub mod Errors
 pub mod Messages
+pub mod Notes

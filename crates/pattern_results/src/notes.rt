@@ -1,5 +1,8 @@
 //! Remarks on files that give a dictionary: what was left out and what was decided, each kind with its first line.
 
+ghost use Rattle.std.specs.Prelude.{◌≡◌, OnErr, OnOk, position};
+ghost use Rattle.pattern_results.specs.Notes.{counted_note, first_of, is_same_kind, with_remark};
+
 use std::alloc::AllocError;
 use std::fmt;
 
@@ -88,30 +91,60 @@ pub struct Note {
     pub times: u64,
 }
 
-// Counts a remark once more if its kind is there already. Within a file the note keeps the least line.
-fn is_counted(notes: &mut [Note], kind: NoteKind, at: LineRef) -> bool {
-    for note in notes {
-        if note.kind == kind {
-            note.times = note.times.saturating_add(1);
-            if at.file == note.first.file && at.line < note.first.line {
-                note.first = at;
-            }
-            return true;
-        }
-    }
-    false
+// Tests whether a note is of a kind.
+#[tactic(auto, unfolding(crate::specs::Notes::is_same_kind))]
+fn is_of(note: &Note, kind: NoteKind) -> bool
+    ensures { result ≡ is_same_kind note.now.kind kind }
+{
+    note.kind == kind
 }
 
-/// Notes a remark on a line: a new kind of remark is appended, and one that is there already is counted once more.
-/// The only error is out of memory, and then the notes are unchanged.
-pub fn add_note(notes: &mut Vec<Note>, kind: NoteKind, at: LineRef) -> Result<(), AllocError> {
-    if is_counted(notes, kind, at) {
-        return Ok(());
+// Returns the place of the note of a kind.
+fn place_of(notes: &[Note], kind: NoteKind) -> Option<usize>
+    ensures { result ≡ position (λ note. is_same_kind note.kind kind) notes.now }
+{
+    notes.iter().position(|note| is_of(note, kind))
+}
+
+// Returns the first line of a note and of one remark more: the least one in the file of the note.
+fn first_of(first: LineRef, at: LineRef) -> LineRef
+    ensures { result ≡ first_of first at }
+{
+    if at.file == first.file && at.line < first.line {
+        at
+    } else {
+        first
     }
-    notes.push(Note {
-        kind,
-        first: at,
-        times: 1,
-    })?;
+}
+
+// Returns a note after one remark more of its kind.
+fn counted_note(note: Note, kind: NoteKind, at: LineRef) -> Note
+    ensures { result ≡ counted_note (record { kind = kind; at = at }) note }
+{
+    Note {
+        kind: note.kind,
+        first: first_of(note.first, at),
+        times: note.times.saturating_add(1),
+    }
+}
+
+/// Notes a remark on a line: a new kind of remark is appended, and one that is there already is counted once more, with
+/// the least line of its first file.
+///
+/// The only error is out of memory, and then the notes are unchanged.
+pub fn add_note(notes: &mut Vec<Note>, kind: NoteKind, at: LineRef) -> Result<(), AllocError>
+    ensures noted { OnOk result (notes.new.items ≡ with_remark notes.old.items (record { kind = kind; at = at })) }
+    ensures unchanged_on_error { OnErr result (notes.new.items ≡ notes.old.items) }
+{
+    match place_of(notes, kind) {
+        Some(place) => {
+            notes[place] = counted_note(notes[place], kind, at);
+        }
+        None => notes.push(Note {
+            kind,
+            first: at,
+            times: 1,
+        })?,
+    }
     Ok(())
 }
