@@ -17,7 +17,7 @@ use crate::bytes::before_nul;
 use crate::minima::Minima;
 use crate::pattern::{Spelling, StoredPattern, pattern_of, spell_into, spelt_alone};
 use crate::settings::{setting, texts_without_breaks, without_name};
-use crate::vectors::{NodeVectors, add_steps, first_bytes, vectors_of};
+use crate::vectors::{NodeVectors, add_steps, first_bytes, has_many_nodes, vectors_of};
 use hyphenation_dictionary::laws::inserted_key_is_added;
 use hyphenation_trie::{Automaton, Trail, Trie};
 use std::alloc::{AllocError, Global};
@@ -112,11 +112,14 @@ impl FrozenLevel {
         self.has_changes
     }
 
-    // Makes the table by which words are read faster, if there is none yet and there can be one. The only error is out of
-    // memory; the level can be used on as it was.
+    // Makes the table by which words are read faster, if there is none yet and there can be one. A level with many nodes has
+    // had its own since it was loaded, or can have none. The only error is out of memory; the level can be used on as it was.
     pub(crate) fn make_table(&mut self, alloc: Global) -> Result<(), AllocError>
         ensures { self.new ≡ self.old }
     {
+        if has_many_nodes(&self.patterns) {
+            return Ok(());
+        }
         add_steps(alloc, &self.patterns, &mut self.vectors)
     }
 }

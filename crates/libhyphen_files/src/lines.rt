@@ -11,12 +11,15 @@ const MOST_OF_FIRST: usize = 19;
 
 const MOST_OF_OTHER: usize = 99;
 
+// The most lines for which there is room in advance. A line of most files has eight bytes or more.
+const MOST_ROOM: usize = 100_000;
+
 // Returns the lines of a file, each with its line feed: of the first one at most 19 bytes, of each other one at most
 // 99. The bytes that are over are the next line. The only error is out of memory.
 pub(crate) fn lines_of(alloc: Global, bytes: &[u8]) -> Result<Vec<&[u8]>, AllocError>
     ensures { IfOk result (λ lines. map (λ line. line.now) lines.items ≡ lines_of bytes.now) }
 {
-    let mut lines = Vec::new(alloc);
+    let mut lines = Vec::with_capacity(alloc, (bytes.len() / 8).min(MOST_ROOM))?;
     let mut rest = bytes;
     let mut room = MOST_OF_FIRST;
     while !rest.is_empty() {

@@ -240,6 +240,11 @@ fn numbered_vectors(
 // of the time without it.
 const MANY_NODES: usize = 1 << 16;
 
+// Tests whether a level gets its table of steps when it is loaded.
+pub(crate) fn has_many_nodes(patterns: &Automaton<StoredPattern>) -> bool {
+    patterns.nodes() >= MANY_NODES
+}
+
 // Returns the vectors of all nodes. A level with few nodes has no table of steps yet. The only error is out of memory.
 pub(crate) fn vectors_of(
     alloc: Global,
@@ -253,7 +258,7 @@ pub(crate) fn vectors_of(
         vectors,
         steps: None,
     };
-    if patterns.nodes() >= MANY_NODES {
+    if has_many_nodes(patterns) {
         add_steps(alloc, patterns, &mut made)?;
     }
     Ok(made)
