@@ -30,7 +30,7 @@ pub(crate) fn copy_of(
     }
 }
 
-// Edits a dictionary: if it has another owner, an edited copy takes its place. Whether the edit is good.
+// Edits a dictionary: if it has another owner, an edited copy takes its place. Returns whether the edit was good.
 fn apply(counted: &mut Arc<AnyDictionary>, alloc: Global, edit: &str) -> Result<bool, AllocError>
     ensures good { IfOk result (λ good. good ≡ is_good_edit (kind_by (arc_value counted.old)) edit.now) }
     ensures done { IfOk result (λ good. IsTrue good

@@ -190,8 +190,8 @@ pub fn free(alloc: Global, handle: &mut Handle)
 
 /// Lets another handle hold the same dictionary, for another thread for example. Nothing is copied.
 ///
-/// It takes the place of the dictionary that the other handle held. With each status but `DONE` the other handle is
-/// unchanged; this one is so always.
+/// It takes the place of the dictionary that the other handle held. This handle never changes, and the other one only
+/// with `DONE`.
 pub fn share(alloc: Global, handle: &mut Handle, other: &mut Handle) -> u32
     ensures unchanged { holds handle.new ≡ holds handle.old }
     ensures shares { Shares (holds handle.old) (holds other.old) (holds other.new) result }

@@ -1,4 +1,4 @@
-//! Sums and products that may not fit. One that does not is refused, with the error of refused memory though none was.
+//! Sums and products that may not fit. On overflow the error is that of refused memory.
 
 ghost use Rattle.std.specs.Prelude.{◌≡◌, ◌+◌, ◌*◌, IfOk};
 

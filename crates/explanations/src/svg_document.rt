@@ -131,7 +131,7 @@ fn push_document_begin(text: &mut Vec<u8>, width: usize, height: usize) -> Resul
 /// The only error is out of memory.
 ///
 /// ```text
-/// let drawings = [dictionary.drawing(alloc, "firkins")?];
+/// let drawings = [drawing(alloc, &dictionary, "firkins")?];
 /// document(alloc, &drawings)?    // <svg xmlns='http://www.w3.org/2000/svg' viewBox='0 0 588 216' ..
 /// ```
 pub fn document(alloc: Global, drawings: &[Drawing]) -> Result<Vec<u8>, AllocError>

@@ -95,7 +95,7 @@ fn is_integration_point(name: &[u8]) -> bool
         || is_same_name(name, b"title")
 }
 
-/// Whether a word is among words that are set apart by white space.
+/// Reports whether `word` is one of the words of `text` between white space.
 fn has_word(word: &[u8], text: &[u8]) -> bool
     ensures { result ≡ has_word word.now text.now }
 {

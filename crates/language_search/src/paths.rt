@@ -70,7 +70,7 @@ fn push_code(
 /// of its names in each folder, with both endings. The error says that memory was refused.
 ///
 /// ```text
-/// paths_of_code(alloc, &["a"], &Language::from_code("sr")?)?
+/// paths_of_code(alloc, &["a"], &Language::from_code("sr").unwrap())?
 /// // a/sr.txt, a/sr.extended.txt, a/sr-cyrl.txt, a/sr-cyrl.extended.txt
 /// ```
 pub fn paths_of_code(

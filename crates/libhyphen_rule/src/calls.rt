@@ -357,7 +357,7 @@ fn keep_digits(utf8: bool, word: &[u8], digits: &mut [u8]) -> usize
 ///
 /// ```text
 /// let dictionary = load(alloc, b"UTF-8\nr5kin\n")?;
-/// short_digits(&dictionary, None, b"firkin", 6, &mut digits)    // 6, and the digits are 000500
+/// short_digits(&dictionary, None, b"firkin", 6, &mut digits)    // Some(6), and the digits are 000500
 /// ```
 pub fn short_digits(
     dictionary: &LevelDictionary,

@@ -93,7 +93,7 @@ fn word_and_rest(line: &str) -> (&str, &str)
     }
 }
 
-// The text of a line of such a kind: of a pattern the whole line, of a setting the rest after its name.
+// Returns the text of a line: a pattern line whole, or the rest of a setting after its name.
 fn text_by_kind<'a>(kind: Kind, line: &'a str, rest: &'a str) -> &'a str
     ensures { result.now ≡ text_by_kind kind line.now rest.now }
 {

@@ -37,8 +37,8 @@ pub(crate) struct Mixed<'t> {
     joined: usize,
 }
 
-// Returns the columns of a line that goes on after some parts, where the line before them has such columns. Where the line
-// does not fit, the next one begins.
+// Returns the width of the current line after some parts are added, given its width before them. Where the line does
+// not fit, the next one begins.
 fn joined_after(
     alloc: Global,
     parts: &[Part],
@@ -107,7 +107,7 @@ fn push_falses(wholes: &mut Vec<bool>, count: usize) -> Result<(), AllocError>
     Ok(())
 }
 
-// Adds the parts of a word. The list is for the breaks of its pieces.
+// Adds the parts of a word. `breaks` is scratch space.
 fn push_broken<'t, 'h, H: Hyphenator<'h>>(
     alloc: Global,
     dictionary: &'h H,
@@ -146,7 +146,7 @@ fn push_broken<'t, 'h, H: Hyphenator<'h>>(
     Ok(())
 }
 
-// Returns the columns that a line of such columns has left.
+// Returns the columns still free on a line of this width.
 fn columns_left(columns: u16, joined: usize) -> usize {
     usize::from(columns).saturating_sub(joined)
 }
@@ -172,7 +172,7 @@ fn push_runs<'t>(
     Ok(rest)
 }
 
-// Adds all words of a text, none of which is the first one of its paragraph. The list is for the breaks of their pieces.
+// Adds all words of a text, none of which is the first one of its paragraph. `breaks` is scratch space.
 #[tactic(auto, using(crate::proofs::MixedParts::adds_up_all))]
 fn push_others<'t, 'h, H: Hyphenator<'h>>(
     alloc: Global,

@@ -79,7 +79,7 @@ pub fn program_at(path: &[u8]) -> Option<Program>
 /// is no program's name, the next word names it.
 ///
 /// ```text
-/// called(&["/usr/bin/hyphenate-lines", "de"])             // Lines, with "de"
+/// called(&["/usr/bin/hyphenate-lines", "de"])             // Some((Program::Lines, ["de"]))
 /// called(&["./programs", "hyphenate-lines", "de"])        // the same
 /// called(&["./programs", "de"])                           // None
 /// ```
