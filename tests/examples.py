@@ -263,19 +263,6 @@ def check_words(scratch):
     return None
 
 
-def doc_examples():
-    """The examples in the doc comments of public items: the file and the line of each."""
-    for path in sorted(ROOT.glob("crates/*/src/**/*.rt")):
-        if re.match(r"tests?_|fault_harness", path.relative_to(ROOT / "crates").parts[0]):
-            continue
-        is_open = False
-        for number, line in enumerate(path.read_text().splitlines(), 1):
-            if re.match(r"\s*//[/!] ?```", line):
-                is_open = not is_open
-                if is_open:
-                    yield f"{path.relative_to(ROOT)}:{number}"
-
-
 def check_itself(scratch):
     """A wrong output and a wrong status have to be seen."""
     global passed, failed
@@ -313,14 +300,11 @@ def main(words):
     reason = check_words(scratch)
     left_out += [("README.md: the words at its top", reason)] if reason else []
     check_itself(scratch)
-    examples = list(doc_examples())
     if lists:
         print(*(f"{name}  ({reason})" for name, reason in left_out), sep="\n")
-        print(*(f"{name}  (a text in a comment, which is not compiled)" for name in examples), sep="\n")
     for reason in dict.fromkeys(reason for _, reason in left_out):
         names = [name for name, other in left_out if other == reason]
         print(f"left out: {len(names)} {'commands' if len(names) > 1 else 'command'}, since {reason}")
-    print(f"left out: {len(examples)} examples of doc comments, which are texts and not compiled")
     print(f"{ran} commands of {len(sources)} pages ran, and the output of {len(compared)} was compared; --list names those left out")
     print(f"{passed} passed, {failed} failed")
     return 1 if failed else 0
