@@ -10,7 +10,7 @@ use Rattle.hyphenation_grammar.specs.declared.form.Kind.TheVariants.{Standard, E
 use Rattle.hyphenation_hyphenator.specs.Fitting.{fitted_breaks_of}
 use Rattle.hyphenation_hyphenator.specs.Opportunities.{standard_rules, extended_rules, all_breaks_of}
 use Rattle.hyphenation_reader.specs.Edits.{after_edit}
-use Rattle.hyphenation_score.specs.Scoring.{own_change, scores, values}
+use Rattle.hyphenation_score.specs.Scoring.{values}
 use Rattle.hyphenation_writer.specs.Canonical.{extended_text, standard_text}
 use Rattle.any_dictionary.specs.Kinds.{kind_in}
 use Rattle.any_dictionary.specs.declared.AnyDictionary.{AnyDictionary}
@@ -83,4 +83,4 @@ places_by dictionary word = plain_places (breaks_by dictionary word)
 -- The values of a word's places by the patterns alone, from place 1 on. A word in capitals has those of its capitals.
 abbrev pub values_by : AnyDictionary → List ℕ → List ℕ
 values_by (of.Standard standard) word = values (entries_of_keys standard) word
-values_by (of.Extended extended) word = map (λ s. s.value) (scores own_change (entries_of_keys extended) word)
+values_by (of.Extended extended) word = values (entries_of_keys extended) word

@@ -65,6 +65,7 @@ fn plain_places<B: Break>(alloc: Global, breaks: &[B]) -> Result<Vec<usize>, All
 
 // Puts the places of the breaks of a word into a list, in place of what it held, where no break changes letters. It takes
 // no second list.
+#[inline(always)]
 pub(crate) fn put_breaks<'h, H: Hyphenator<'h, Opportunity = usize>>(
     dictionary: &'h H,
     word: &str,

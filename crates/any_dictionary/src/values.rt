@@ -2,11 +2,12 @@
 
 ghost use Rattle.std.specs.Prelude.{◌≡◌, IfOk, map};
 ghost use Rattle.hyphenation_breaks.specs.Dictionary.{entries_of_keys};
-ghost use Rattle.hyphenation_score.specs.Scoring.{own_change, scored_pair, scores, values};
+ghost use Rattle.hyphenation_score.specs.Scoring.{values};
 
 use hyphenation_breaks::extended::Subregion;
 use hyphenation_dictionary::dictionary::{Extended, Standard};
 use hyphenation_score::Score;
+use hyphenation_score::laws::scores_have_values;
 use std::alloc::{AllocError, Global};
 
 // Returns the values that a standard dictionary gives.
@@ -25,7 +26,7 @@ fn without_changes(
     alloc: Global,
     scored: &[(u8, Option<&Subregion>)],
 ) -> Result<Vec<u8>, AllocError>
-    ensures { IfOk result (λ v. v.items ≡ map (λ s. s.value) (map scored_pair scored.now)) }
+    ensures { IfOk result (λ v. v.items ≡ map (λ pair. pair.0) scored.now) }
 {
     let mut values = Vec::with_capacity(alloc, scored.len())?;
     for pair in scored {
@@ -40,10 +41,10 @@ pub(crate) fn extended_values(
     dictionary: &Extended,
     word: &str,
 ) -> Result<Vec<u8>, AllocError>
-    ensures { IfOk result (λ v. v.items
-        ≡ map (λ s. s.value) (scores own_change (entries_of_keys dictionary.now) word.now)) }
+    ensures { IfOk result (λ v. v.items ≡ values (entries_of_keys dictionary.now) word.now) }
 {
+    scores_have_values::<Option<Subregion>>();
     let scored = dictionary.score(alloc, word)?;
-    let values = without_changes(alloc, &scored)?;
-    Ok(values)
+    let found = without_changes(alloc, &scored)?;
+    Ok(found)
 }

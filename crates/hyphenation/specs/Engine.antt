@@ -2,9 +2,10 @@
 use Rattle.std.specs.Prelude.{◌≡◌, ◌≢◌, ℕ, List, [], ◌∷◌, ◌++◌, map, decimal, IsUtf8, None, Result, Ok, Err, OnOk, IfOk, IfSome, Option, Some, ⊤}
 use Rattle.std.specs.Borrow.{Bor}
 use Rattle.std.specs.List.{join_with_byte}
+use Rattle.any_dictionary.specs.Dictionaries as any
+use Rattle.any_dictionary.specs.Dictionaries.{contents_as}
 use Rattle.hyphenation_breaks.specs.Borrowed.{texts_now}
 use Rattle.hyphenation_breaks.specs.Break.{Break, plain_break}
-use Rattle.hyphenation_breaks.specs.Dictionary.{entries_of_keys}
 use Rattle.hyphenation_reader.specs.Edits.{after_edits, first_refused}
 use Rattle.hyphenation_grammar.specs.Reading.{place_as_listing, break_as_listing, standard_contents, extended_contents}
 use Rattle.hyphenation_grammar.specs.declared.form.Kind.{Kind}
@@ -21,7 +22,7 @@ use Rattle.hyphenation_hyphenator.specs.Opportunities.{no_change, own_break, rul
 use Rattle.hyphenation_grammar.specs.Judging.{refusal_of}
 use Rattle.hyphenation_grammar.specs.declared.Cause.{Cause}
 use Rattle.hyphenation_load.specs.Load.{language_of_text, IsAcceptedIn, IsLoadErrorIn, AppendsTo}
-use Rattle.hyphenation_score.specs.Scoring.{own_change, values}
+use Rattle.hyphenation_score.specs.Scoring.{own_change}
 
 -- ---- the output
 
@@ -31,8 +32,7 @@ score_line values = join_with_byte 32 (map decimal values) ++ 10 ∷ []
 
 -- The values of a word's places by the dictionary of that kind that a text gives.
 abbrev pub values_by : Kind → List ℕ → List ℕ → List ℕ
-values_by Standard word bytes = values (entries_of_keys (standard_contents bytes)) word
-values_by Extended word bytes = values (entries_of_keys (extended_contents bytes)) word
+values_by kind word bytes = any.values_by (contents_as kind bytes) word
 
 -- The line of a word's values by the dictionary of that kind that a text gives.
 abbrev pub score_by : Kind → List ℕ → List ℕ → List ℕ

@@ -1,28 +1,22 @@
 //! Whole runs, from the bytes of a dictionary to what is written: the score of a word, and a hyphenated text.
 
-ghost use Rattle.std.specs.Prelude.{◌≡◌, ◌++◌, List, ℕ, OnOk, IfOk, IfErr, IfSome, decimal, map};
+ghost use Rattle.std.specs.Prelude.{◌≡◌, ◌++◌, List, ℕ, OnOk, IfOk, IfErr, IfSome, decimal};
 ghost use Rattle.std.specs.String.{string_bytes};
 ghost use Rattle.hyphenation_load.specs.Load.{AppendsTo};
 ghost use Rattle.any_dictionary.specs.Dictionaries.{contents_as, kind_by};
 ghost use Rattle.hyphenation.specs.Engine.{score_line, score_by, run_output, RunWrites};
 ghost use Rattle.hyphenation.specs.Engine.{JudgesDictionary, JudgesEdits, JudgesText};
 ghost use Rattle.hyphenation.specs.Engine.{BeforeReading, BeforeWriting, IsScoreError, IsUnwritten, HidesNoOutOfMemory};
-ghost use Rattle.hyphenation.specs.Private.Engine.{space_before, values_of, IsLoadingError};
+ghost use Rattle.hyphenation.specs.Private.Engine.{space_before, IsLoadingError};
 ghost use Rattle.hyphenation_breaks.specs.Borrowed.{texts_now};
-ghost use Rattle.hyphenation_breaks.specs.Dictionary.{entries_of_keys};
-ghost use Rattle.hyphenation_score.specs.Scoring.{values};
 
 mod text_run;
 
 use any_dictionary::AnyDictionary;
-use hyphenation_breaks::extended::Subregion;
 use hyphenation_breaks::language::Language;
-use hyphenation_dictionary::dictionary::Extended;
 pub use hyphenation_grammar::form::Kind;
 pub use hyphenation_grammar::number_of;
 use hyphenation_load::Error;
-use hyphenation_score::Score;
-use hyphenation_score::laws::scores_have_values;
 use std::alloc::{AllocError, Global};
 use std::io;
 use std::io::{Read, Write};
@@ -94,33 +88,6 @@ fn line_of(alloc: Global, values: &[u8]) -> Result<String, AllocError>
     Ok(line)
 }
 
-// Values without the changes of their winners.
-fn values_alone(alloc: Global, scores: &[(u8, Option<&Subregion>)]) -> Result<Vec<u8>, AllocError>
-    ensures { IfOk result (λ values. values.items ≡ map (λ score. score.0) scores.now) }
-{
-    scores.iter().map(|score| score.0).collect(alloc)
-}
-
-// The values of a word by an extended dictionary, without the changes.
-fn extended_values(alloc: Global, dictionary: &Extended, word: &str) -> Result<Vec<u8>, AllocError>
-    ensures { IfOk result (λ found. found.items ≡ values (entries_of_keys dictionary.now) word.now) }
-{
-    scores_have_values::<Option<Subregion>>();
-    let scores = dictionary.score(alloc, word)?;
-    let found = values_alone(alloc, &scores)?;
-    Ok(found)
-}
-
-// The values of a word by a dictionary.
-fn values_of(alloc: Global, dictionary: &AnyDictionary, word: &str) -> Result<Vec<u8>, AllocError>
-    ensures { IfOk result (λ found. found.items ≡ values_of dictionary.now word.now) }
-{
-    match dictionary {
-        AnyDictionary::Standard(standard) => standard.score(alloc, word),
-        AnyDictionary::Extended(extended) => extended_values(alloc, extended, word),
-    }
-}
-
 // The dictionary of that kind and language that a reader's bytes give.
 fn load<D: Read>(
     alloc: Global,
@@ -154,7 +121,7 @@ fn score_line<D: Read>(
     ensures not_out_of_memory { IfErr result HidesNoOutOfMemory }
 {
     let dictionary = load(alloc, kind, lang, reader)?;
-    let values = values_of(alloc, &dictionary, word)?;
+    let values = dictionary.values(alloc, word)?;
     Ok(line_of(alloc, &values)?)
 }
 
