@@ -5,6 +5,7 @@
 #include <pthread.h>
 #include <stdlib.h>
 #include <string.h>
+#include <sys/mman.h>
 
 /* The dictionary, and what of it the caller does not see: a .dic, or else a text of this library. Calls of several
  * threads wait for one another. */
@@ -20,6 +21,22 @@ struct own {
 
 /* The words before the tables of a .dic are made. A process with few words does without them. */
 enum { WORDS_BEFORE_TABLES = 8192 };
+
+/* Each call of malloc in this library, also those of the proved calls: the Makefile links it so. The tables of a large .dic
+ * are read at places all over, and in small pages the processor has to look for the addresses of most. So a large block
+ * lies in large pages where the system has them. */
+enum { LARGE_PAGE = 1 << 21 };
+void *__real_malloc(size_t size);
+void *__wrap_malloc(size_t size);
+void *__wrap_malloc(size_t size) {
+  void *block;
+  if (size < LARGE_PAGE) return __real_malloc(size);
+  if (posix_memalign(&block, LARGE_PAGE, size) != 0) return NULL;
+#ifdef MADV_HUGEPAGE
+  madvise(block, size, MADV_HUGEPAGE);
+#endif
+  return block;
+}
 
 /* The lists of changes, which are the caller's. */
 struct lists {
