@@ -4,3 +4,4 @@ pub mod Lexing
 pub mod Grouping
 pub mod Between
 pub mod Skipping
+pub mod Noting

@@ -1,5 +1,6 @@
 pub mod Spelling
 pub mod Groups
 pub mod Converting
+pub mod Notes
 pub mod TexFiles
 pub mod Private

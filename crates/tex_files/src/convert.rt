@@ -2,6 +2,7 @@
 
 ghost use Rattle.std.specs.Prelude.{◌≡◌, ◌↔◌, [], IsTrue, IfOk, OnOk, IfErr, None};
 ghost use Rattle.tex_files.specs.Converting.{words_spelt, one_after_other, spelt_in, empty_fault, file_fault, fault_from, contents_of_files, words_of};
+ghost use Rattle.tex_files.specs.Notes.{notes_of_files};
 ghost use Rattle.pattern_results.specs.Errors.{IsFileError, IsConvertError};
 
 use crate::group::{File, Form, Group};
@@ -103,8 +104,8 @@ pub fn convert<C: Payload, B: Listing>(
     Ok(parts.make(alloc, language, left, right)?)
 }
 
-/// Makes the dictionary that [`convert`] makes, and adds remarks: what was decided, each kind with its first line. The
-/// errors are those of [`convert`].
+/// Makes the dictionary that [`convert`] makes, and adds notes: what was decided, each kind with its first line and how
+/// often it was. The errors are those of [`convert`].
 pub fn convert_with_notes<C: Payload, B: Listing>(
     alloc: Global,
     language: Language,
@@ -115,6 +116,7 @@ pub fn convert_with_notes<C: Payload, B: Listing>(
     ensures no_fault { OnOk result (fault_from 0 files.now ≡ None) }
     ensures contents { IfOk result (λ c. c.dictionary
         ≡ contents_of_files C.payload_of B.listing_of language left right files.now) }
+    ensures notes { IfOk result (λ c. c.notes.items ≡ notes_of_files files.now) }
     ensures first_fault { IfErr result (λ error. IsConvertError error (fault_from 0 files.now)) }
 {
     let dictionary = convert(alloc, language, left, right, files)?;
