@@ -20,6 +20,7 @@ ghost use Rattle.line_division.specs.Private.Plain.{AreMost, IsPlain, IsSpentAlo
 ghost use Rattle.line_division.specs.Private.Reaches.{GoesPast, IsMostClosing, IsReach, Stays};
 
 use crate::cost::Cost;
+use crate::ladder::{hyphens_to, keeps_ladder};
 use crate::stretch::{Stretch, widened};
 use std::alloc::{AllocError, Global};
 
@@ -75,21 +76,6 @@ fn run_of(ladder: Option<u8>, hyphens: usize) -> usize
 {
     let runs = runs(ladder);
     if hyphens < runs { hyphens } else { runs - 1 }
-}
-
-// Returns the hyphens in a row at a line's end, after such a run.
-#[inline(always)]
-fn hyphens_to(stretches: &[Stretch], run: usize, end: usize) -> usize
-    requires small { run < 2 ^ 8 }
-    requires some { 1 ≤ end }
-    requires within { end ≤ length stretches.now }
-    ensures { result ≡ hyphens_to stretches.now run end }
-{
-    if stretches[end - 1].hyphenated {
-        run + 1
-    } else {
-        0
-    }
 }
 
 // Returns 1 for a line at whose end more hyphens stand in a row than the ladder may have, and else 0.
@@ -691,16 +677,8 @@ fn best_lines_for(
     }
 }
 
-/// Returns the ends of the lines of a paragraph, divided so that it costs the least.
-///
-/// An end is the number of stretches before it. Each line has at most so many columns, or holds one stretch. No such
-/// division of the paragraph has less excess. None with the same excess has fewer lines over the ladder: lines at whose
-/// ends more hyphens stand in a row than `ladder`. None that is the same in both spends less. Where several cost the
-/// least, it is not said which one is returned. The last line lacks columns only where it has fewer than `last_columns`.
-///
-/// Where the paragraph can be divided into lines that fit, each line fits. Where these can end in at most `ladder`
-/// hyphens in a row, they do. The only error is that memory was refused.
-pub fn even_ends(
+// Returns the ends of the lines of a paragraph, divided so that it costs the least.
+fn best_ends(
     alloc: Global,
     stretches: &[Stretch],
     columns: u16,
@@ -723,4 +701,37 @@ pub fn even_ends(
         ends.push(start)?;
     }
     Ok(ends)
+}
+
+/// Returns the ends of the lines of a paragraph, divided so that it costs the least.
+///
+/// An end is the number of stretches before it. Each line has at most so many columns, or holds one stretch. No such
+/// division of the paragraph has less excess. None with the same excess has fewer lines over the ladder: lines at whose
+/// ends more hyphens stand in a row than `ladder`. None that is the same in both spends less. Where several cost the
+/// least, it is not said which one is returned. The last line lacks columns only where it has fewer than `last_columns`.
+///
+/// Where the paragraph can be divided into lines that fit, each line fits. Where these can end in at most `ladder`
+/// hyphens in a row, they do. The only error is that memory was refused.
+pub fn even_ends(
+    alloc: Global,
+    stretches: &[Stretch],
+    columns: u16,
+    last_columns: u16,
+    ladder: Option<u8>,
+) -> Result<Vec<usize>, AllocError>
+    requires count { length stretches.now < 2 ^ 30 }
+    ensures divides { IfOk result (λ ends. Divides stretches.now columns 0 ends.items) }
+    ensures least { IfOk result (λ ends. CostsLeast stretches.now columns last_columns ladder ends.items) }
+    ensures fits { IfOk result (λ ends. FitsIfAny stretches.now columns ends.items) }
+    ensures ladder { IfOk result (λ ends. KeepsLadderIfAny stretches.now columns ladder ends.items) }
+{
+    let ends = best_ends(alloc, stretches, columns, last_columns, None)?;
+    let Some(most) = ladder else {
+        return Ok(ends);
+    };
+    // Most often these keep to the ladder. Then no division that does costs less.
+    if keeps_ladder(stretches, most, &ends) {
+        return Ok(ends);
+    }
+    best_ends(alloc, stretches, columns, last_columns, ladder)
 }

@@ -9,6 +9,7 @@
 mod cost;
 mod even;
 mod greedy;
+mod ladder;
 pub mod laws;
 mod stretch;
 
