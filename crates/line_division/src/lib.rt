@@ -11,6 +11,8 @@ mod even;
 mod greedy;
 mod ladder;
 pub mod laws;
+mod problem;
+mod reach;
 mod stretch;
 
 pub use cost::Cost;

@@ -1,4 +1,4 @@
-use Rattle.std.proofs.Common.{◌≡◌, Some, subst, sym}
+use Rattle.std.proofs.Common.{Some, subst, sym}
 use Rattle.line_division.specs.Division.{KeepsLadder}
 use Rattle.line_division.specs.Private.Ladder.{AreEnds}
 use Rattle.line_division.proofs.Ladders.{divides_ends, free_least}

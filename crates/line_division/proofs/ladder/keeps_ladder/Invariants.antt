@@ -1,4 +1,4 @@
-use Rattle.std.proofs.Common.{◌<◌, ◌≤◌, drop}
+use Rattle.std.proofs.Common.{◌≤◌, drop}
 use Rattle.line_division.proofs.Ladders.{GoesDown}
 use Rattle.line_division.proofs.ladder.keeps_ladder.Given as goal
 
