@@ -8,7 +8,7 @@ use Rattle.std.proofs.lemmas.Nat.{mul-le}
 use Rattle.line_division.specs.declared.stretch.Stretch.{Stretch}
 use Rattle.line_division.specs.declared.cost.Cost.{Cost}
 use Rattle.line_division.specs.declared.even.Choice.{Choice}
-use Rattle.line_division.specs.declared.even.Reach.{Reach}
+use Rattle.line_division.specs.declared.reach.Reach.{Reach}
 use Rattle.line_division.specs.Cost.{nothing, together, CostsNoMore}
 use Rattle.line_division.specs.Lines.{no_stretch, stretch_at, joined_width, line_width, wanted_columns, hyphens_to, line_cost}
 use Rattle.line_division.specs.Division.{MayStand, Divides, cost_of}

@@ -1,4 +1,5 @@
 -- Definitions for private functions and proofs. No contract of a public call cites them, so they need no signature.
 pub mod Best
+pub mod Ladder
 pub mod Plain
 pub mod Reaches

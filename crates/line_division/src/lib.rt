@@ -9,7 +9,10 @@
 mod cost;
 mod even;
 mod greedy;
+mod ladder;
 pub mod laws;
+mod problem;
+mod reach;
 mod stretch;
 
 pub use cost::Cost;

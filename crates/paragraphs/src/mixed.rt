@@ -4,23 +4,22 @@
 //! the other words are not needed. Which words to leave whole is a guess. The lines are used only where it was right:
 //! no line ends before words that were left whole. Those that are one space apart are one part.
 
-ghost use Rattle.std.specs.Prelude.{◌≡◌, ◌≤◌, ◌++◌, true, false, IfOk, OnOk, length, map, replicate};
+ghost use Rattle.std.specs.Prelude.{◌≡◌, ◌≤◌, ◌++◌, true, false, IfOk, IfSome, OnOk, length, map, replicate};
 ghost use Rattle.std.specs.List.{list_all};
 ghost use Rattle.std.specs.String.{string_bytes};
 ghost use Rattle.paragraphs.specs.Private.Entries.{AreSettled, EndBeforeParts, HaveNarrowClosings, whole_at};
 ghost use Rattle.paragraphs.specs.Private.MixedParts.{StandForAll, Adds, AddsWhole, AddsRuns, FillAll};
 ghost use Rattle.paragraphs.specs.Private.PartSettings.{settings_of};
-ghost use Rattle.paragraphs.specs.Private.Plain.{AreLetters};
 ghost use Rattle.paragraphs.specs.Private.Printable.{is_printable};
 ghost use Rattle.paragraphs.specs.Styles.{style_of};
 ghost use Rattle.paragraphs.specs.Parts.{word_parts, other_parts, parts_of};
 ghost use Rattle.paragraphs.specs.Words.{words};
 
 use crate::part::Part;
-use crate::plain::{next_word, split_run};
+use crate::plain::{Word, next_word, split_run};
 use crate::setting::{lines, stretch, stretches};
 use crate::style::Style;
-use crate::word::push_word;
+use crate::word::{WordAt, push_word};
 use hyphenation_hyphenator::hyphenator::Hyphenator;
 use line_division::laws::furthest_ends_are_fewest;
 use line_division::{Stretch, greedy_ends};
@@ -33,6 +32,8 @@ pub(crate) struct Mixed<'t> {
     pub(crate) parts: Vec<Part<'t>>,
     // Whether each of them is whole words.
     pub(crate) wholes: Vec<bool>,
+    // The most columns of a line.
+    columns: u16,
     // The columns of the line that is being filled, with its last joint: a guess.
     joined: usize,
 }
@@ -107,41 +108,34 @@ fn push_falses(wholes: &mut Vec<bool>, count: usize) -> Result<(), AllocError>
     Ok(())
 }
 
-// Adds the parts of a word. `breaks` is scratch space.
+// Adds the parts of a word. A line that begins with the word has this indent. The list is for the breaks of its pieces.
 fn push_broken<'t, 'h, H: Hyphenator<'h>>(
     alloc: Global,
     dictionary: &'h H,
     style: &Style<'t>,
     indent: &'t str,
-    word: &'t str,
-    plain: bool,
-    letters: bool,
-    columns: u16,
+    word: &Word<'t>,
     breaks: &mut Vec<H::Opportunity>,
     mixed: &mut Mixed<'t>,
 ) -> Result<(), AllocError>
-    requires plain { plain ≡ true → list_all is_printable word.now ≡ true }
-    requires letters { letters ≡ true → AreLetters word.now }
     ensures { OnOk result (Adds mixed.old mixed.new
-        (word_parts (H.breaks_of dictionary.now) (style_of style.now) indent.now word.now)) }
+        (word_parts (H.breaks_of dictionary.now) (style_of style.now) indent.now (word.now).text.now)) }
 {
     let before = mixed.parts.len();
-    push_word(
-        alloc,
-        dictionary,
+    let placed = WordAt {
         style,
         indent,
-        word,
-        0,
-        false,
-        plain,
-        letters,
-        breaks,
-        &mut mixed.parts,
-    )?;
+        text: word.text,
+        // No slice of a text is made of it, so where it stands is of no use.
+        at: 0,
+        spaced: false,
+        plain: word.plain,
+        letters: word.letters,
+    };
+    push_word(alloc, dictionary, placed, breaks, &mut mixed.parts)?;
     let made = &mixed.parts[before..];
     let count = made.len();
-    mixed.joined = joined_after(alloc, made, columns, mixed.joined)?;
+    mixed.joined = joined_after(alloc, made, mixed.columns, mixed.joined)?;
     push_falses(&mut mixed.wholes, count)?;
     Ok(())
 }
@@ -157,7 +151,6 @@ fn push_runs<'t>(
     alloc: Global,
     style: &Style<'t>,
     text: &'t str,
-    columns: u16,
     mixed: &mut Mixed<'t>,
 ) -> Result<&'t str, AllocError>
     ensures adds { IfOk result (λ rest.
@@ -165,7 +158,7 @@ fn push_runs<'t>(
     ensures no_longer { IfOk result (λ rest. length rest.now ≤ length text.now) }
 {
     let mut rest = text;
-    while let Some((run, after)) = split_run(rest, columns_left(columns, mixed.joined)) {
+    while let Some((run, after)) = split_run(rest, columns_left(mixed.columns, mixed.joined)) {
         push_whole(alloc, style.indent, run, mixed)?;
         rest = after;
     }
@@ -179,28 +172,16 @@ fn push_others<'t, 'h, H: Hyphenator<'h>>(
     dictionary: &'h H,
     style: &Style<'t>,
     text: &'t str,
-    columns: u16,
     breaks: &mut Vec<H::Opportunity>,
     mixed: &mut Mixed<'t>,
 ) -> Result<(), AllocError>
     ensures { OnOk result (Adds mixed.old mixed.new
         (other_parts (H.breaks_of dictionary.now) (style_of style.now) (words text.now))) }
 {
-    let mut rest = push_runs(alloc, style, text, columns, mixed)?;
+    let mut rest = push_runs(alloc, style, text, mixed)?;
     while let Some(word) = next_word(rest) {
-        push_broken(
-            alloc,
-            dictionary,
-            style,
-            style.indent,
-            word.text,
-            word.plain,
-            word.letters,
-            columns,
-            breaks,
-            mixed,
-        )?;
-        rest = push_runs(alloc, style, word.after, columns, mixed)?;
+        push_broken(alloc, dictionary, style, style.indent, &word, breaks, mixed)?;
+        rest = push_runs(alloc, style, word.after, mixed)?;
     }
     Ok(())
 }
@@ -220,6 +201,7 @@ pub(crate) fn mixed_of<'t, 'h, H: Hyphenator<'h>>(
     let mut mixed = Mixed {
         parts: Vec::new(alloc),
         wholes: Vec::new(alloc),
+        columns,
         joined: 0,
     };
     let Some(first) = next_word(text) else {
@@ -231,10 +213,7 @@ pub(crate) fn mixed_of<'t, 'h, H: Hyphenator<'h>>(
         dictionary,
         style,
         style.first,
-        first.text,
-        first.plain,
-        first.letters,
-        columns,
+        &first,
         &mut breaks,
         &mut mixed,
     )?;
@@ -243,7 +222,6 @@ pub(crate) fn mixed_of<'t, 'h, H: Hyphenator<'h>>(
         dictionary,
         style,
         first.after,
-        columns,
         &mut breaks,
         &mut mixed,
     )?;
@@ -299,46 +277,26 @@ fn are_settled(wholes: &[bool], stretches: &[Stretch], row: &[usize]) -> bool
     !is_whole(wholes, 0) && end_before_parts(wholes, row) && have_narrow_closings(wholes, stretches)
 }
 
-// Why no lines were found without breaking all words.
-#[derive(Drop)]
-pub(crate) enum NotFull {
-    // Memory was refused.
-    Memory,
-    // A line would end before a word that was left whole.
-    Unsettled,
-}
-
-impl From<AllocError> for NotFull {
-    ghost use Rattle.std.specs.Prelude.{◌≡◌};
-    ghost use Rattle.paragraphs.specs.declared.mixed.NotFull.TheVariants.{Memory};
-
-    ghost from_gives = { λ _ result. result ≡ Memory };
-
-    fn from(_error: AllocError) -> NotFull {
-        NotFull::Memory
-    }
-}
-
-// Returns the fullest lines of a paragraph that is made of these parts, where no line ends before a word that was left
-// whole.
+// Returns the lines of a paragraph for whose parts these stand, each as full as can be. `None` where a line would end
+// before a word that was left whole.
 pub(crate) fn full_lines(
     alloc: Global,
     parts: &[Part],
     wholes: &[bool],
     columns: u16,
-) -> Result<Vec<String>, NotFull>
-    ensures { IfOk result (λ lines.
-        FillAll wholes.now (settings_of parts.now) columns (map string_bytes lines.items)) }
+) -> Result<Option<Vec<String>>, AllocError>
+    ensures { IfOk result (λ found. IfSome found (λ lines.
+        FillAll wholes.now (settings_of parts.now) columns (map string_bytes lines.items))) }
 {
     furthest_ends_are_fewest();
     let made = stretches(alloc, parts)?;
     let Some(stretches) = made else {
-        return Err(NotFull::Unsettled);
+        return Ok(None);
     };
     let row = greedy_ends(alloc, &stretches, columns)?;
     if !are_settled(wholes, &stretches, &row) {
-        return Err(NotFull::Unsettled);
+        return Ok(None);
     }
     let lines = lines(alloc, "", parts, &row)?;
-    Ok(lines)
+    Ok(Some(lines))
 }

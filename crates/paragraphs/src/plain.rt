@@ -5,6 +5,7 @@
 ghost use Rattle.std.specs.Prelude.{◌≡◌, ◌∷◌, ◌++◌, ◌+◌, ◌<◌, ◌≤◌, [], true, MatchOption, IfSome, length};
 ghost use Rattle.std.specs.Char.{is_ascii_alphabetic};
 ghost use Rattle.std.specs.List.{list_all};
+ghost use Rattle.std.specs.Str.{IsUtf8};
 ghost use Rattle.paragraphs.specs.Private.Plain.{is_plain, is_ascii_gap, AreLetters, EachBetween, IsPlainWord, IsRun, BeginsWith};
 ghost use Rattle.paragraphs.specs.Private.Printable.{is_printable};
 ghost use Rattle.paragraphs.specs.Words.{words, EndsIn};
@@ -98,6 +99,8 @@ pub(crate) struct Word<'t> {
     pub(crate) letters: bool,
     // The text after it.
     pub(crate) after: &'t str,
+    ghost utf8: { ∥ IsUtf8 text.now ∥₁ },
+    ghost utf8_after: { ∥ IsUtf8 after.now ∥₁ },
     ghost printable: { plain ≡ true → list_all is_printable text.now ≡ true },
     ghost alphabetic: { letters ≡ true → AreLetters text.now },
 }

@@ -1,25 +1,22 @@
 //! The parts of a paragraph, and its lines.
 
-ghost use Rattle.std.specs.Prelude.{◌≡◌, ◌+◌, ◌-◌, ◌≤◌, ◌++◌, true, IfOk, IfErr, OnOk, length, map};
-ghost use Rattle.std.specs.List.{list_all};
+ghost use Rattle.std.specs.Prelude.{◌≡◌, ◌+◌, ◌-◌, ◌≤◌, ◌++◌, true, IfOk, IfErr, IfSome, OnOk, length, map};
 ghost use Rattle.std.specs.String.{string_bytes};
 ghost use Rattle.paragraphs.specs.Pages.{IsFilled};
 ghost use Rattle.paragraphs.specs.Private.Open.{AddsParts};
 ghost use Rattle.paragraphs.specs.Private.PartSettings.{settings_of};
 ghost use Rattle.paragraphs.specs.Private.Places.{AllStandIn, BeginsWithSpace};
-ghost use Rattle.paragraphs.specs.Private.Plain.{AreLetters};
-ghost use Rattle.paragraphs.specs.Private.Printable.{is_printable};
 ghost use Rattle.paragraphs.specs.Settings.{IsTooLong};
 ghost use Rattle.paragraphs.specs.Styles.{style_of};
 ghost use Rattle.paragraphs.specs.Parts.{word_parts, other_parts, parts_of};
 ghost use Rattle.paragraphs.specs.Words.{words, EndsIn};
 
-use crate::mixed::{NotFull, full_lines, mixed_of};
+use crate::mixed::{full_lines, mixed_of};
 use crate::part::Part;
-use crate::plain::next_word;
+use crate::plain::{Word, next_word};
 use crate::setting::{Aim, set, stretches};
 use crate::style::Style;
-use crate::word::push_word;
+use crate::word::{WordAt, push_word};
 use hyphenation_hyphenator::hyphenator::Hyphenator;
 use std::alloc::{AllocError, Global};
 
@@ -42,47 +39,39 @@ fn place_of(text: &str, word: &str, after: &str) -> usize
     text.len() - after.len() - word.len()
 }
 
-// Adds the parts of a word of a text, which ends in it and what is after it.
+// Adds the parts of a word of a text, which ends in it and what is after it. A line that begins with the word has this
+// indent.
 #[inline(always)]
 fn push_word_of<'t, 'h, H: Hyphenator<'h>>(
-    alloc: Global,
     dictionary: &'h H,
     style: &Style<'t>,
     indent: &'t str,
     text: &'t str,
-    word: &'t str,
-    after: &'t str,
-    plain: bool,
-    letters: bool,
+    word: &Word<'t>,
     breaks: &mut Vec<H::Opportunity>,
     parts: &mut Vec<Part<'t>>,
 ) -> Result<(), AllocError>
-    requires ends { EndsIn text.now (word.now ++ after.now) }
-    requires plain { plain ≡ true → list_all is_printable word.now ≡ true }
-    requires letters { letters ≡ true → AreLetters word.now }
+    requires { EndsIn text.now ((word.now).text.now ++ (word.now).after.now) }
     ensures adds { OnOk result (AddsParts parts.old.items parts.new.items
-        (word_parts (H.breaks_of dictionary.now) (style_of style.now) indent.now word.now)) }
+        (word_parts (H.breaks_of dictionary.now) (style_of style.now) indent.now (word.now).text.now)) }
     ensures places { OnOk result (AllStandIn text.now parts.old.items → AllStandIn text.now parts.new.items) }
 {
-    push_word(
-        alloc,
-        dictionary,
+    let alloc = *parts.allocator();
+    let placed = WordAt {
         style,
         indent,
-        word,
-        place_of(text, word, after),
-        begins_with_space(after),
-        plain,
-        letters,
-        breaks,
-        parts,
-    )?;
+        text: word.text,
+        at: place_of(text, word.text, word.after),
+        spaced: begins_with_space(word.after),
+        plain: word.plain,
+        letters: word.letters,
+    };
+    push_word(alloc, dictionary, placed, breaks, parts)?;
     Ok(())
 }
 
 // Adds the parts of all words of the end of a text, none of which is the first one of its paragraph.
 fn push_others<'t, 'h, H: Hyphenator<'h>>(
-    alloc: Global,
     dictionary: &'h H,
     style: &Style<'t>,
     text: &'t str,
@@ -97,19 +86,7 @@ fn push_others<'t, 'h, H: Hyphenator<'h>>(
 {
     let mut rest = end;
     while let Some(word) = next_word(rest) {
-        push_word_of(
-            alloc,
-            dictionary,
-            style,
-            style.indent,
-            text,
-            word.text,
-            word.after,
-            word.plain,
-            word.letters,
-            breaks,
-            parts,
-        )?;
+        push_word_of(dictionary, style, style.indent, text, &word, breaks, parts)?;
         rest = word.after;
     }
     Ok(())
@@ -133,20 +110,15 @@ fn parts_of<'t, 'h, H: Hyphenator<'h>>(
     };
     let mut breaks = Vec::with_capacity(alloc, 16)?;
     push_word_of(
-        alloc,
         dictionary,
         style,
         style.first,
         text,
-        first.text,
-        first.after,
-        first.plain,
-        first.letters,
+        &first,
         &mut breaks,
         &mut parts,
     )?;
     push_others(
-        alloc,
         dictionary,
         style,
         text,
@@ -177,20 +149,23 @@ impl From<AllocError> for FillError {
     }
 }
 
-// Returns the lines of a paragraph, each as full as can be, where few of its words had to be broken to find them.
+// Returns the lines of a paragraph, each as full as can be, if few of its words have to be broken to find them.
 fn full_lines_of<'h, H: Hyphenator<'h>>(
     alloc: Global,
     dictionary: &'h H,
     style: &Style,
     text: &str,
     columns: u16,
-) -> Result<Vec<String>, NotFull>
-    ensures { IfOk result (λ lines. IsFilled Aim.Full (H.breaks_of dictionary.now) (style_of style.now) columns text.now
-        (map string_bytes lines.items)) }
+) -> Result<Option<Vec<String>>, AllocError>
+    ensures { IfOk result (λ found. IfSome found (λ lines. IsFilled Aim.Full (H.breaks_of dictionary.now)
+        (style_of style.now) columns text.now (map string_bytes lines.items))) }
 {
     let mixed = mixed_of(alloc, dictionary, style, text, columns)?;
-    let lines = full_lines(alloc, &mixed.parts, &mixed.wholes, columns)?;
-    Ok(lines)
+    let found = full_lines(alloc, &mixed.parts, &mixed.wholes, columns)?;
+    let Some(lines) = found else {
+        return Ok(None);
+    };
+    Ok(Some(lines))
 }
 
 // Returns the lines of a paragraph, of which all words are broken.
@@ -248,10 +223,9 @@ pub fn fill<'h, H: Hyphenator<'h>>(
         IsTooLong (parts_of (H.breaks_of dictionary.now) (style_of style.now) (words text.now))) }
 {
     if let Aim::Full = aim {
-        match full_lines_of(alloc, dictionary, style, text, columns) {
-            Ok(lines) => return Ok(lines),
-            Err(NotFull::Memory) => return Err(FillError::Memory),
-            Err(NotFull::Unsettled) => {}
+        let found = full_lines_of(alloc, dictionary, style, text, columns)?;
+        if let Some(lines) = found {
+            return Ok(lines);
         }
     }
     fill_all(alloc, dictionary, style, text, columns, aim)

@@ -2,7 +2,7 @@
 
 ghost use Rattle.std.specs.Prelude.{◌≡◌, ◌+◌, ◌<◌, ◌≤◌, ◌^◌, ◌∷◌, [], None, true, IfOk, OnOk, length};
 ghost use Rattle.std.specs.List.{list_all};
-ghost use Rattle.std.specs.Str.{IsCharBoundary};
+ghost use Rattle.std.specs.Str.{IsUtf8, IsCharBoundary};
 ghost use Rattle.hyphenation_breaks.specs.Break.{left_of, begin_of, end_of};
 ghost use Rattle.paragraphs.specs.Private.Open.{Passes, PassesPiece, PassesPieces, PassesAll, AddsParts, next_then};
 ghost use Rattle.paragraphs.specs.Private.Places.{KeepPlaces, PlacesWord, end_of_word};
@@ -23,6 +23,29 @@ use std::mem;
 use word_pieces::WordPieceIndices;
 use word_pieces::laws::{letters_are_one_piece, pieces_are_slices};
 
+// A word that is to be parted, and what is known of it.
+#[derive(Clone, Copy)]
+pub(crate) struct WordAt<'s, 't> {
+    // The indents of the paragraph's lines, and the price of a hyphen.
+    pub(crate) style: &'s Style<'t>,
+    // The indent of a line that begins with the word.
+    pub(crate) indent: &'t str,
+    // Its text.
+    pub(crate) text: &'t str,
+    // Where it begins in the text of the paragraph, in bytes.
+    pub(crate) at: usize,
+    // Whether a space stands after it there.
+    pub(crate) spaced: bool,
+    // Whether it is known to be of printable ASCII.
+    pub(crate) plain: bool,
+    // Whether it is known to be of letters of ASCII alone.
+    pub(crate) letters: bool,
+    ghost utf8: { ∥ IsUtf8 text.now ∥₁ },
+    ghost within: { at + length text.now < 2 ^ 63 },
+    ghost printable: { plain ≡ true → list_all is_printable text.now ≡ true },
+    ghost alphabetic: { letters ≡ true → AreLetters text.now },
+}
+
 // The part that is being made.
 #[derive(Drop)]
 struct Open<'t> {
@@ -38,78 +61,67 @@ struct Open<'t> {
 // side.
 #[inline(always)]
 #[tactic(auto, using(crate::proofs::Printable::printable_between))]
-fn pass_break<'t, B: Break>(
+fn pass_break<'s, 't, B: Break>(
     alloc: Global,
-    style: &Style<'t>,
-    word: &'t str,
-    at: usize,
-    plain: bool,
+    word: WordAt<'s, 't>,
     offset: usize,
     b: &B,
     parts: &mut Vec<Part<'t>>,
     current: &mut Open<'t>,
 ) -> Result<(), AllocError>
-    requires at { at + length word.now < 2 ^ 63 }
-    requires plain { plain ≡ true → list_all is_printable word.now ≡ true }
     requires within { left_of (B.meaning b.now).change ≤ (B.meaning b.now).place }
-    requires from { IsCharBoundary word.now current.old.from }
-    requires begin { IsCharBoundary word.now (begin_of (set_off offset (B.meaning b.now))) }
-    requires end { IsCharBoundary word.now (end_of (set_off offset (B.meaning b.now))) }
-    ensures goes { OnOk result (Passes style.now word.now (set_off offset (B.meaning b.now) ∷ [])
+    requires from { IsCharBoundary word.text.now current.old.from }
+    requires begin { IsCharBoundary word.text.now (begin_of (set_off offset (B.meaning b.now))) }
+    requires end { IsCharBoundary word.text.now (end_of (set_off offset (B.meaning b.now))) }
+    ensures goes { OnOk result (Passes word.entry.style.now word.entry.text.now (set_off offset (B.meaning b.now) ∷ [])
         parts.old.items current.old parts.new.items current.new) }
-    ensures from { OnOk result (IsCharBoundary word.now current.new.from) }
-    ensures places { OnOk result (KeepPlaces at word.now parts.old.items parts.new.items) }
+    ensures from { OnOk result (IsCharBoundary word.entry.text.now current.new.from) }
+    ensures places { OnOk result (KeepPlaces word.entry.at word.entry.text.now parts.old.items parts.new.items) }
 {
     let (left, right) = b.range().unwrap();
     let (begin, end) = (offset + left, offset + right);
-    if begin <= current.from || word.len() <= end {
+    if begin <= current.from || word.text.len() <= end {
         return Ok(());
     }
     let after = mem::replace(&mut current.after, String::from_str(alloc, b.after())?);
     parts.push(Part {
         indent: current.indent,
         after,
-        text: &word[current.from..begin],
-        joint: &word[begin..end],
-        start: at + current.from,
-        end: at + end,
+        text: &word.text[current.from..begin],
+        joint: &word.text[begin..end],
+        start: word.at + current.from,
+        end: word.at + end,
         before: String::from_str(alloc, b.before())?,
         hyphenated: true,
-        price: style.price,
-        plain,
+        price: word.style.price,
+        plain: word.plain,
     })?;
-    current.indent = style.indent;
+    current.indent = word.style.indent;
     current.from = end;
     Ok(())
 }
 
-// Passes the breaks of a piece of a word. They replace those in the list.
+// Passes the breaks of a piece of a word, which begins at a place there. They replace those in the list.
 #[inline(always)]
-fn pass_piece<'t, 'h, H: Hyphenator<'h>>(
+fn pass_piece<'s, 't, 'h, H: Hyphenator<'h>>(
     alloc: Global,
     dictionary: &'h H,
-    style: &Style<'t>,
-    word: &'t str,
-    at: usize,
-    plain: bool,
-    offset: usize,
-    piece: &str,
+    word: WordAt<'s, 't>,
+    piece: (usize, &str),
     breaks: &mut Vec<H::Opportunity>,
     parts: &mut Vec<Part<'t>>,
     part: &mut Open<'t>,
 ) -> Result<(), AllocError>
-    requires at { at + length word.now < 2 ^ 63 }
-    requires plain { plain ≡ true → list_all is_printable word.now ≡ true }
-    requires piece { IsSlice word.now (offset, piece.now) }
-    requires from { IsCharBoundary word.now part.old.from }
-    ensures goes { OnOk result (PassesPiece style.now word.now (H.breaks_of dictionary.now)
-        (offset, piece.now) parts.old.items part.old parts.new.items part.new) }
-    ensures from { OnOk result (IsCharBoundary word.now part.new.from) }
-    ensures places { OnOk result (KeepPlaces at word.now parts.old.items parts.new.items) }
+    requires piece { IsSlice word.text.now (piece.0, piece.1.now) }
+    requires from { IsCharBoundary word.text.now part.old.from }
+    ensures goes { OnOk result (PassesPiece word.entry.style.now word.entry.text.now (H.breaks_of dictionary.now)
+        (piece.entry.0, piece.entry.1.now) parts.old.items part.old parts.new.items part.new) }
+    ensures from { OnOk result (IsCharBoundary word.entry.text.now part.new.from) }
+    ensures places { OnOk result (KeepPlaces word.entry.at word.entry.text.now parts.old.items parts.new.items) }
 {
-    dictionary.breaks_into(piece, breaks)?;
+    dictionary.breaks_into(piece.1, breaks)?;
     for b in breaks.iter() {
-        pass_break(alloc, style, word, at, plain, offset, b, parts, part)?;
+        pass_break(alloc, word, piece.0, b, parts, part)?;
     }
     Ok(())
 }
@@ -123,30 +135,31 @@ fn next_piece<'t>(pieces: &mut WordPieceIndices<'t>) -> Option<(usize, &'t str)>
 }
 
 // Passes the breaks of all pieces of a word, one by one.
-fn pass_each_piece<'t, 'h, H: Hyphenator<'h>>(
+fn pass_each_piece<'s, 't, 'h, H: Hyphenator<'h>>(
     alloc: Global,
     dictionary: &'h H,
-    style: &Style<'t>,
-    word: &'t str,
-    at: usize,
-    plain: bool,
+    word: WordAt<'s, 't>,
     breaks: &mut Vec<H::Opportunity>,
     parts: &mut Vec<Part<'t>>,
     current: &mut Open<'t>,
 ) -> Result<(), AllocError>
-    requires at { at + length word.now < 2 ^ 63 }
-    requires plain { plain ≡ true → list_all is_printable word.now ≡ true }
-    requires from { IsCharBoundary word.now current.old.from }
-    ensures goes { OnOk result (PassesPieces style.now word.now (H.breaks_of dictionary.now)
+    requires from { IsCharBoundary word.text.now current.old.from }
+    ensures goes { OnOk result (PassesPieces word.entry.style.now word.entry.text.now (H.breaks_of dictionary.now)
         parts.old.items current.old parts.new.items current.new) }
-    ensures from { OnOk result (IsCharBoundary word.now current.new.from) }
-    ensures places { OnOk result (KeepPlaces at word.now parts.old.items parts.new.items) }
+    ensures from { OnOk result (IsCharBoundary word.entry.text.now current.new.from) }
+    ensures places { OnOk result (KeepPlaces word.entry.at word.entry.text.now parts.old.items parts.new.items) }
 {
     pieces_are_slices();
-    let mut pieces = WordPieceIndices::new(word);
+    let mut pieces = WordPieceIndices::new(word.text);
     while let Some((offset, piece)) = next_piece(&mut pieces) {
         pass_piece(
-            alloc, dictionary, style, word, at, plain, offset, piece, breaks, parts, current,
+            alloc,
+            dictionary,
+            word,
+            (offset, piece),
+            breaks,
+            parts,
+            current,
         )?;
     }
     Ok(())
@@ -155,42 +168,39 @@ fn pass_each_piece<'t, 'h, H: Hyphenator<'h>>(
 // Passes the breaks of a word: those of all its pieces, or none if it is an address. One of letters of ASCII only is
 // one piece, and no address.
 #[inline(always)]
-fn pass_pieces<'t, 'h, H: Hyphenator<'h>>(
+fn pass_pieces<'s, 't, 'h, H: Hyphenator<'h>>(
     alloc: Global,
     dictionary: &'h H,
-    style: &Style<'t>,
-    word: &'t str,
-    at: usize,
-    plain: bool,
-    letters: bool,
+    word: WordAt<'s, 't>,
     breaks: &mut Vec<H::Opportunity>,
     parts: &mut Vec<Part<'t>>,
     current: &mut Open<'t>,
 ) -> Result<(), AllocError>
-    requires at { at + length word.now < 2 ^ 63 }
-    requires plain { plain ≡ true → list_all is_printable word.now ≡ true }
-    requires letters { letters ≡ true → AreLetters word.now }
-    requires from { IsCharBoundary word.now current.old.from }
-    ensures goes { OnOk result (PassesAll style.now word.now (H.breaks_of dictionary.now)
+    requires from { IsCharBoundary word.text.now current.old.from }
+    ensures goes { OnOk result (PassesAll word.entry.style.now word.entry.text.now (H.breaks_of dictionary.now)
         parts.old.items current.old parts.new.items current.new) }
-    ensures from { OnOk result (IsCharBoundary word.now current.new.from) }
-    ensures places { OnOk result (KeepPlaces at word.now parts.old.items parts.new.items) }
+    ensures from { OnOk result (IsCharBoundary word.entry.text.now current.new.from) }
+    ensures places { OnOk result (KeepPlaces word.entry.at word.entry.text.now parts.old.items parts.new.items) }
 {
     pieces_are_slices();
     letters_are_one_piece();
     letters_are_no_address();
-    if letters {
+    if word.letters {
         pass_piece(
-            alloc, dictionary, style, word, at, plain, 0, word, breaks, parts, current,
+            alloc,
+            dictionary,
+            word,
+            (0, word.text),
+            breaks,
+            parts,
+            current,
         )?;
         return Ok(());
     }
-    if is_address(word) {
+    if is_address(word.text) {
         return Ok(());
     }
-    pass_each_piece(
-        alloc, dictionary, style, word, at, plain, breaks, parts, current,
-    )?;
+    pass_each_piece(alloc, dictionary, word, breaks, parts, current)?;
     Ok(())
 }
 
@@ -209,58 +219,37 @@ fn end_of_word(word: &str, at: usize, spaced: bool) -> usize
     }
 }
 
-// Adds the parts of a word. A line that begins with the word has this indent. `at` is the place of the word in the
-// paragraph, and `spaced` says whether a space follows. `plain` and `letters` say whether it is known to have only
-// printable ASCII, and only ASCII letters. `breaks` is scratch space.
+// Adds the parts of a word. The list is for the breaks of its pieces.
 #[tactic(auto, using(crate::proofs::Printable::printable_drop))]
-pub(crate) fn push_word<'t, 'h, H: Hyphenator<'h>>(
+pub(crate) fn push_word<'s, 't, 'h, H: Hyphenator<'h>>(
     alloc: Global,
     dictionary: &'h H,
-    style: &Style<'t>,
-    indent: &'t str,
-    word: &'t str,
-    at: usize,
-    spaced: bool,
-    plain: bool,
-    letters: bool,
+    word: WordAt<'s, 't>,
     breaks: &mut Vec<H::Opportunity>,
     parts: &mut Vec<Part<'t>>,
 ) -> Result<(), AllocError>
-    requires at { at + length word.now < 2 ^ 63 }
-    requires plain { plain ≡ true → list_all is_printable word.now ≡ true }
-    requires letters { letters ≡ true → AreLetters word.now }
     ensures adds { OnOk result (AddsParts parts.old.items parts.new.items
-        (word_parts (H.breaks_of dictionary.now) (style_of style.now) indent.now word.now)) }
-    ensures places { OnOk result (PlacesWord at word.now spaced parts.old.items parts.new.items) }
+        (word_parts (H.breaks_of dictionary.now) (style_of word.entry.style.now) word.entry.indent.now word.entry.text.now)) }
+    ensures places { OnOk result
+        (PlacesWord word.entry.at word.entry.text.now word.entry.spaced parts.old.items parts.new.items) }
 {
     let mut current = Open {
-        indent,
+        indent: word.indent,
         after: String::new(alloc),
         from: 0,
     };
-    pass_pieces(
-        alloc,
-        dictionary,
-        style,
-        word,
-        at,
-        plain,
-        letters,
-        breaks,
-        parts,
-        &mut current,
-    )?;
+    pass_pieces(alloc, dictionary, word, breaks, parts, &mut current)?;
     let last = Part {
         indent: current.indent,
         after: current.after,
-        text: &word[current.from..],
+        text: &word.text[current.from..],
         joint: " ",
-        start: at + current.from,
-        end: end_of_word(word, at, spaced),
+        start: word.at + current.from,
+        end: end_of_word(word.text, word.at, word.spaced),
         before: String::new(alloc),
         hyphenated: false,
         price: 0,
-        plain,
+        plain: word.plain,
     };
     parts.push(last)?;
     Ok(())

@@ -2,7 +2,7 @@
 use Rattle.std.specs.Prelude.{◌≡◌, ℕ, ◌+◌, ◌≤◌, Option, None, List}
 use Rattle.line_division.specs.declared.stretch.Stretch.{Stretch}
 use Rattle.line_division.specs.declared.cost.Cost.{Cost}
-use Rattle.line_division.specs.declared.even.Widest.{Widest}
+use Rattle.line_division.specs.declared.problem.Widest.{Widest}
 use Rattle.line_division.specs.Lines.{stretch_at}
 
 -- The columns of a line that holds one stretch.

@@ -1,7 +1,7 @@
 -- How far the lines that begin at a place reach.
 use Rattle.std.specs.Prelude.{◌≡◌, ℕ, ◌+◌, ◌<◌, ◌≤◌, List, length, sum_by, slice_range}
 use Rattle.line_division.specs.declared.stretch.Stretch.{Stretch}
-use Rattle.line_division.specs.declared.even.Reach.{Reach}
+use Rattle.line_division.specs.declared.reach.Reach.{Reach}
 use Rattle.line_division.specs.Lines.{stretch_at, joined_width}
 
 -- No line from a start that goes past the last stretch fits, whatever its opening and its closing are.

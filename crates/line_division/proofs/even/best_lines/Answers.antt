@@ -8,15 +8,15 @@ pub put_best_lines-requires-clause-best : goal.put_best_lines-requires-clause-be
 put_best_lines-requires-clause-best c =
     let start = c.loop-start.start - 1 in
     let same : c.loop-start.start ≡ start + 1 = omega arith in
-    best_earlier c.args.stretches.now c.args.columns c.args.last_columns c.args.ladder c.loop-start.choices.items start
-    (subst (λ p. AreBest c.args.stretches.now c.args.columns c.args.last_columns c.args.ladder c.loop-start.choices.items p (runs c.args.ladder)) same c.loop-start.invariant.best)
+    best_earlier c.args.problem.stretches.now c.args.problem.columns c.args.problem.last_columns c.args.problem.ladder c.loop-start.choices.items start
+    (subst (λ p. AreBest c.args.problem.stretches.now c.args.problem.columns c.args.problem.last_columns c.args.problem.ladder c.loop-start.choices.items p (runs c.args.problem.ladder)) same c.loop-start.invariant.best)
 
 pub loop-start-preserved : goal.loop-start-preserved
 loop-start-preserved c =
-    let stretches = c.args.stretches.now in
-    let columns = c.args.columns in
-    let last_columns = c.args.last_columns in
-    let ladder = c.args.ladder in
+    let stretches = c.args.problem.stretches.now in
+    let columns = c.args.problem.columns in
+    let last_columns = c.args.problem.last_columns in
+    let ladder = c.args.problem.ladder in
     let before = c.loop-start.invariant in
     let upto = c.loop-start.reach.last + 1 in
     let start = c.loop-start.start - 1 in
@@ -32,4 +32,4 @@ loop-start-preserved c =
 pub returns : goal.returns
 returns c =
     let first : c.loop-start.start ≡ 0 = omega arith in
-    subst (λ p. AreBest c.args.stretches.now c.args.columns c.args.last_columns c.args.ladder c.loop-start.choices.items p (runs c.args.ladder)) first c.loop-start.invariant.best
+    subst (λ p. AreBest c.args.problem.stretches.now c.args.problem.columns c.args.problem.last_columns c.args.problem.ladder c.loop-start.choices.items p (runs c.args.problem.ladder)) first c.loop-start.invariant.best

@@ -6,6 +6,6 @@ use Rattle.line_division.proofs.even.floor_of.Given as goal
 -- No choice so far costs less.
 abbrev pub invariant-loop-place : goal.invariant-loop-place
 invariant-loop-place l = record {
-  least : (k : ℕ) → l.fn.start * runs l.fn.ladder ≤ k → k < l.place → CostsNoMore l.floor (slice_index_or l.choices k no_choice).cost;
+  least : (k : ℕ) → l.fn.start * runs l.fn.problem.ladder ≤ k → k < l.place → CostsNoMore l.floor (slice_index_or l.choices k no_choice).cost;
   low : l.floor.spent ≤ 2 ^ 63;
 }

@@ -8,7 +8,7 @@ use Rattle.paragraphs.proofs.mixed.push_broken.Goals as goal
 
 pub returns : goal.returns
 returns g c =
-    let made = word_parts (g.H.Hyphenator.breaks_of c.args.dictionary.now) (style_of c.args.style.now) c.args.indent.now c.args.word.now in
+    let made = word_parts (g.H.Hyphenator.breaks_of c.args.dictionary.now) (style_of c.args.style.now) c.args.indent.now c.args.word.now.text.now in
     let old = c.args.mixed.now in
     let parts = c.push_word.new.parts.items in
     let before = c.len-before.result in

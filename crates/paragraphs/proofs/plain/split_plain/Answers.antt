@@ -32,6 +32,8 @@ invariant_of-result c =
     let is = subst (λ b. IsPlainWord b start end) same c.in_ok-end.ensures in
     let each = subst (λ b. EachBetween is_ascii_alphabetic b start letters) same c.past_letters-letters_end.ensures.each in
     record {
+      utf8 = ∣ c.range.utf8 ∣₁;
+      utf8_after = ∣ c.range_from.utf8 ∣₁;
       printable = λ _. ap (list_all is_printable) c.range.ensures.value ∙ plain_word_printable text start end is;
       alphabetic = λ e.
           subst AreLetters (sym c.range.ensures.value)

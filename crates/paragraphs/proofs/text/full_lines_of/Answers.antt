@@ -1,5 +1,7 @@
-use Rattle.std.proofs.Common.{sym, subst}
+use Rattle.std.proofs.Common.{IfSome, map, sym, subst}
+use Rattle.std.specs.String.{string_bytes}
 use Rattle.paragraphs.specs.Private.Entries.{AreMixed}
+use Rattle.paragraphs.specs.Private.MixedParts.{FillAll}
 use Rattle.paragraphs.specs.Private.PartSettings.{settings_of}
 use Rattle.paragraphs.specs.Styles.{style_of}
 use Rattle.paragraphs.specs.Parts.{parts_of}
@@ -17,8 +19,9 @@ returns g c =
     let mixed = c.in_ok-mixed.mixed in
     let there = subst (λ w. AreMixed w (settings_of c.deref.result.now) settings) (sym c.deref-2.ensures.value)
     (subst (λ p. AreMixed mixed.wholes.items (settings_of p) settings) (sym c.deref.ensures.value) c.in_ok-mixed.ensures) in
+    let told = subst (λ found. IfSome found (λ lines. FillAll c.deref-2.result.now (settings_of c.deref.result.now) c.args.columns (map string_bytes lines.items))) c.in-Some.is c.in_ok-found.ensures in
     record {
-      set = c.in_ok-lines.ensures settings there;
+      set = told settings there;
       keeps = words_kept breaks_of style all;
       orderly = plain_parts_orderly breaks_of style all;
     }

@@ -1,6 +1,6 @@
 use Rattle.std.proofs.Common.{◌≤◌, length, arith, refl}
 use Rattle.line_division.proofs.Reaching.{most_more, most_all}
-use Rattle.line_division.proofs.even.widest_of.Goals as goal
+use Rattle.line_division.proofs.problem.widest_of.Goals as goal
 
 pub loop-stretch-preserved : goal.loop-stretch-preserved
 loop-stretch-preserved c =

@@ -1,7 +1,7 @@
 use Rattle.std.proofs.Common.{arith}
 use Rattle.line_division.specs.Private.Reaches.{GoesPast, Stays}
 use Rattle.line_division.proofs.Reaching.{joined_front, joined_back, beyond_earlier, beyond_less, told_true}
-use Rattle.line_division.proofs.even.reach_from.Goals as goal
+use Rattle.line_division.proofs.reach.reach_from.Goals as goal
 
 pub loop-last-init : goal.loop-last-init
 loop-last-init c =

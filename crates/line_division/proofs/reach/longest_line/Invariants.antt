@@ -1,7 +1,7 @@
 use Rattle.std.proofs.Common.{ℕ, ◌≡◌, ◌+◌, ◌-◌, ◌^◌, ◌<◌, ◌≤◌, length}
 use Rattle.std.specs.List.{sum_by, slice_range}
 use Rattle.line_division.specs.Lines.{stretch_at, joined_width, line_width}
-use Rattle.line_division.proofs.even.longest_line.Given as goal
+use Rattle.line_division.proofs.reach.longest_line.Given as goal
 
 -- No line that ends later than after the last stretch so far fits.
 abbrev pub invariant-loop-last : goal.invariant-loop-last

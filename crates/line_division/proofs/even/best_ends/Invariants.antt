@@ -1,7 +1,7 @@
 use Rattle.std.proofs.Common.{◌-◌, ◌<◌, ◌≤◌, length}
 use Rattle.line_division.specs.Private.Best.{runs}
 use Rattle.line_division.proofs.Least.{GoesOn}
-use Rattle.line_division.proofs.even.even_ends.Given as goal
+use Rattle.line_division.proofs.even.best_ends.Given as goal
 
 -- The ends so far, followed by any that cost the least from here on, cost the least.
 abbrev pub invariant-loop-start : goal.invariant-loop-start

@@ -1,6 +1,6 @@
 use Rattle.std.proofs.Common.{ℕ, ◌<◌, ◌≤◌}
 use Rattle.line_division.specs.Lines.{stretch_at}
-use Rattle.line_division.proofs.even.widest_of.Given as goal
+use Rattle.line_division.proofs.problem.widest_of.Given as goal
 
 -- No stretch so far has more columns.
 abbrev pub invariant-loop-stretch : goal.invariant-loop-stretch

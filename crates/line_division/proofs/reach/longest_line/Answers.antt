@@ -3,7 +3,7 @@ use Rattle.std.proofs.lemmas.Bool.{cases_lt}
 use Rattle.line_division.specs.Lines.{line_width}
 use Rattle.line_division.proofs.Reaching.{joined_back}
 use Rattle.line_division.proofs.Widths.{width_to}
-use Rattle.line_division.proofs.even.longest_line.Goals as goal
+use Rattle.line_division.proofs.reach.longest_line.Goals as goal
 
 pub loop-last-init : goal.loop-last-init
 loop-last-init c =

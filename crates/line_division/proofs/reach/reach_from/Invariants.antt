@@ -2,7 +2,7 @@ use Rattle.std.proofs.Common.{◌-◌, ◌≡◌, ◌^◌, ◌<◌, ◌≤◌, l
 use Rattle.std.specs.List.{sum_by, slice_range}
 use Rattle.line_division.specs.Lines.{joined_width}
 use Rattle.line_division.proofs.Reaching.{IsBeyond}
-use Rattle.line_division.proofs.even.reach_from.Given as goal
+use Rattle.line_division.proofs.reach.reach_from.Given as goal
 
 -- No line that goes past the last stretch so far fits.
 abbrev pub invariant-loop-last : goal.invariant-loop-last
