@@ -108,7 +108,7 @@ fn push_falses(wholes: &mut Vec<bool>, count: usize) -> Result<(), AllocError>
     Ok(())
 }
 
-// Adds the parts of a word. A line that begins with the word has this indent. The list is for the breaks of its pieces.
+// Adds the parts of a word. A line that begins with the word has this indent. `breaks` is scratch space.
 fn push_broken<'t, 'h, H: Hyphenator<'h>>(
     alloc: Global,
     dictionary: &'h H,

@@ -219,7 +219,7 @@ fn end_of_word(word: &str, at: usize, spaced: bool) -> usize
     }
 }
 
-// Adds the parts of a word. The list is for the breaks of its pieces.
+// Adds the parts of a word. `breaks` is scratch space.
 #[tactic(auto, using(crate::proofs::Printable::printable_drop))]
 pub(crate) fn push_word<'s, 't, 'h, H: Hyphenator<'h>>(
     alloc: Global,
