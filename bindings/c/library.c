@@ -19,6 +19,7 @@ static const char *const statuses[] = {
     [HYPHENATION_NO_LANGUAGE] = "not a code of a language",
     [HYPHENATION_BAD_ENDS] = "a word ends before it begins, or after the text",
     [HYPHENATION_NO_MINIMA] = "no file says the minima",
+    [HYPHENATION_NO_EXCEPTION] = "the word is no exception",
 };
 
 /* From 1 on the causes of dictionary texts, from 21 on those of files of patterns. */

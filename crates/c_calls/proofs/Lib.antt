@@ -1,3 +1,4 @@
+pub mod Alike
 pub mod AsciiTexts
 pub mod Boxes
 pub mod Faults

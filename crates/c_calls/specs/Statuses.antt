@@ -168,20 +168,22 @@ FillsBoth found more b c (suc zero) =
     × (b.new ≡ b.old) × (c.new ≡ c.old)
 FillsBoth found more b c _ = ⊥
 
+-- 0 and 1: the arguments are good, and both buffers are filled, or one is too short. 2: out of memory. 4: the arguments
+-- are not good. No other status comes, and from 2 on all is unchanged.
+abbrev pub FindsBoth : {T U : Type 0} → Type 0 → List T → List U → Buffer T → Buffer U → ℕ → Type 0
+FindsBoth Good found more b c zero = Good × FillsBoth found more b c 0
+FindsBoth Good found more b c (suc zero) = Good × FillsBoth found more b c 1
+FindsBoth Good found more b c (suc (suc zero)) = AreUnchanged b c
+FindsBoth Good found more b c (suc (suc (suc (suc zero)))) = ¬ Good × AreUnchanged b c
+FindsBoth Good found more b c _ = ⊥
+
 -- ---- The changes of a word's breaks.
 
--- 0 and 1: the word is UTF-8, and both buffers are filled, or one is too short. 2: out of memory. 4: the word is not
--- UTF-8. No other status comes, and from 2 on all is unchanged.
+-- The breaks of a word with the changes that they make, and the texts of these.
 abbrev pub FindChanges : AnyDictionary → List ℕ → Buffer BreakChange → Buffer ℕ → ℕ → Type 0
-FindChanges dictionary word changes texts zero =
-    IsUtf8 word
-    × FillsBoth (map as_change (breaks_by dictionary word)) (texts_of (breaks_by dictionary word)) changes texts 0
-FindChanges dictionary word changes texts (suc zero) =
-    IsUtf8 word
-    × FillsBoth (map as_change (breaks_by dictionary word)) (texts_of (breaks_by dictionary word)) changes texts 1
-FindChanges dictionary word changes texts (suc (suc zero)) = AreUnchanged changes texts
-FindChanges dictionary word changes texts (suc (suc (suc (suc zero)))) = ¬ IsUtf8 word × AreUnchanged changes texts
-FindChanges dictionary word changes texts _ = ⊥
+FindChanges dictionary word changes texts status =
+    FindsBoth (IsUtf8 word) (map as_change (breaks_by dictionary word)) (texts_of (breaks_by dictionary word)) changes texts
+    status
 
 abbrev pub Changes : Option AnyDictionary → List ℕ → Buffer BreakChange → Buffer ℕ → ℕ → Type 0
 Changes None word changes texts status = (status ≡ 3) × AreUnchanged changes texts

@@ -89,7 +89,7 @@ pub fn write_values(
 
 /// Writes a word's breaks with their changes to the front of one buffer, their texts to the front of another one, and
 /// returns the status. If one of them is too short, both are unchanged.
-#[tactic(auto, using(crate::proofs::Finding::finds_changes))]
+#[tactic(auto, using(crate::proofs::Finding::finds_both))]
 pub fn write_changes(
     loaded: &Loaded,
     alloc: Global,

@@ -11,6 +11,7 @@
 ghost use Rattle.std.specs.Prelude.{◌≡◌, None};
 ghost use Rattle.c_calls.specs.Dictionaries.{holds};
 ghost use Rattle.c_calls.specs.Lists.{WritesLists};
+ghost use Rattle.c_calls.specs.Numbered.{WritesListed, WritesScores};
 ghost use Rattle.c_calls.specs.Paths.{WritesPaths};
 ghost use Rattle.c_calls.specs.Patterns.{LoadsDic};
 ghost use Rattle.c_calls.specs.Statuses.{kind_numbered, Loads, Shares, Edits, MakesTable, WritesLanguage, WritesMinima};
@@ -22,9 +23,11 @@ pub mod buffers;
 pub mod calls;
 pub mod changes;
 pub mod edits;
+pub mod exceptions;
 pub mod handle;
 pub mod lists;
 pub mod loaded;
+pub mod numbered;
 pub mod numbers;
 pub mod paths;
 pub mod patterns;
@@ -36,6 +39,7 @@ pub mod utf8;
 use changes::BreakChange;
 use handle::Handle;
 use hyphenation_reader::reader::Refusal;
+use numbered::NumberedChange;
 use patterns::Failure;
 use statuses::{
     DONE, NO_DICTIONARY, NO_LANGUAGE, NO_MINIMA, NOT_UTF8, OTHER_KIND, OUT_OF_MEMORY, REFUSED,
@@ -360,6 +364,58 @@ pub fn write_changes(
         return NO_DICTIONARY;
     };
     let status = calls::write_changes(&loaded, alloc, word, changes, count, text, size);
+    *handle = Handle::of(loaded);
+    status
+}
+
+/// Writes the breaks that are listed for a word to the front of one buffer, and the substitutions of their changes to the
+/// front of another one. The number of each is its place.
+///
+/// The word is compared byte by byte: an exception in small letters is found by small letters alone. The minima are not
+/// looked at. A word that is no exception is `NO_EXCEPTION`.
+pub fn write_exception(
+    alloc: Global,
+    handle: &mut Handle,
+    word: &[u8],
+    changes: &mut [NumberedChange],
+    count: &mut usize,
+    text: &mut [u8],
+    size: &mut usize,
+) -> u32
+    ensures unchanged { handle.new.slot.kept ≡ handle.old.slot.kept }
+    ensures listed { WritesListed (holds handle.old) word.now (into changes.old changes.new count.old count.new)
+        (into text.old text.new size.old size.new) result }
+{
+    let Some(loaded) = handle.take(alloc) else {
+        return NO_DICTIONARY;
+    };
+    let status = exceptions::write_exception(&loaded, alloc, word, changes, count, text, size);
+    *handle = Handle::of(loaded);
+    status
+}
+
+/// Writes the scores of a word's places, from place 1 on, to the front of one buffer, and the substitutions of their changes
+/// to the front of another one. The number of each is its value.
+///
+/// A place is a number of bytes before it. A score is the value of [`write_values`], with the change that an extended
+/// dictionary has for it.
+pub fn write_scores(
+    alloc: Global,
+    handle: &mut Handle,
+    word: &[u8],
+    changes: &mut [NumberedChange],
+    count: &mut usize,
+    text: &mut [u8],
+    size: &mut usize,
+) -> u32
+    ensures unchanged { handle.new.slot.kept ≡ handle.old.slot.kept }
+    ensures scores { WritesScores (holds handle.old) word.now (into changes.old changes.new count.old count.new)
+        (into text.old text.new size.old size.new) result }
+{
+    let Some(loaded) = handle.take(alloc) else {
+        return NO_DICTIONARY;
+    };
+    let status = exceptions::write_scores(&loaded, alloc, word, changes, count, text, size);
     *handle = Handle::of(loaded);
     status
 }

@@ -29,3 +29,6 @@ pub const BAD_ENDS: u32 = 8;
 
 /// A minimum is neither given nor in the head of the file.
 pub const NO_MINIMA: u32 = 9;
+
+/// A word is no exception.
+pub const NO_EXCEPTION: u32 = 10;

@@ -7,6 +7,7 @@
 ghost use Rattle.std.specs.Prelude.{◌≡◌, ◌<◌, None, length};
 ghost use Rattle.c_calls.specs.Dictionaries.{holds};
 ghost use Rattle.c_calls.specs.Lists.{WritesLists};
+ghost use Rattle.c_calls.specs.Numbered.{WritesListed, WritesScores};
 ghost use Rattle.c_calls.specs.Paths.{WritesPaths};
 ghost use Rattle.c_calls.specs.Patterns.{LoadsDic};
 ghost use Rattle.c_calls.specs.Statuses.{kind_numbered, Loads, Shares, Edits, MakesTable, WritesLanguage, WritesMinima};
@@ -19,6 +20,7 @@ ghost use Rattle.level_calls.specs.Levels.{digits_in, changes_in, texts_in, made
 
 use c_calls::changes::BreakChange;
 use c_calls::handle::Handle;
+use c_calls::numbered::NumberedChange;
 use level_calls::changes::LevelChange;
 use level_calls::handle::Handle as LevelsHandle;
 use level_calls::head::LevelHead;
@@ -224,6 +226,43 @@ pub extern "C" fn hyphenation_changes(
         (into text.old text.new size.old size.new) result }
 {
     c_calls::write_changes(alloc, handle, word, changes, count, text, size)
+}
+
+/// Writes the breaks that are listed for a word to one buffer, and the substitutions of their changes to another one.
+#[unsafe(no_mangle)]
+pub extern "C" fn hyphenation_exception(
+    alloc: Global,
+    handle: &mut Handle,
+    word: &[u8],
+    changes: &mut [NumberedChange],
+    count: &mut usize,
+    text: &mut [u8],
+    size: &mut usize,
+) -> u32
+    ensures unchanged { handle.new.slot.kept ≡ handle.old.slot.kept }
+    ensures listed { WritesListed (holds handle.old) word.now (into changes.old changes.new count.old count.new)
+        (into text.old text.new size.old size.new) result }
+{
+    c_calls::write_exception(alloc, handle, word, changes, count, text, size)
+}
+
+/// Writes the scores of a word's places, from place 1 on, to one buffer, and the substitutions of their changes to another
+/// one.
+#[unsafe(no_mangle)]
+pub extern "C" fn hyphenation_scores(
+    alloc: Global,
+    handle: &mut Handle,
+    word: &[u8],
+    changes: &mut [NumberedChange],
+    count: &mut usize,
+    text: &mut [u8],
+    size: &mut usize,
+) -> u32
+    ensures unchanged { handle.new.slot.kept ≡ handle.old.slot.kept }
+    ensures scores { WritesScores (holds handle.old) word.now (into changes.old changes.new count.old count.new)
+        (into text.old text.new size.old size.new) result }
+{
+    c_calls::write_scores(alloc, handle, word, changes, count, text, size)
 }
 
 /// Writes a text with the mark at each break of its words to the front of a buffer.

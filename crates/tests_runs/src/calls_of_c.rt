@@ -4,6 +4,7 @@
 
 use c_calls::changes::BreakChange;
 use c_calls::handle::Handle;
+use c_calls::numbered::NumberedChange;
 use std::alloc::Global;
 use std::test::Fail;
 use test_support::{expect, expect_equal, expect_equal_bytes, expect_equal_in};
@@ -197,6 +198,150 @@ fn letters_are_changed(rt: HostRuntime) -> Result<(), Fail> {
     let numbers = [[2, 1, 4, 2, 2], [6, 5, 8, 2, 2], [0, 0, 0, 0, 0]];
     let wanted = (0, [2, 8], numbers, *b"szsznyny.");
     expect_equal(&changes_of(rt.alloc(), "asszonnyal"), &wanted)
+}
+
+// An exception with a change that changes nothing, and with another one; and a pattern with a change.
+const LISTED: &str =
+    "hyphenation 1 extended\nlanguage hu\nminima 2 2\np n1nya 1,1,2,2,nyny\ne kilim 2,0,0,0,\\e 3,1,0,1,x\n";
+
+// Numbers with their changes: the status, the counts and the buffers.
+type Numbered = (u32, [usize; 2], [[usize; 6]; 3], [u8; 5]);
+
+fn numbers_with_change(it: NumberedChange) -> [usize; 6] {
+    [
+        it.number,
+        it.changed,
+        it.left,
+        it.right,
+        it.breakpoint,
+        it.length,
+    ]
+}
+
+// The breaks that are listed for a word, or the scores of its places.
+fn numbered_of(alloc: Global, kind: u32, text: &str, word: &str, are_scores: bool) -> Numbered {
+    let (_, mut handle) = load(alloc, kind, text);
+    let nothing = NumberedChange {
+        number: 9,
+        changed: 9,
+        left: 9,
+        right: 9,
+        breakpoint: 9,
+        length: 9,
+    };
+    let (mut changes, mut count) = ([nothing; 3], 9);
+    let (mut texts, mut size) = ([b'.'; 5], 9);
+    let word = word.as_bytes();
+    let status = if are_scores {
+        c_calls::write_scores(
+            alloc,
+            &mut handle,
+            word,
+            &mut changes,
+            &mut count,
+            &mut texts,
+            &mut size,
+        )
+    } else {
+        c_calls::write_exception(
+            alloc,
+            &mut handle,
+            word,
+            &mut changes,
+            &mut count,
+            &mut texts,
+            &mut size,
+        )
+    };
+    c_calls::free(alloc, &mut handle);
+    let numbers = [
+        numbers_with_change(changes[0]),
+        numbers_with_change(changes[1]),
+        numbers_with_change(changes[2]),
+    ];
+    (status, [count, size], numbers, texts)
+}
+
+const UNTOUCHED: [usize; 6] = [9, 9, 9, 9, 9, 9];
+
+const NUMBERED: [(&str, u32, &str, &str, bool, Numbered); 6] = [
+    (
+        "the breaks of an exception are written as they are listed",
+        0,
+        ENGLISH,
+        "hyphenation",
+        false,
+        (
+            0,
+            [3, 0],
+            [[2, 0, 0, 0, 0, 0], [6, 0, 0, 0, 0, 0], [7, 0, 0, 0, 0, 0]],
+            *b".....",
+        ),
+    ),
+    (
+        "a word is no exception by another one in small letters",
+        0,
+        ENGLISH,
+        "Hyphenation",
+        false,
+        (10, [9, 9], [UNTOUCHED; 3], *b"....."),
+    ),
+    (
+        "a listed change is told from none, also where it changes nothing",
+        1,
+        LISTED,
+        "kilim",
+        false,
+        (
+            0,
+            [2, 1],
+            [[2, 1, 0, 0, 0, 0], [3, 1, 1, 0, 1, 1], UNTOUCHED],
+            *b"x....",
+        ),
+    ),
+    (
+        "a score of an extended dictionary has the change of its winner",
+        1,
+        LISTED,
+        "nnya",
+        true,
+        (
+            0,
+            [3, 4],
+            [[1, 1, 1, 2, 2, 4], [0, 0, 0, 0, 0, 0], [0, 0, 0, 0, 0, 0]],
+            *b"nyny.",
+        ),
+    ),
+    (
+        "no exception decides a score",
+        0,
+        FIRKIN,
+        "kin",
+        true,
+        (
+            0,
+            [2, 0],
+            [[2, 0, 0, 0, 0, 0], [0, 0, 0, 0, 0, 0], UNTOUCHED],
+            *b".....",
+        ),
+    ),
+    (
+        "a buffer that is too short stays as it was",
+        0,
+        FIRKIN,
+        "firkin",
+        true,
+        (1, [5, 0], [UNTOUCHED; 3], *b"....."),
+    ),
+];
+
+#[test]
+fn exceptions_and_scores_are_written(rt: HostRuntime) -> Result<(), Fail> {
+    for (case, kind, text, word, are_scores, wanted) in &NUMBERED {
+        let found = numbered_of(rt.alloc(), *kind, text, word, *are_scores);
+        expect_equal_in(case, &found, wanted)?;
+    }
+    Ok(())
 }
 
 // A text that a call writes: the status, the count and the buffer.
