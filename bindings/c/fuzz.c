@@ -20,6 +20,7 @@ int LLVMFuzzerTestOneInput(const uint8_t *data, size_t size) {
   static uint8_t page[ROOM], again[ROOM];
   static size_t places[ROOM], list[2 * ROOM];
   static hyphenation_change changes[ROOM];
+  static hyphenation_numbered numbered[ROOM];
   if (size < 2) return 0;
   uint32_t kind = data[0] & 1, cause = 0, status;
   const uint8_t *text = data + 1, *word = memchr(text, 0, size - 1);
@@ -62,6 +63,17 @@ int LLVMFuzzerTestOneInput(const uint8_t *data, size_t size) {
   need(listed == (!rest ? HYPHENATION_DONE : status == HYPHENATION_NOT_UTF8 ? status : HYPHENATION_BAD_ENDS));
   need(is_known(hyphenation_values(&h, word, rest, page, ROOM, &count)));
   need(is_known(hyphenation_changes(&h, word, rest, changes, ROOM, &count, page, ROOM, &texts)));
+  /* The scores have the values, and an exception is one as it is listed. */
+  uint32_t scored = hyphenation_scores(&h, word, rest, numbered, ROOM, &count, page, ROOM, &texts);
+  need(is_known(scored));
+  if (scored == HYPHENATION_DONE) {
+    need(hyphenation_values(&h, word, rest, again, ROOM, &found) == HYPHENATION_DONE && found == count);
+    for (size_t i = 0; i < count; i++) need(numbered[i].number == again[i] && numbered[i].changed <= kind);
+  }
+  status = hyphenation_exception(&h, word, rest, numbered, ROOM, &count, page, ROOM, &texts);
+  need(is_known(status) || status == HYPHENATION_NO_EXCEPTION);
+  for (size_t i = 0; status == HYPHENATION_DONE && i < count; i++)
+    need(numbered[i].number <= rest && numbered[i].left <= numbered[i].number && numbered[i].breakpoint <= numbered[i].length);
   need(is_known(hyphenation_text(&h, word, rest, (const uint8_t *)"-", 1, page, ROOM, &count)));
   need(is_known(hyphenation_fill(&h, word, rest, 8, page, ROOM, &count)));
   need(hyphenation_share(&h, &o) == HYPHENATION_DONE);

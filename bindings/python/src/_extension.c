@@ -19,8 +19,8 @@
 
 #define CALLS(EACH)                                                                                                        \
   EACH(kind_of) EACH(load) EACH(load_dic) EACH(load_patterns) EACH(free) EACH(share) EACH(make_table) EACH(edit)           \
-  EACH(language) EACH(minima) EACH(breaks) EACH(breaks_of_words) EACH(values) EACH(changes) EACH(text) EACH(fill)          \
-  EACH(write) EACH(paths) EACH(cause_message)
+  EACH(language) EACH(minima) EACH(breaks) EACH(breaks_of_words) EACH(values) EACH(changes) EACH(exception) EACH(text)     \
+  EACH(fill) EACH(write) EACH(paths) EACH(cause_message)
 static struct {
 #define DECLARE(name) __typeof__(&hyphenation_##name) name;
   CALLS(DECLARE)
@@ -184,6 +184,51 @@ static PyObject *changes(PyObject *self, PyObject *word) {
   if (found != usual) free(found);
   if (texts != usual_texts) free(texts);
   return pair;
+}
+
+/* The tuple of a listed break, whose text begins at `text`. */
+static PyObject *tuple_of_listed(const hyphenation_numbered *it, const uint8_t *word, const uint8_t *text) {
+  hyphenation_change change = {it->number, it->number - it->left, it->number + it->right, it->breakpoint,
+                               it->length - it->breakpoint};
+  return tuple_of(&change, word, text);
+}
+
+static PyObject *list_of_listed(const hyphenation_numbered *found, size_t count, const uint8_t *word, const uint8_t *texts) {
+  PyObject *list = PyList_New((Py_ssize_t)count);
+  for (size_t i = 0; list && i < count; texts += found[i++].length) {
+    PyObject *tuple = tuple_of_listed(&found[i], word, texts);
+    if (!tuple || PyList_SetItem(list, (Py_ssize_t)i, tuple)) {
+      Py_DECREF(list);
+      return NULL;
+    }
+  }
+  return list;
+}
+
+static PyObject *exception(PyObject *self, PyObject *word) {
+  enum { TEXTS = 512 };
+  hyphenation_numbered usual[USUAL], *found = usual;
+  uint8_t usual_texts[TEXTS], *texts = usual_texts;
+  size_t length, count = 0, texts_count = 0;
+  const uint8_t *text = utf8_of(word, &length);
+  PyObject *list = NULL;
+  if (!text) return NULL;
+  uint32_t status = calls.exception(OF(self), text, length, found, USUAL, &count, texts, TEXTS, &texts_count);
+  if (status == HYPHENATION_NO_ROOM) {
+    size_t room = count, texts_room = texts_count;
+    if (!(found = room_for(room, sizeof *found))) return NULL;
+    if (!(texts = room_for(texts_room, 1))) {
+      free(found);
+      return NULL;
+    }
+    status = calls.exception(OF(self), text, length, found, room, &count, texts, texts_room, &texts_count);
+  }
+  if (status == HYPHENATION_NO_EXCEPTION) list = Py_NewRef(Py_None);
+  else if (status != HYPHENATION_DONE) fail(status);
+  else list = list_of_listed(found, count, text, texts);
+  if (found != usual) free(found);
+  if (texts != usual_texts) free(texts);
+  return list;
 }
 
 /* ---- A list of words. */
@@ -527,6 +572,7 @@ static PyMethodDef methods[] = {
     {"positions", positions, METH_O, NULL},
     {"positions_of", positions_of, METH_O, NULL},
     {"changes", changes, METH_O, NULL},
+    {"exception", exception, METH_O, NULL},
     {"values", values, METH_O, NULL},
     {"text", text, METH_VARARGS, NULL},
     {"fill", fill, METH_VARARGS, NULL},

@@ -44,6 +44,19 @@ pub struct RawChange {
     pub after: usize,
 }
 
+/// A number with a change, or with none: a place or a value, and of the change how many bytes before the place and after it
+/// it takes, and of its text how many bytes stand before the break, and the length.
+#[repr(C)]
+#[derive(Clone, Copy, Default)]
+pub struct RawNumbered {
+    pub number: usize,
+    pub changed: usize,
+    pub left: usize,
+    pub right: usize,
+    pub breakpoint: usize,
+    pub length: usize,
+}
+
 #[repr(C)]
 struct RawPatterns {
     kind: u32,
@@ -72,6 +85,7 @@ const OUT_OF_MEMORY: u32 = 2;
 const REFUSED: u32 = 5;
 const NO_LANGUAGE: u32 = 7;
 const NO_MINIMA: u32 = 9;
+const NO_EXCEPTION: u32 = 10;
 
 /// The kinds of dictionaries.
 pub const STANDARD: u32 = 0;
@@ -153,6 +167,28 @@ extern "C" {
         texts_capacity: usize,
         texts_count: *mut usize,
     ) -> u32;
+    fn hyphenation_exception(
+        handle: *mut Raw,
+        word: *const u8,
+        length: usize,
+        changes: *mut RawNumbered,
+        capacity: usize,
+        count: *mut usize,
+        texts: *mut u8,
+        texts_capacity: usize,
+        texts_count: *mut usize,
+    ) -> u32;
+    fn hyphenation_scores(
+        handle: *mut Raw,
+        word: *const u8,
+        length: usize,
+        changes: *mut RawNumbered,
+        capacity: usize,
+        count: *mut usize,
+        texts: *mut u8,
+        texts_capacity: usize,
+        texts_count: *mut usize,
+    ) -> u32;
     fn hyphenation_text(
         handle: *mut Raw,
         text: *const u8,
@@ -198,6 +234,8 @@ pub enum Failure {
     Refused { file: usize, line: usize, cause: u32 },
     /// A minimum is neither given nor in the head of the file.
     NoMinima,
+    /// The word is no exception.
+    NoException,
 }
 
 // Whether a call is done. No status comes of a handle without a dictionary, of a text that is not UTF-8, or of ends that
@@ -208,6 +246,7 @@ fn checked(status: u32, fault: RawFault) -> Result<(), Failure> {
         OUT_OF_MEMORY => Err(Failure::Memory),
         REFUSED => Err(Failure::Refused { file: fault.file, line: fault.line, cause: fault.cause }),
         NO_MINIMA => Err(Failure::NoMinima),
+        NO_EXCEPTION => Err(Failure::NoException),
         _ => unreachable!("{}", status_message(status)),
     }
 }
@@ -472,6 +511,53 @@ impl Raw {
             // SAFETY: the handle is lent to this call alone, the word is a slice, and the buffers and the counts are local.
             unsafe {
                 hyphenation_changes(
+                    self,
+                    word.as_ptr(),
+                    word.len(),
+                    changes.0,
+                    changes.1,
+                    changes.2,
+                    texts.0,
+                    texts.1,
+                    texts.2,
+                )
+            }
+        })?;
+        Ok((changes, text_of(texts)))
+    }
+
+    /// The breaks that are listed for a word, with their changes, and the texts of these, one after the other; none if the
+    /// word is no exception.
+    pub fn exception(&mut self, word: &str) -> Result<Option<(Vec<RawNumbered>, String)>, Failure> {
+        let found = both_filled((8, 32), |changes, texts| {
+            // SAFETY: the handle is lent to this call alone, the word is a slice, and the buffers and the counts are local.
+            unsafe {
+                hyphenation_exception(
+                    self,
+                    word.as_ptr(),
+                    word.len(),
+                    changes.0,
+                    changes.1,
+                    changes.2,
+                    texts.0,
+                    texts.1,
+                    texts.2,
+                )
+            }
+        });
+        match found {
+            Ok((changes, texts)) => Ok(Some((changes, text_of(texts)))),
+            Err(Failure::NoException) => Ok(None),
+            Err(failure) => Err(failure),
+        }
+    }
+
+    /// The values of a word's places, from place 1 on, with their changes, and the texts of these, one after the other.
+    pub fn scores(&mut self, word: &str) -> Result<(Vec<RawNumbered>, String), Failure> {
+        let (changes, texts) = both_filled((word.len(), 32), |changes, texts| {
+            // SAFETY: the handle is lent to this call alone, the word is a slice, and the buffers and the counts are local.
+            unsafe {
+                hyphenation_scores(
                     self,
                     word.as_ptr(),
                     word.len(),

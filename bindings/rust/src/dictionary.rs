@@ -7,8 +7,8 @@ use crate::language::Language;
 use crate::load::{Error, Result};
 use crate::search;
 use crate::shared::Shared;
-use crate::text::{escaped, exceptions, Listed, Patterns};
-use std::collections::HashMap;
+use crate::text::{escaped, Listed};
+use std::marker::PhantomData;
 use std::sync::OnceLock;
 use std::{fs, io, result};
 
@@ -16,12 +16,9 @@ use std::{fs, io, result};
 pub(crate) struct Inner<E> {
     shared: Shared,
     language: Language,
-    // The library has no call for these: the exceptions, and the patterns of an extended dictionary. They are read from the
-    // canonical text at the first call that asks for them.
-    exceptions: OnceLock<HashMap<String, Vec<E>>>,
-    patterns: OnceLock<Patterns>,
     // The changes that breaks refer to, up to the next edit.
     known: OnceLock<Known>,
+    listed: PhantomData<fn() -> E>,
 }
 
 /// The result of a call that fails only if memory was refused. It panics then, as Rust's own lists end the program.
@@ -40,13 +37,7 @@ fn number(minimum: Option<u8>) -> u32 {
 
 impl<E: Listed> Inner<E> {
     fn of(raw: Raw, language: Language) -> Inner<E> {
-        Inner {
-            shared: Shared::of(raw),
-            language,
-            exceptions: OnceLock::new(),
-            patterns: OnceLock::new(),
-            known: OnceLock::new(),
-        }
+        Inner { shared: Shared::of(raw), language, known: OnceLock::new(), listed: PhantomData }
     }
 
     // ---- Loading.
@@ -145,48 +136,39 @@ impl<E: Listed> Inner<E> {
         self.known.get_or_init(Known::new).keep(subregion)
     }
 
-    /// The changes of a word's places, which have these values.
-    pub(crate) fn changes(&self, word: &str, values: &[u8]) -> Vec<Option<&Subregion>> {
-        self.patterns.get_or_init(|| Patterns::of_text(&self.text())).changes(word, values)
-    }
-
     // ---- Exceptions.
 
-    fn exceptions(&self) -> &HashMap<String, Vec<E>> {
-        self.exceptions.get_or_init(|| exceptions(&self.text()))
-    }
-
     /// The breaks that are listed for a word, if it is an exception.
-    pub(crate) fn listed(&self, word: &str) -> Option<&[E]> {
-        self.exceptions().get(word).map(Vec::as_slice)
+    pub(crate) fn listed(&self, word: &str) -> Option<Vec<E>> {
+        let (numbered, texts) = self.ask(|raw| raw.exception(word))?;
+        Some(E::of_numbered(&numbered, &texts))
     }
 
-    // Does an edit, and returns the exceptions, in which it is still to be done.
-    fn edited(&mut self, edit: &str) -> Option<&mut HashMap<String, Vec<E>>> {
-        // They are read before the edit.
-        self.exceptions();
+    // Does an edit, and returns whether it is good.
+    fn edit(&mut self, edit: &str) -> bool {
         match self.shared.change(|raw| raw.edit(edit)) {
-            Err(Failure::Refused { .. }) => return None,
+            Err(Failure::Refused { .. }) => return false,
             result => done(result),
         }
         // No break refers to these any more.
         self.known = OnceLock::new();
-        self.exceptions.get_mut()
+        true
     }
 
     /// Lists breaks for a word, and returns those that were listed.
     pub(crate) fn list(&mut self, word: String, breaks: Vec<E>) -> Option<Vec<E>> {
         let tokens: Vec<String> = std::iter::once(escaped(&word)).chain(breaks.iter().map(E::to_token)).collect();
-        match self.edited(&format!("+{}", tokens.join(" "))) {
-            Some(exceptions) => exceptions.insert(word, breaks),
-            None => panic!("these breaks may not be listed for {word:?}: {}", tokens[1..].join(" ")),
+        let before = self.listed(&word);
+        if !self.edit(&format!("+{}", tokens.join(" "))) {
+            panic!("these breaks may not be listed for {word:?}: {}", tokens[1..].join(" "));
         }
+        before
     }
 
     /// Removes a word from the exceptions, and returns the breaks that were listed.
     pub(crate) fn unlist(&mut self, word: &str) -> Option<Vec<E>> {
-        self.listed(word)?;
-        self.edited(&format!("-{}", escaped(word)))?.remove(word)
+        let before = self.listed(word)?;
+        self.edit(&format!("-{}", escaped(word))).then_some(before)
     }
 
     pub(crate) fn make_table(&mut self) {

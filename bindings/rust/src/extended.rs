@@ -1,6 +1,6 @@
 //! Dictionaries whose breaks may change the letters around them.
 
-use crate::calls::{Raw, RawChange, EXTENDED};
+use crate::calls::{Raw, RawChange, RawNumbered, EXTENDED};
 use crate::dictionary::{dictionary, Inner};
 use crate::hyphenator::{is_plain, known_or_found, Hyphenator, Word};
 use crate::score::Score;
@@ -41,6 +41,19 @@ fn subregion(change: &RawChange, texts: &str) -> Option<Subregion> {
     })
 }
 
+/// Numbers with their changes, whose texts stand one after the other.
+pub(crate) fn with_changes(numbered: &[RawNumbered], texts: &str) -> Vec<(usize, Option<Subregion>)> {
+    let mut rest = texts;
+    let changes = numbered.iter().map(|it| {
+        let (own, after) = rest.split_at(it.length);
+        rest = after;
+        let substitution = own.to_owned();
+        let change = Subregion { left: it.left, right: it.right, substitution, breakpoint: it.breakpoint };
+        (it.number, (it.changed != 0).then_some(change))
+    });
+    changes.collect()
+}
+
 impl<'h> Hyphenator<'h> for Extended {
     type Opportunity = (usize, Option<&'h Subregion>);
     type Exact = (usize, Option<Subregion>);
@@ -78,8 +91,9 @@ impl<'h> Hyphenator<'h> for Extended {
         lowercase_word: &str,
         bounds: (usize, usize),
     ) -> Option<Vec<(usize, Option<&'h Subregion>)>> {
-        let listed = self.0.listed(lowercase_word)?.iter().map(|(place, change)| (*place, change.as_ref()));
-        Some(listed.filter(|(place, _)| bounds.0 <= *place && *place <= bounds.1).collect())
+        let listed = self.0.listed(lowercase_word)?.into_iter();
+        let within = listed.filter(|(place, _)| bounds.0 <= *place && *place <= bounds.1);
+        Some(within.map(|(place, change)| (place, change.map(|it| self.0.keep(it)))).collect())
     }
 
     fn add_exception(
@@ -103,9 +117,9 @@ impl<'d> Score<'d> for Extended {
     type Value = (u8, Option<&'d Subregion>);
 
     fn score(&'d self, word: &str) -> Vec<(u8, Option<&'d Subregion>)> {
-        let values = self.0.ask(|raw| raw.values(word));
-        let changes = self.0.changes(word, &values);
-        values.into_iter().zip(changes).collect()
+        let (numbered, texts) = self.0.ask(|raw| raw.scores(word));
+        let scores = with_changes(&numbered, &texts).into_iter();
+        scores.map(|(value, change)| (value as u8, change.map(|it| self.0.keep(it)))).collect()
     }
 
     fn denotes_opportunity((value, _): (u8, Option<&'d Subregion>)) -> bool {

@@ -106,6 +106,7 @@ impl From<Failure> for Error {
             }
             Failure::NoMinima => Error::Deserialization(Fault { file: 0, line: 0, cause: calls::no_minima_message() }),
             Failure::Memory => Error::IO(io::Error::new(io::ErrorKind::OutOfMemory, calls::memory_message())),
+            Failure::NoException => unreachable!("a call that loads asks for no exception"),
         }
     }
 }

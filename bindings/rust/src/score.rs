@@ -10,8 +10,7 @@ pub trait Score<'d> {
 
     /// The values of a word's places, from place 1 on, by the patterns alone. A place is a number of bytes.
     ///
-    /// Neither exceptions nor minima are looked at, and capitals are not read as small letters. An extended dictionary looks
-    /// up the changes in its canonical text, which is read at the first call.
+    /// Neither exceptions nor minima are looked at, and capitals are not read as small letters.
     ///
     /// # Panics
     ///

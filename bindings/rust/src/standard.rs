@@ -57,7 +57,7 @@ impl<'h> Hyphenator<'h> for Standard {
     }
 
     fn exception_within(&'h self, lowercase_word: &str, bounds: (usize, usize)) -> Option<Vec<usize>> {
-        let listed = self.0.listed(lowercase_word)?.iter().copied();
+        let listed = self.0.listed(lowercase_word)?.into_iter();
         Some(listed.filter(|place| bounds.0 <= *place && *place <= bounds.1).collect())
     }
 

@@ -11,7 +11,7 @@ from ctypes import POINTER, addressof, byref, c_bool, c_char_p, c_size_t, c_uint
 from itertools import accumulate
 from typing import Any, Callable, List, Optional, Tuple
 
-from ._results import DONE, NO_ROOM, Loaded, fail, library_path, positions
+from ._results import DONE, NO_EXCEPTION, NO_ROOM, Loaded, fail, library_path, positions
 
 
 class _Held(ctypes.Structure):
@@ -63,6 +63,7 @@ _changes = _declare(_SHORT, "changes")
 _changes.argtypes = None  # type: ignore[attr-defined]
 _breaks_of_words = _declare(_LONG, "breaks_of_words", _HANDLE, *_TEXT, c_void_p, c_size_t, *_BUFFER, *_BUFFER)
 _values = _declare(_SHORT, "values", _HANDLE, *_TEXT, *_BUFFER)
+_exception = _declare(_SHORT, "exception", _HANDLE, *_TEXT, *_BUFFER, *_BUFFER)
 _text = _declare(_LONG, "text", _HANDLE, *_TEXT, *_TEXT, *_BUFFER)
 _fill = _declare(_LONG, "fill", _HANDLE, *_TEXT, c_size_t, *_BUFFER)
 _write = _declare(_LONG, "write", _HANDLE, *_BUFFER)
@@ -285,6 +286,34 @@ class Handle:
         """Returns the values of a word's places."""
         text = _encoded(word)
         return _written(max(len(text), 1), _values, self._at, text, len(text))
+
+    def exception(self, word: str) -> Optional[List[Tuple[int, int, int, str, str]]]:
+        """Returns the breaks that are listed for a word; none if it is no exception."""
+        text = _encoded(word)
+        room, texts_room, count, length = 64, 512, c_size_t(), c_size_t()
+        while True:
+            # Each break is six numbers: its place, whether there is a change, what it takes, and of its text.
+            numbered, texts = (c_size_t * (6 * room))(), ctypes.create_string_buffer(texts_room)
+            status = _exception(
+                self._at, text, len(text), addressof(numbered), room, byref(count), addressof(texts), texts_room,
+                byref(length),
+            )
+            if status != NO_ROOM:
+                break
+            room, texts_room = max(count.value, 1), max(length.value, 1)
+        if status == NO_EXCEPTION:
+            return None
+        _check(status)
+        found, begin = [], 0
+        for at in range(0, 6 * count.value, 6):
+            place, _, left, right, breakpoint, size = numbered[at:at + 6]
+            middle, end = begin + breakpoint, begin + size
+            found.append((
+                len(text[:place].decode()), len(text[:place - left].decode()), len(text[:place + right].decode()),
+                texts.raw[begin:middle].decode(), texts.raw[middle:end].decode(),
+            ))
+            begin = end
+        return found
 
     def text(self, text: str, mark: str) -> str:
         """Returns a text with the mark at each break of its words."""

@@ -4,7 +4,7 @@ import os
 from typing import Callable, List, NamedTuple, NoReturn, Tuple
 
 DONE, NO_ROOM, OUT_OF_MEMORY, NO_DICTIONARY, NOT_UTF8, REFUSED, OTHER_KIND, NO_LANGUAGE = range(8)
-BAD_ENDS, NO_MINIMA = 8, 9
+BAD_ENDS, NO_MINIMA, NO_EXCEPTION = 8, 9, 10
 STANDARD, EXTENDED, NO_KIND = range(3)
 
 #: The results of a call that loads: its status, the file and the line of a fault, and the cause.
