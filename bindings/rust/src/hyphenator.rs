@@ -67,12 +67,13 @@ pub trait Hyphenator<'h> {
     /// The least numbers of characters before the first break of a word, and after its last one.
     fn unbreakable_chars(&self) -> (usize, usize);
 
-    /// The first and the last place at which the minima let a word be broken; none if it has too few characters.
+    /// The first and the last place at which the minima let a word be broken; none if it has too few characters. The last
+    /// one is before the word's last character at most.
     fn boundaries(&self, word: &str) -> Option<(usize, usize)> {
         let (left, right) = self.unbreakable_chars();
-        let places: Vec<usize> = word.char_indices().map(|(place, _)| place).chain([word.len()]).collect();
-        let last = (places.len() - 1).checked_sub(right)?;
-        (left <= last).then(|| (places[left], places[last]))
+        let places: Vec<usize> = word.char_indices().map(|(place, _)| place).collect();
+        let has_room = left < places.len() && left + right <= places.len();
+        has_room.then(|| (places[left], places[places.len() - right.max(1)]))
     }
 }
 
