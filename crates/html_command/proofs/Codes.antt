@@ -1,10 +1,10 @@
 -- The dictionaries that folders have for codes.
-use Rattle.std.proofs.Common.{◌≡◌, ◌∙◌, ℕ, ◌+◌, ◌<◌, List, [], ◌∷◌, ◌++◌, length, map, take, get_or, refl, sym, ap, subst, inl, inr, append_assoc, append-nil}
+use Rattle.std.proofs.Common.{◌≡◌, ◌∙◌, ℕ, ◌+◌, ◌<◌, ◌≤◌, ◌==◌, Bool, false, List, [], ◌∷◌, ◌++◌, length, map, take, get_or, refl, sym, ap, subst, inl, inr, append_assoc, append-nil}
 use Rattle.std.specs.Option.{option_map_or}
 use Rattle.std.specs.Prelude.{Contains, None, Some}
 use Rattle.std.specs.String.{string_bytes}
 use Rattle.std.specs.declared.string.String.{String}
-use Rattle.std.proofs.lemmas.List.{get_or-map, length-map, map_more}
+use Rattle.std.proofs.lemmas.List.{get_or-map, length-map, map_more, take_all}
 use Rattle.std.proofs.lemmas.List.Elements.{All-append, All-cons, All-nil, All-push, All-weaker, Contains-append_left, Contains-append_right, Contains-get_or, Contains-push}
 use Rattle.command_line.specs.Dictionaries.{KnownFiles}
 use Rattle.hyphenation_html.specs.declared.languages.LanguageDictionary.{LanguageDictionary}
@@ -88,9 +88,21 @@ named_more bytes_of folders tag named names i name first before all lt at same f
     map_more string_bytes names i name lt ∙ ap (λ n. map string_bytes (take i names) ++ n ∷ []) (ap string_bytes (sym at) ∙ sym same) in
     let P : List ℕ → Type 0 = λ tag. IsServed bytes_of folders (map code_of all) (codes_of tag) in
     let kept : AreServed bytes_of folders (map code_of all) (tag ∷ map string_bytes (take i names)) =
-    served_still bytes_of folders (map code_of before) (map code_of all) (tag ∷ map string_bytes (take i names)) (begins_added bytes_of folders tags before all added) served in
-    (adds_more bytes_of folders tags first before all found added,
-    subst (λ names. AreServed bytes_of folders (map code_of all) (tag ∷ names)) (sym longer) (All-push P (tag ∷ map string_bytes (take i names)) named kept now))
+    served_still bytes_of folders (map code_of before) (map code_of all) (tag ∷ map string_bytes (take i names)) (begins_added bytes_of folders tags before all added) served in (
+      adds_more bytes_of folders tags first before all found added,
+      subst (λ names. AreServed bytes_of folders (map code_of all) (tag ∷ names)) (sym longer) (All-push P (tag ∷ map string_bytes (take i names)) named kept now),
+    )
+
+-- All tags of the page.
+pub found_for_all : {Z : Type 0} (bytes_of : KnownFiles) (folders : List (List ℕ)) (tag : List ℕ) (names items : List (String Z)) (named : List (List ℕ)) (before all : List LanguageDictionary)
+    → names ≡ items → map string_bytes items ≡ named → AddsFound bytes_of folders (tag ∷ map string_bytes names) before all → AddsFound bytes_of folders (tag ∷ named) before all
+found_for_all bytes_of folders tag names items named before all same are found =
+    subst (λ tags. AddsFound bytes_of folders (tag ∷ tags) before all) (ap (map string_bytes) same ∙ are) found
+
+pub served_all : {Z : Type 0} (bytes_of : KnownFiles) (folders there : List (List ℕ)) (tag : List ℕ) (names items : List (String Z)) (named : List (List ℕ)) (i : ℕ) → length names ≤ i
+    → names ≡ items → map string_bytes items ≡ named → AreServed bytes_of folders there (tag ∷ map string_bytes (take i names)) → AreServed bytes_of folders there (tag ∷ named)
+served_all bytes_of folders there tag names items named i le same are served =
+    subst (λ tags. AreServed bytes_of folders there (tag ∷ tags)) (ap (map string_bytes) (take_all i names le ∙ same) ∙ are) served
 
 -- ---- the dictionaries of a run
 
@@ -128,10 +140,17 @@ none_parsed : (given : List GivenDictionary) → map parsed_dictionary given ≡
 none_parsed [] e = refl
 none_parsed (one ∷ given) e = absurd (cc e)
 
+pub given_some : (given : List GivenDictionary) (n : ℕ) (none : Bool) → n ≡ length given → none ≡ (n == 0) → none ≡ false → given ≡ [] → ⊥
+given_some [] n none same is not nothing = absurd (cc (sym not ∙ is ∙ ap (λ m. m == 0) same))
+given_some (one ∷ given) n none same is not nothing = absurd (cc nothing)
+
 -- No dictionary but the given ones.
 pub given_only : (bytes_of : KnownFiles) (args : ParsedOptions) (usual tags : List (List ℕ))
     (given : List GivenDictionary) (all : List LanguageDictionary) → args.given ≡ map parsed_dictionary given → (given ≡ [] → ⊥) → args.folder ≡ None
     → AreGiven bytes_of (map parsed_dictionary given) all → AreDictionariesFor bytes_of args usual tags all
-given_only bytes_of args usual tags given all e some none h =
-    (all, subst (λ given. AreGiven bytes_of given all) (sym e) h, ([], sym (append-nil all), All-nil (IsFoundIn bytes_of (folders_for args usual) tags)),
-    λ searched. absurd (not_searched args (λ nothing. some (none_parsed given (sym e ∙ nothing))) none searched))
+given_only bytes_of args usual tags given all e some none h = (
+  all,
+  subst (λ given. AreGiven bytes_of given all) (sym e) h,
+  ([], sym (append-nil all), All-nil (IsFoundIn bytes_of (folders_for args usual) tags)),
+  λ searched. absurd (not_searched args (λ nothing. some (none_parsed given (sym e ∙ nothing))) none searched),
+)

@@ -63,15 +63,9 @@ pub writes_so : {W S : Type 0} (args : ParsedArgs) (bytes_of : KnownFiles) (usua
     → AppendsTo contents old new (output_of args.options.target given)
     → WritesFiles (written old_files) (written new_files) (files_of args.options.target names given)
     → WritesNoted args bytes_of usual left notes contents old new written old_files new_files
-writes_so args bytes_of usual left results contents old new written old_files new_files names given notes n r are noted output files = (
-  results,
-  are,
-  noted,
-  given,
-  r,
-  output,
-  subst (λ (ns : List (List ℕ)). WritesFiles (written old_files) (written new_files) (files_of args.options.target ns given)) n files,
-)
+writes_so args bytes_of usual left results contents old new written old_files new_files names given notes n r are noted output files =
+    let so = subst (λ (ns : List (List ℕ)). WritesFiles (written old_files) (written new_files) (files_of args.options.target ns given)) n files in
+    (results, are, noted, (given, r, output, so))
 
 pub fails_so : {S A : Type 0} (args : ParsedArgs) (bytes_of : KnownFiles) (usual : List (List ℕ)) (left : Option (List ℕ)) (results : List MarkedPage)
     (written : S → Option WrittenFiles) (old_files new_files : S) (names given : List (List ℕ)) (error returned : Failure) (result : Result A Failure)

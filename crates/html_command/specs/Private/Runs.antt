@@ -1,5 +1,5 @@
 -- The steps of a run.
-use Rattle.std.specs.Prelude.{◌≡◌, ◌⊎◌, ℕ, List, map, Contains, Option, ⊤}
+use Rattle.std.specs.Prelude.{◌≡◌, ℕ, List, map, Option, ⊤}
 use Rattle.std.specs.Borrow.{Bor}
 use Rattle.std.specs.String.{string_bytes}
 use Rattle.std.specs.declared.string.String.{String}
