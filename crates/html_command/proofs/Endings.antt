@@ -12,22 +12,24 @@ use Rattle.command_line.specs.declared.options.OptionForm.{OptionForm}
 use Rattle.hyphenation_load.specs.Load.{AppendsTo}
 use Rattle.replaced_files.specs.Files.{WrittenFiles, WritesFiles}
 use Rattle.html_command.specs.Arguments.{ParsedArgs, IsParsed, language_words, names_of, option_names, parsed_by}
-use Rattle.html_command.specs.Notes.{notes_text}
+use Rattle.html_command.specs.Notes.{MarkedPage, notes_of, notes_text, texts_of}
+use Rattle.html_command.specs.Private.Runs.{WritesNoted}
 use Rattle.html_command.specs.declared.TheConstants.{NAME}
 use Rattle.html_command.specs.declared.notes.PageNote.{PageNote}
-use Rattle.html_command.specs.Written.{AreResults, EndsFor, IsFailureBefore, names_files_alone}
-use Rattle.text_results.specs.Written.{IsFailureFor, IsFailureOfWriting, WritesResults, files_of, output_of}
+use Rattle.html_command.specs.Written.{AreResults, AreTextsOfResults, EndsFor, IsFailureBefore, names_files_alone}
+use Rattle.text_results.specs.Written.{IsFailureFor, IsFailureOfWriting, files_of, output_of}
 
 pub ends_done : {W S : Type 0} (parsed : Result ParsedArgs RefusedArgument) (args : ParsedArgs) (bytes_of : KnownFiles) (usual : List (List ℕ)) (left : Option (List ℕ))
     (EndsSo : End → Type 0) (contents : W → Option (List ℕ)) (old new : W) (written : S → Option WrittenFiles) (old_files new_files : S) (notes : List PageNote) → parsed ≡ Ok args
-    → EndsSo (Done (notes_text NAME.now args.inputs notes)) → WritesResults (AreResults args bytes_of usual left) args.options.target args.inputs contents old new written old_files new_files
+    → EndsSo (Done (notes_text NAME.now args.inputs notes)) → WritesNoted args bytes_of usual left notes contents old new written old_files new_files
     → EndsFor parsed bytes_of usual left EndsSo contents old new written old_files new_files
-ends_done parsed args bytes_of usual left EndsSo contents old new written old_files new_files notes e done writes =
-    subst (λ (p : Result ParsedArgs RefusedArgument). EndsFor p bytes_of usual left EndsSo contents old new written old_files new_files) (sym e) (inl ((notes, done), writes))
+ends_done parsed args bytes_of usual left EndsSo contents old new written old_files new_files notes e done (results, are, noted, writes) =
+    subst (λ (p : Result ParsedArgs RefusedArgument). EndsFor p bytes_of usual left EndsSo contents old new written old_files new_files) (sym e)
+    (inl (results, are, subst (λ (ns : List PageNote). EndsSo (Done (notes_text NAME.now args.inputs ns))) noted done, writes))
 
 pub ends_by : {W S : Type 0} (parsed : Result ParsedArgs RefusedArgument) (args : ParsedArgs) (bytes_of : KnownFiles) (usual : List (List ℕ)) (left : Option (List ℕ))
     (EndsSo : End → Type 0) (failure : Failure) (contents : W → Option (List ℕ)) (old new : W) (written : S → Option WrittenFiles) (old_files new_files : S) → parsed ≡ Ok args
-    → EndsSo (Fails failure) → IsFailureFor (AreResults args bytes_of usual left) (IsFailureBefore args bytes_of usual left) args.options.target args.inputs written old_files new_files failure → ((failure ≡ failed.Output) ⊎ (new ≡ old))
+    → EndsSo (Fails failure) → IsFailureFor (AreTextsOfResults args bytes_of usual left) (IsFailureBefore args bytes_of usual left) args.options.target args.inputs written old_files new_files failure → ((failure ≡ failed.Output) ⊎ (new ≡ old))
     → EndsFor parsed bytes_of usual left EndsSo contents old new written old_files new_files
 ends_by parsed args bytes_of usual left EndsSo failure contents old new written old_files new_files e s fails kept =
     subst (λ (p : Result ParsedArgs RefusedArgument). EndsFor p bytes_of usual left EndsSo contents old new written old_files new_files) (sym e) (inr (failure, s, fails, kept))
@@ -55,29 +57,26 @@ parsed_ends args expected forms bytes_of usual left before after EndsSo contents
     (parsed_by expected forms args, (expected, forms, words, names, refl), ends, unread)
 
 -- The results of a run, as they are handed on to be written.
-pub writes_so : {W S : Type 0} (args : ParsedArgs) (bytes_of : KnownFiles) (usual : List (List ℕ)) (left : Option (List ℕ))
-    (contents : W → Option (List ℕ)) (old new : W) (written : S → Option WrittenFiles) (old_files new_files : S) (names given results : List (List ℕ))
-    → names ≡ args.inputs → given ≡ results → AreResults args bytes_of usual left results
+pub writes_so : {W S : Type 0} (args : ParsedArgs) (bytes_of : KnownFiles) (usual : List (List ℕ)) (left : Option (List ℕ)) (results : List MarkedPage)
+    (contents : W → Option (List ℕ)) (old new : W) (written : S → Option WrittenFiles) (old_files new_files : S) (names given : List (List ℕ)) (notes : List PageNote)
+    → names ≡ args.inputs → given ≡ texts_of results → AreResults args bytes_of usual left results → notes ≡ notes_of results
     → AppendsTo contents old new (output_of args.options.target given)
     → WritesFiles (written old_files) (written new_files) (files_of args.options.target names given)
-    → WritesResults (AreResults args bytes_of usual left) args.options.target args.inputs contents old new written old_files new_files
-writes_so args bytes_of usual left contents old new written old_files new_files names given results n r are output files = (
-  given,
-  subst (λ (rs : List (List ℕ)). AreResults args bytes_of usual left rs) (sym r) are,
-  output,
-  subst (λ (ns : List (List ℕ)). WritesFiles (written old_files) (written new_files) (files_of args.options.target ns given)) n files,
-)
+    → WritesNoted args bytes_of usual left notes contents old new written old_files new_files
+writes_so args bytes_of usual left results contents old new written old_files new_files names given notes n r are noted output files =
+    let so = subst (λ (ns : List (List ℕ)). WritesFiles (written old_files) (written new_files) (files_of args.options.target ns given)) n files in
+    (results, are, noted, (given, r, output, so))
 
-pub fails_so : {S A : Type 0} (args : ParsedArgs) (bytes_of : KnownFiles) (usual : List (List ℕ)) (left : Option (List ℕ))
-    (written : S → Option WrittenFiles) (old_files new_files : S) (names given results : List (List ℕ)) (error returned : Failure) (result : Result A Failure)
-    → names ≡ args.inputs → given ≡ results → AreResults args bytes_of usual left results
+pub fails_so : {S A : Type 0} (args : ParsedArgs) (bytes_of : KnownFiles) (usual : List (List ℕ)) (left : Option (List ℕ)) (results : List MarkedPage)
+    (written : S → Option WrittenFiles) (old_files new_files : S) (names given : List (List ℕ)) (error returned : Failure) (result : Result A Failure)
+    → names ≡ args.inputs → given ≡ texts_of results → AreResults args bytes_of usual left results
     → IsFailureOfWriting args.options.target names given (written old_files) (written new_files) error → result ≡ Err returned → returned ≡ error
-    → IfErr result (IsFailureFor (AreResults args bytes_of usual left) (IsFailureBefore args bytes_of usual left) args.options.target args.inputs written old_files new_files)
-fails_so {S} {A} args bytes_of usual left written old_files new_files names given results error returned result n r are fails gives same =
-    let P : Failure → Type 0 = IsFailureFor (AreResults args bytes_of usual left) (IsFailureBefore args bytes_of usual left) args.options.target args.inputs written old_files new_files in
+    → IfErr result (IsFailureFor (AreTextsOfResults args bytes_of usual left) (IsFailureBefore args bytes_of usual left) args.options.target args.inputs written old_files new_files)
+fails_so {S} {A} args bytes_of usual left results written old_files new_files names given error returned result n r are fails gives same =
+    let P : Failure → Type 0 = IsFailureFor (AreTextsOfResults args bytes_of usual left) (IsFailureBefore args bytes_of usual left) args.options.target args.inputs written old_files new_files in
     let so : P error = inr (
       given,
-      subst (λ (rs : List (List ℕ)). AreResults args bytes_of usual left rs) (sym r) are,
+      (results, are, r),
       subst (λ (ns : List (List ℕ)). IsFailureOfWriting args.options.target ns given (written old_files) (written new_files) error) n fails,
     ) in
     subst (λ (o : Result A Failure). IfErr o P) (sym gives) (subst (λ (e : Failure). P e) (sym same) so)

@@ -11,7 +11,7 @@ use Rattle.html_command.specs.Private.Requests.{parsed_dictionary}
 use Rattle.html_command.specs.declared.request.GivenDictionary.{GivenDictionary}
 
 -- One pair more. (The standard library has it for two lists of one type.)
-pair_more : {X Y : Type 0} (R : X → Y → Type 0) (xs : List X) (ys : List Y) (x : X) (y : Y) → AllZip R xs ys → R x y → AllZip R (xs ++ x ∷ []) (ys ++ y ∷ [])
+pub pair_more : {X Y : Type 0} (R : X → Y → Type 0) (xs : List X) (ys : List Y) (x : X) (y : Y) → AllZip R xs ys → R x y → AllZip R (xs ++ x ∷ []) (ys ++ y ∷ [])
 pair_more R [] [] x y h r = (r, tt)
 pair_more R [] (b ∷ bs) x y h r = absurd h
 pair_more R (a ∷ xs) [] x y h r = absurd h

@@ -6,4 +6,5 @@ pub mod Requests
 pub mod Runs
 pub mod Given
 pub mod Codes
+pub mod Served
 pub mod Telling

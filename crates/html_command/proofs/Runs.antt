@@ -1,29 +1,105 @@
 -- The results and the failures of a run.
-use Rattle.std.proofs.Common.{◌≡◌, ℕ, ◌+◌, ◌<◌, List, [], ◌∷◌, ◌++◌, length, map, take, get_or, Option, refl, sym, ap, subst, inl, inr, ◌∙◌}
+use Rattle.std.proofs.Common.{◌≡◌, ℕ, ◌+◌, ◌<◌, suc, List, [], ◌∷◌, ◌++◌, length, map, take, drop, get_or, Option, refl, sym, ap, subst, inl, inr, ◌∙◌, arith, append_assoc, append-nil}
 use Rattle.std.specs.List.{AllZip}
-use Rattle.std.proofs.lemmas.List.{map_more}
-use Rattle.std.proofs.lemmas.List.Elements.{AllZip-push}
+use Rattle.std.specs.String.{string_bytes}
+use Rattle.std.specs.declared.string.String.{String}
+use Rattle.std.proofs.lemmas.List.{length-map, map_more, map_push, take_all}
+use Rattle.std.proofs.Math.Seq.{drop-length}
 use Rattle.command_line.specs.Dictionaries.{KnownFiles}
 use Rattle.command_line.specs.Inputs.{AreTextsOf, IsFailureOfInput}
 use Rattle.command_line.specs.declared.failure.Failure.{Failure}
 use Rattle.command_line.specs.declared.failure.Failure.TheVariants as failed
+use Rattle.hyphenation_html.specs.Laws.{IsPageWithMarks, soft_hyphen}
+use Rattle.hyphenation_html.specs.Places.{IsDone, marked_page}
+use Rattle.hyphenation_html.specs.declared.languages.LanguageDictionary.{LanguageDictionary}
 use Rattle.replaced_files.specs.Files.{WrittenFiles}
 use Rattle.text_results.specs.Texts.{IsFailureAmong, left_after}
 use Rattle.text_results.specs.Written.{IsFailureFor}
 use Rattle.html_command.specs.Arguments.{ParsedArgs}
-use Rattle.html_command.specs.Dictionaries.{IsRefusedFor}
-use Rattle.html_command.specs.Written.{AreResults, IsFailureBefore}
+use Rattle.html_command.specs.Dictionaries.{AreDictionariesFor, HasCodesOf, IsRefusedFor, code_of, tags_for}
+use Rattle.html_command.specs.Notes.{MarkedPage, note_at, note_on, notes_from}
+use Rattle.html_command.specs.Private.Requests.{parsed_options}
+use Rattle.html_command.specs.Private.Runs.{AreOf}
+use Rattle.html_command.specs.Written.{AreHyphenated, AreResults, AreTextsOfResults, IsFailureBefore, IsHyphenatedPage}
+use Rattle.html_command.specs.declared.notes.Note.{Note}
+use Rattle.html_command.specs.declared.notes.PageNote.{PageNote}
+use Rattle.html_command.specs.declared.request.Options.{Options}
+use Rattle.html_command.proofs.Given.{pair_more}
+
+-- ---- the result of a page
+
+-- What is written back to the place where it was is all of it.
+pub written_back : {X : Type 0} (n : ℕ) (items new shown : List X) → new ≡ items → n ≡ length items → shown ≡ take n (new ++ drop (length new) items) → shown ≡ items
+written_back n items new shown same count is =
+    is ∙ ap (λ ns. take n (ns ++ drop (length ns) items)) same ∙ ap (λ rest. take n (items ++ rest)) (drop-length items) ∙ ap (take n) (append-nil items)
+    ∙ take_all n items (omega (arith, count))
+
+-- The page is cut, and its dictionaries are those that were loaded.
+pub hyphenated_so : (options : Options) (bytes_of : KnownFiles) (usual : List (List ℕ)) (page cut text : List ℕ) (note : Option Note) (dictionaries shown again : List LanguageDictionary)
+    → cut ≡ page → shown ≡ dictionaries → again ≡ dictionaries → HasCodesOf (parsed_options options) (map code_of dictionaries)
+    → AreDictionariesFor bytes_of (parsed_options options) usual (tags_for (parsed_options options) cut) dictionaries
+    → text ≡ marked_page options.settings shown options.language.now cut → IsPageWithMarks options.settings.mark.now cut text
+    → (options.settings.mark.now ≡ soft_hyphen → IsDone options.settings shown options.language.now cut text) → note ≡ note_on again options.language.now cut
+    → IsHyphenatedPage (parsed_options options) bytes_of usual page (record { text = text; note = note })
+hyphenated_so options bytes_of usual page cut text why dictionaries shown again same are alike codes files marked kept twice noted = record {
+  settings = options.settings;
+  dictionaries = dictionaries;
+  of_options = (refl, refl, refl, refl);
+  codes = codes;
+  files = subst (λ (p : List ℕ). AreDictionariesFor bytes_of (parsed_options options) usual (tags_for (parsed_options options) p) dictionaries) same files;
+  marked = marked ∙ ap (λ ds. marked_page options.settings ds options.language.now cut) are ∙ ap (marked_page options.settings dictionaries options.language.now) same;
+  kept = subst (λ (p : List ℕ). IsPageWithMarks options.settings.mark.now p text) same kept;
+  twice = λ soft. subst (λ (p : List ℕ). IsDone options.settings dictionaries options.language.now p text) same
+      (subst (λ (ds : List LanguageDictionary). IsDone options.settings ds options.language.now cut text) are (twice soft));
+  noted = noted ∙ ap (λ ds. note_on ds options.language.now cut) alike ∙ ap (note_on dictionaries options.language.now) same;
+}
+
+-- ---- results, one more
+
+add_suc : (n m : ℕ) → (n + 1) + m ≡ n + suc m
+add_suc n m = omega arith
+
+add_zero : (n : ℕ) → n ≡ n + 0
+add_zero n = omega arith
+
+notes_push : (n : ℕ) (results : List MarkedPage) (one : MarkedPage) → notes_from n (results ++ one ∷ []) ≡ notes_from n results ++ note_at (n + length results) one.note
+notes_push n [] one = append-nil (note_at n one.note) ∙ ap (λ k. note_at k one.note) (add_zero n)
+notes_push n (first ∷ results) one =
+    ap (λ more. note_at n first.note ++ more) (notes_push (n + 1) results one)
+    ∙ ap (λ k. note_at n first.note ++ (notes_from (n + 1) results ++ note_at k one.note)) (add_suc n (length results))
+    ∙ sym (append_assoc (note_at n first.note) (notes_from (n + 1) results) (note_at (n + suc (length results)) one.note))
 
 -- One page more has its result.
-pub hyphenated_more : {X : Type 0} (bytes : X → List ℕ) (R : List ℕ → List ℕ → Type 0) (pages : List X) (i : ℕ) (page : X) (shown text : List ℕ) (texts longer : List (List ℕ))
-    → i < length pages → page ≡ get_or pages i page → AllZip R (map bytes (take i pages)) texts → R shown text → shown ≡ bytes page → longer ≡ texts ++ text ∷ []
-    → AllZip R (map bytes (take (i + 1) pages)) longer
-hyphenated_more bytes R pages i page shown text texts longer lt at so_far has same push =
+pub hyphenated_more : {X Z : Type 0} (bytes : X → List ℕ) (R : List ℕ → MarkedPage → Type 0) (pages : List X) (i : ℕ) (page : X) (shown : List ℕ)
+    (texts longer : List (String Z)) (notes more : List PageNote) (text : String Z) (note : Option Note) (n : ℕ)
+    → i < length pages → page ≡ get_or pages i page
+    → (results : List MarkedPage) × AllZip R (map bytes (take i pages)) results × AreOf results texts notes
+    → R shown (record { text = string_bytes text; note = note }) → shown ≡ bytes page → n ≡ length texts
+    → map string_bytes longer ≡ map string_bytes texts ++ string_bytes text ∷ [] → more ≡ notes ++ note_at n note
+    → (results : List MarkedPage) × AllZip R (map bytes (take (i + 1) pages)) results × AreOf results longer more
+hyphenated_more {X} {Z} bytes R pages i page shown texts longer notes more text note n lt at (results, so_far, (are, noted)) has same count pushed told =
+    let one : MarkedPage = record { text = string_bytes text; note = note } in
     let one_more : map bytes (take (i + 1) pages) ≡ map bytes (take i pages) ++ bytes page ∷ [] =
     map_more bytes pages i page lt ∙ ap (λ p. map bytes (take i pages) ++ bytes p ∷ []) (sym at) in
-    subst (λ (ps : List (List ℕ)). AllZip R ps longer) (sym one_more)
-    (subst (λ (ts : List (List ℕ)). AllZip R (map bytes (take i pages) ++ bytes page ∷ []) ts) (sym push)
-    (AllZip-push R (map bytes (take i pages)) texts (bytes page) text so_far (subst (λ (p : List ℕ). R p text) same has)))
+    let as_many : n ≡ length results =
+    count ∙ sym (length-map texts string_bytes) ∙ ap length are ∙ length-map results (λ marked. marked.text) in
+    let placed : n ≡ 0 + length results = omega (arith, as_many) in (
+      results ++ one ∷ [],
+      subst (λ (ps : List (List ℕ)). AllZip R ps (results ++ one ∷ [])) (sym one_more)
+          (pair_more R (map bytes (take i pages)) results (bytes page) one so_far (subst (λ (p : List ℕ). R p one) same has)),
+      (
+        pushed ∙ ap (λ before. before ++ string_bytes text ∷ []) are ∙ sym (map_push (λ marked. marked.text) results one),
+        told ∙ ap (λ before. before ++ note_at n note) noted ∙ ap (λ k. notes_from 0 results ++ note_at k note) placed
+            ∙ sym (notes_push 0 results one),
+      ),
+    )
+
+-- The results of the pages are those of the arguments.
+pub results_so : {Z : Type 0} (args : ParsedArgs) (bytes_of : KnownFiles) (usual : List (List ℕ)) (left : Option (List ℕ)) (pages : List (List ℕ))
+    (texts : List (String Z)) (notes : List PageNote) → AreTextsOf bytes_of left args.inputs pages
+    → (results : List MarkedPage) × AreHyphenated args.options bytes_of usual pages results × AreOf results texts notes
+    → (results : List MarkedPage) × AreResults args bytes_of usual left results × AreOf results texts notes
+results_so args bytes_of usual left pages texts notes read (results, are, of) = (results, (pages, read, are), of)
 
 not_among : (bytes_of : KnownFiles) (left : Option (List ℕ)) (names : List (List ℕ)) (failure : Failure)
     → (failure ≡ failed.Memory → ⊥) → ((l : Option (List ℕ)) (name : List ℕ) → IsFailureOfInput bytes_of l name failure → ⊥)
@@ -58,5 +134,5 @@ dictionary_fails args bytes_of usual left pages failed.Output read is = absurd i
 -- A failure before anything is written.
 pub fails_before : {S : Type 0} (args : ParsedArgs) (bytes_of : KnownFiles) (usual : List (List ℕ)) (left : Option (List ℕ))
     (written : S → Option WrittenFiles) (store : S) (failure : Failure) → IsFailureBefore args bytes_of usual left failure
-    → IsFailureFor (AreResults args bytes_of usual left) (IsFailureBefore args bytes_of usual left) args.options.target args.inputs written store store failure
+    → IsFailureFor (AreTextsOfResults args bytes_of usual left) (IsFailureBefore args bytes_of usual left) args.options.target args.inputs written store store failure
 fails_before args bytes_of usual left written store failure fails = inl (fails, refl)

@@ -9,6 +9,8 @@ use Rattle.command_line.specs.declared.failure.Failure.TheVariants as failed
 use Rattle.hyphenation_breaks.specs.Language.{IsCode}
 use Rattle.hyphenation_html.specs.declared.languages.LanguageDictionary.{LanguageDictionary}
 use Rattle.language_search.specs.Paths.{paths_of_code}
+use Rattle.language_search.specs.Tags.{codes_of}
+use Rattle.html_pieces.specs.Languages.{languages_of}
 use Rattle.html_command.specs.Arguments.{ParsedOptions}
 
 -- The code of the language that a dictionary serves.
@@ -30,28 +32,58 @@ abbrev pub AreGiven : KnownFiles → List (List ℕ × List ℕ) → List Langua
 AreGiven bytes_of given dictionaries =
     AllZip (λ one language. (code_of language ≡ one.0) × IsOfFile (bytes_of one.1) language.dictionary) given dictionaries
 
--- The language of a dictionary is a code, and the dictionary is the first that folders have for it.
-abbrev pub IsFoundIn : KnownFiles → List (List ℕ) → LanguageDictionary → Type 0
-IsFoundIn bytes_of folders language =
-    IsCode (code_of language)
-    × IsOfFirst bytes_of (paths_of_code folders (code_of language)) (Some language.dictionary)
+-- The tags of languages for which dictionaries are searched: the one that the arguments name, and those that the page names.
+abbrev pub tags_for : ParsedOptions → List ℕ → List (List ℕ)
+tags_for options page = options.language ∷ languages_of page
 
--- The dictionaries begin with those before, and each other one is found in the folders.
-abbrev pub AddsFound : KnownFiles → List (List ℕ) → List LanguageDictionary
+-- The dictionary is the first that folders have for its language.
+abbrev pub IsFirstFor : KnownFiles → List (List ℕ) → LanguageDictionary → Type 0
+IsFirstFor bytes_of folders language =
+    IsOfFirst bytes_of (paths_of_code folders (code_of language)) (Some language.dictionary)
+
+-- The language of a dictionary is a code of this tag, and the dictionary is the first that folders have for it.
+abbrev pub IsFoundFor : KnownFiles → List (List ℕ) → List ℕ → LanguageDictionary → Type 0
+IsFoundFor bytes_of folders tag language =
+    Contains (codes_of tag) (code_of language) × IsFirstFor bytes_of folders language
+
+-- It is found so for one of some tags.
+abbrev pub IsFoundIn : KnownFiles → List (List ℕ) → List (List ℕ) → LanguageDictionary → Type 0
+IsFoundIn bytes_of folders tags language =
+    (tag : List ℕ) × Contains tags tag × IsFoundFor bytes_of folders tag language
+
+-- The dictionaries begin with those before, and each other one is found in the folders for one of some tags.
+abbrev pub AddsFound : KnownFiles → List (List ℕ) → List (List ℕ) → List LanguageDictionary
     → List LanguageDictionary → Type 0
-AddsFound bytes_of folders before all =
-    (rest : List LanguageDictionary) × (all ≡ before ++ rest) × All (IsFoundIn bytes_of folders) rest
+AddsFound bytes_of folders tags before all =
+    (rest : List LanguageDictionary) × (all ≡ before ++ rest) × All (IsFoundIn bytes_of folders tags) rest
+
+-- A dictionary is there for one of these codes, and for none before it is a file known to be in the folders; or it is known
+-- for none at all.
+abbrev pub IsServed : KnownFiles → List (List ℕ) → List (List ℕ) → List (List ℕ) → Type 0
+IsServed bytes_of folders there [] = ⊤
+IsServed bytes_of folders there (code ∷ codes) = Contains there code
+    ⊎ (IsOfFirst bytes_of (paths_of_code folders code) None × IsServed bytes_of folders there codes)
+
+-- So it is for the codes of each of some tags.
+abbrev pub AreServed : KnownFiles → List (List ℕ) → List (List ℕ) → List (List ℕ) → Type 0
+AreServed bytes_of folders there tags = All (λ tag. IsServed bytes_of folders there (codes_of tag)) tags
 
 -- The folders in which dictionaries are searched: that of the arguments, or else the usual ones.
 abbrev pub folders_for : ParsedOptions → List (List ℕ) → List (List ℕ)
 folders_for options usual = option_map_or (λ folder. folder ∷ []) options.folder usual
 
--- The dictionaries of a run: those of the paths that the arguments give, and then those that the folders have.
-abbrev pub AreDictionariesFor : KnownFiles → ParsedOptions → List (List ℕ) → List LanguageDictionary
+-- Dictionaries are searched in folders: the arguments give none, or name a folder.
+abbrev pub AreSearched : ParsedOptions → Type 0
+AreSearched options = (options.given ≡ []) ⊎ (options.folder ≢ None)
+
+-- The dictionaries of a run: those of the paths that the arguments give, and then those that the folders have for some tags.
+-- If folders are searched, each of the tags is served.
+abbrev pub AreDictionariesFor : KnownFiles → ParsedOptions → List (List ℕ) → List (List ℕ) → List LanguageDictionary
     → Type 0
-AreDictionariesFor bytes_of options usual all =
+AreDictionariesFor bytes_of options usual tags all =
     (given : List LanguageDictionary) × AreGiven bytes_of options.given given
-    × AddsFound bytes_of (folders_for options usual) given all
+    × AddsFound bytes_of (folders_for options usual) tags given all
+    × (AreSearched options → AreServed bytes_of (folders_for options usual) (map code_of all) tags)
 
 -- A dictionary is looked for at this path: the arguments give it, or it is one that folders have for the code of a
 -- language.

@@ -1,10 +1,46 @@
 -- The notes on pages that were not changed.
-use Rattle.std.specs.Prelude.{ℕ, List, [], ◌++◌, codes, if◌then◌else◌, slice_index_or}
+use Rattle.std.specs.Prelude.{ℕ, ◌+◌, List, [], ◌∷◌, ◌++◌, codes, map, if◌then◌else◌, slice_index_or, Option, Some, None}
 use Rattle.std.specs.List.{flat_map}
 use Rattle.command_line.specs.Inputs.{is_standard_input}
+use Rattle.html_pieces.specs.Languages.{languages_of}
+use Rattle.hyphenation_html.specs.declared.languages.LanguageDictionary.{LanguageDictionary}
 use Rattle.html_command.specs.declared.notes.Note.{Note}
 use Rattle.html_command.specs.declared.notes.Note.TheVariants.{NoDictionary, NoLanguage}
 use Rattle.html_command.specs.declared.notes.PageNote.{PageNote}
+
+-- The result of a page: its text, and the note on it, if there is one.
+pub record MarkedPage : Type 0 where
+  pub text : List ℕ
+  pub note : Option Note
+
+-- Why no dictionary serves a page that names these languages, where the arguments name this one for it.
+abbrev pub why_none : List ℕ → List (List ℕ) → Note
+why_none [] [] = NoLanguage
+why_none [] (named ∷ more) = NoDictionary
+why_none (byte ∷ bytes) languages = NoDictionary
+
+-- The note on a page with these dictionaries: none if there is a dictionary.
+abbrev pub note_on : List LanguageDictionary → List ℕ → List ℕ → Option Note
+note_on [] language page = Some (why_none language (languages_of page))
+note_on (one ∷ more) language page = None
+
+-- The note on the page of a number, if there is one.
+abbrev pub note_at : ℕ → Option Note → List PageNote
+note_at page None = []
+note_at page (Some note) = record { page = page; note = note } ∷ []
+
+-- The notes on pages, from one of a number on.
+abbrev pub notes_from : ℕ → List MarkedPage → List PageNote
+notes_from page [] = []
+notes_from page (marked ∷ more) = note_at page marked.note ++ notes_from (page + 1) more
+
+-- The notes on pages, which are counted from 0.
+abbrev pub notes_of : List MarkedPage → List PageNote
+notes_of pages = notes_from 0 pages
+
+-- The texts of results.
+abbrev pub texts_of : List MarkedPage → List (List ℕ)
+texts_of pages = map (λ marked. marked.text) pages
 
 -- The words of each note.
 abbrev pub words_of : Note → List ℕ

@@ -19,9 +19,8 @@ use Rattle.text_results.specs.Texts.{IsFailureAmong}
 use Rattle.text_results.specs.Written.{EndsFailed, EndsRefused, WritesResults}
 use Rattle.html_command.specs.declared.TheConstants.{NAME, USAGE}
 use Rattle.html_command.specs.Arguments.{ParsedArgs, ParsedOptions, IsParsed}
-use Rattle.html_command.specs.Notes.{notes_text}
-use Rattle.html_command.specs.declared.notes.PageNote.{PageNote}
-use Rattle.html_command.specs.Dictionaries.{code_of, AreDictionariesFor, HasCodesOf, IsRefusedFor}
+use Rattle.html_command.specs.Notes.{MarkedPage, note_on, notes_of, notes_text, texts_of}
+use Rattle.html_command.specs.Dictionaries.{code_of, AreDictionariesFor, HasCodesOf, IsRefusedFor, tags_for}
 
 -- The text that the arguments ask for by `--help` or `--version`, if they do.
 abbrev pub asked_text : List (Bor (List ℕ)) → Option (List ℕ)
@@ -34,28 +33,34 @@ abbrev pub HasSettingsOf : ParsedOptions → Settings → Type 0
 HasSettingsOf options settings = (settings.mark.now ≡ options.mark) × (settings.class.now ≡ options.class)
     × (settings.min_word ≡ options.min_word) × (settings.skip_capitals ≡ options.skip_capitals)
 
--- A text is the page with the mark at each break of its words, by some dictionaries. Their languages begin with those of
--- the arguments. They are those of the paths that the arguments give, and then those that the folders have for codes of
--- languages. Without the marks it is the page, byte for byte. With soft hyphens it is done: read in the form of the
--- page, no place is left.
-pub record IsHyphenatedPage (options : ParsedOptions) (bytes_of : KnownFiles) (usual : List (List ℕ)) (page text : List ℕ) : Type 0 where
+-- The text of a result is the page with the mark at each break of its words, by some dictionaries. Their languages begin
+-- with those of the arguments. They are those of the paths that the arguments give, and then those that the folders have for
+-- the language of the arguments and for those that the page names. Without the marks it is the page, byte for byte. With
+-- soft hyphens it is done: read in the form of the page, no place is left. The note says why there is no dictionary.
+pub record IsHyphenatedPage (options : ParsedOptions) (bytes_of : KnownFiles) (usual : List (List ℕ)) (page : List ℕ) (result : MarkedPage) : Type 0 where
   pub settings : Settings
   pub dictionaries : List LanguageDictionary
   pub of_options : HasSettingsOf options settings
   pub codes : HasCodesOf options (map code_of dictionaries)
-  pub files : AreDictionariesFor bytes_of options usual dictionaries
-  pub marked : text ≡ marked_page settings dictionaries options.language page
-  pub kept : IsPageWithMarks options.mark page text
-  pub twice : options.mark ≡ soft_hyphen → IsDone settings dictionaries options.language page text
+  pub files : AreDictionariesFor bytes_of options usual (tags_for options page) dictionaries
+  pub marked : result.text ≡ marked_page settings dictionaries options.language page
+  pub kept : IsPageWithMarks options.mark page result.text
+  pub twice : options.mark ≡ soft_hyphen → IsDone settings dictionaries options.language page result.text
+  pub noted : result.note ≡ note_on dictionaries options.language page
 
 -- Each of some pages has its result.
-abbrev pub AreHyphenated : ParsedOptions → KnownFiles → List (List ℕ) → List (List ℕ) → List (List ℕ) → Type 0
+abbrev pub AreHyphenated : ParsedOptions → KnownFiles → List (List ℕ) → List (List ℕ) → List MarkedPage → Type 0
 AreHyphenated options bytes_of usual pages results = AllZip (IsHyphenatedPage options bytes_of usual) pages results
 
 -- Results of arguments: those of the pages that they name, in their order, each by its own dictionaries.
-abbrev pub AreResults : ParsedArgs → KnownFiles → List (List ℕ) → Option (List ℕ) → List (List ℕ) → Type 0
+abbrev pub AreResults : ParsedArgs → KnownFiles → List (List ℕ) → Option (List ℕ) → List MarkedPage → Type 0
 AreResults args bytes_of usual left results = (pages : List (List ℕ))
     × AreTextsOf bytes_of left args.inputs pages × AreHyphenated args.options bytes_of usual pages results
+
+-- These texts are those of such results.
+abbrev pub AreTextsOfResults : ParsedArgs → KnownFiles → List (List ℕ) → Option (List ℕ) → List (List ℕ) → Type 0
+AreTextsOfResults args bytes_of usual left texts =
+    (results : List MarkedPage) × AreResults args bytes_of usual left results × (texts ≡ texts_of results)
 
 -- ---- failures
 
@@ -73,12 +78,13 @@ IsFailureBefore args bytes_of usual left _ = ⊥
 
 -- ---- how the program ends
 
--- The program is done: it tells exactly some notes on its pages, each in its line, and the results were written.
+-- The program is done: the texts of its results were written, and it tells exactly the notes on its pages, each in its line.
 abbrev pub EndsNoted : {W S : Type 0} → ParsedArgs → KnownFiles → List (List ℕ) → Option (List ℕ)
     → (End → Type 0) → (W → Option (List ℕ)) → W → W → (S → Option WrittenFiles) → S → S → Type 0
 EndsNoted args bytes_of usual left EndsSo contents old new written old_files new_files =
-    ((notes : List PageNote) × EndsSo (Done (notes_text NAME.now args.inputs notes)))
-    × WritesResults (AreResults args bytes_of usual left) args.options.target args.inputs contents old new
+    (results : List MarkedPage) × AreResults args bytes_of usual left results
+    × EndsSo (Done (notes_text NAME.now args.inputs (notes_of results)))
+    × WritesResults (λ texts. texts ≡ texts_of results) args.options.target args.inputs contents old new
     written old_files new_files
 
 -- How the program ends for its arguments: one is refused, or the results of its pages are written or fail.
@@ -88,7 +94,7 @@ EndsFor (Err refused) bytes_of usual left EndsSo contents old new written old_fi
     EndsRefused refused EndsSo old_files new_files
 EndsFor (Ok args) bytes_of usual left EndsSo contents old new written old_files new_files =
     EndsNoted args bytes_of usual left EndsSo contents old new written old_files new_files
-    ⊎ EndsFailed (AreResults args bytes_of usual left) (IsFailureBefore args bytes_of usual left) args.options.target
+    ⊎ EndsFailed (AreTextsOfResults args bytes_of usual left) (IsFailureBefore args bytes_of usual left) args.options.target
     args.inputs EndsSo old new written old_files new_files
 
 -- Standard input is none of the pages of arguments, or one of the arguments is refused.

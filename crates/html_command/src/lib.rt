@@ -13,7 +13,6 @@ ghost use Rattle.html_command.specs.Arguments.{option_names, parsed_by};
 ghost use Rattle.html_command.specs.Written.{names_files_alone, EndsFor, EndsUnlessAsked, asked_text};
 
 mod dictionaries;
-mod languages;
 mod notes;
 mod request;
 mod run;

@@ -1,13 +1,14 @@
 //! Notes on pages that were not changed, since no dictionary served them.
 
-ghost use Rattle.std.specs.Prelude.{◌≡◌, slice_index_or, []};
+ghost use Rattle.std.specs.Prelude.{◌≡◌, ◌++◌, slice_index_or, [], map, IfOk, OnOk};
+ghost use Rattle.std.specs.String.{string_bytes};
 ghost use Rattle.command_line.specs.Endings.{Tells, TellsMore};
 ghost use Rattle.hyphenation_breaks.specs.Borrowed.{texts_now};
-ghost use Rattle.html_command.specs.Notes.{line_on, note_line, notes_text, words_of};
+ghost use Rattle.html_command.specs.Notes.{line_on, note_at, note_line, note_on, notes_text, why_none, words_of};
 
-use crate::languages::languages_of;
 use command_line::Messages;
 use command_line::inputs::is_standard_input;
+use hyphenation_html::{HtmlPage, LanguageDictionary};
 use std::alloc::{AllocError, Global};
 use std::io::Write;
 
@@ -27,21 +28,46 @@ pub struct PageNote {
     pub note: Note,
 }
 
-/// Returns the note on a page with that many dictionaries, where the arguments name this language. `None` if it has
-/// one. The error says that memory was refused.
-pub fn note_of(
+// Returns why no dictionary serves a page that names these languages, where the arguments name this one for it.
+fn why_none(language: &str, languages: &[String]) -> Note
+    ensures { result ≡ why_none language.now (map string_bytes languages.now) }
+{
+    if language.is_empty() && languages.is_empty() {
+        Note::NoLanguage
+    } else {
+        Note::NoDictionary
+    }
+}
+
+/// Returns the note on a page with these dictionaries, where the arguments name this language for it. `None` if there is a
+/// dictionary. The error says that memory was refused.
+pub fn note_on(
     alloc: Global,
-    dictionaries: usize,
+    dictionaries: &[LanguageDictionary],
     language: &str,
-    page: &str,
-) -> Result<Option<Note>, AllocError> {
-    if dictionaries > 0 {
+    page: &HtmlPage<'_>,
+) -> Result<Option<Note>, AllocError>
+    ensures { IfOk result (λ note. note ≡ note_on dictionaries.now language.now page.now) }
+{
+    if !dictionaries.is_empty() {
         return Ok(None);
     }
-    if language.is_empty() && languages_of(alloc, page)?.is_empty() {
-        return Ok(Some(Note::NoLanguage));
+    let languages = page.languages(alloc)?;
+    Ok(Some(why_none(language, &languages)))
+}
+
+/// Appends the note on the page of a number, if it has one.
+pub fn push_note(
+    notes: &mut Vec<PageNote>,
+    page: usize,
+    note: Option<Note>,
+) -> Result<(), AllocError>
+    ensures { OnOk result (notes.new.items ≡ notes.old.items ++ note_at page note) }
+{
+    if let Some(note) = note {
+        notes.push(PageNote { page, note })?;
     }
-    Ok(Some(Note::NoDictionary))
+    Ok(())
 }
 
 // Returns the words of a note.

@@ -1,6 +1,6 @@
 //! A run of the program: from pages to results that are written.
 
-ghost use Rattle.std.specs.Prelude.{◌≡◌, ◌⊎◌, false, IfErr, IfOk, OnOk};
+ghost use Rattle.std.specs.Prelude.{◌≡◌, ◌⊎◌, false, IfErr, IfOk};
 ghost use Rattle.std.specs.List.{list_any};
 ghost use Rattle.std.specs.String.{string_bytes};
 ghost use Rattle.command_line.specs.Inputs.{is_standard_input};
@@ -9,10 +9,10 @@ ghost use Rattle.html_command.specs.Private.Runs.{AreResultsBy, FailsBefore, Fai
 ghost use Rattle.html_command.specs.Private.Runs.{IsFailureOfRequest, WritesRequest};
 
 use crate::dictionaries::load_for_page;
-use crate::notes::{Note, PageNote, note_of};
+use crate::notes::{Note, PageNote, note_on, push_note};
 use crate::request::{Options, Request};
 use command_line::{Failure, NamedFiles};
-use hyphenation_html::{LanguageDictionary, hyphenate_html};
+use hyphenation_html::{HtmlPage, LanguageDictionary, hyphenate_html};
 use replaced_files::ReplaceFiles;
 use std::alloc::{AllocError, Global};
 use std::io::{Read, Write};
@@ -47,14 +47,6 @@ struct Results {
     notes: Vec<PageNote>,
 }
 
-// Appends the note on the page of a number, if it has one.
-fn push_note(notes: &mut Vec<PageNote>, page: usize, note: Option<Note>) -> Result<(), AllocError> {
-    if let Some(note) = note {
-        notes.push(PageNote { page, note })?;
-    }
-    Ok(())
-}
-
 // Returns the result of a page.
 fn result_of<F: NamedFiles>(
     files: &F,
@@ -64,19 +56,20 @@ fn result_of<F: NamedFiles>(
     page: &str,
 ) -> Result<Marked, Failure>
     ensures result { IfOk result (λ marked.
-        IsResultBy options.now (F.bytes files.now) folders.now page.now marked.text) }
+        IsResultBy options.now (F.bytes files.now) folders.now page.now marked.text marked.note) }
     ensures failure { IfErr result (FailsOver options.now (F.bytes files.now) folders.now) }
 {
-    let mut dictionaries = load_for_page(files, alloc, options, folders, page)?;
+    let cut = HtmlPage::new(alloc, page)?;
+    let mut dictionaries = load_for_page(files, alloc, options, folders, &cut)?;
     make_tables(alloc, &mut dictionaries, page.len())?;
     let text = hyphenate_html(
         alloc,
         &dictionaries,
         options.language,
         &options.settings,
-        page,
+        &cut,
     )?;
-    let note = note_of(alloc, dictionaries.len(), options.language, page)?;
+    let note = note_on(alloc, &dictionaries, options.language, &cut)?;
     Ok(Marked { text, note })
 }
 
@@ -89,7 +82,7 @@ fn results_of_pages<F: NamedFiles>(
     pages: &[String],
 ) -> Result<Results, Failure>
     ensures results { IfOk result (λ results.
-        AreResultsBy options.now (F.bytes files.now) folders.now pages.now results.texts.items) }
+        AreResultsBy options.now (F.bytes files.now) folders.now pages.now results.texts.items results.notes.items) }
     ensures failure { IfErr result (FailsOver options.now (F.bytes files.now) folders.now) }
 {
     let mut texts = Vec::new(alloc);
@@ -103,7 +96,7 @@ fn results_of_pages<F: NamedFiles>(
 }
 
 // Returns the results of a request.
-#[tactic(auto, using(crate::proofs::Runs::page_fails, crate::proofs::Runs::dictionary_fails))]
+#[tactic(auto, using(crate::proofs::Runs::page_fails, crate::proofs::Runs::dictionary_fails, crate::proofs::Runs::results_so))]
 fn results_of<F: NamedFiles, I: Read>(
     files: &F,
     alloc: Global,
@@ -112,7 +105,7 @@ fn results_of<F: NamedFiles, I: Read>(
     input: &mut I,
 ) -> Result<Results, Failure>
     ensures results { IfOk result (λ results. HasResults request.now (F.bytes files.now) folders.now
-        (I.remaining input.old) results.texts.items) }
+        (I.remaining input.old) results.texts.items results.notes.items) }
     ensures failure { IfErr result
         (FailsBefore request.now (F.bytes files.now) folders.now (I.remaining input.old)) }
     ensures unread { list_any is_standard_input (texts_now request.now.inputs.items) ≡ false → input.new ≡ input.old }
@@ -139,8 +132,8 @@ pub fn run<F: NamedFiles, S: ReplaceFiles, I: Read, O: Write>(
     input: &mut I,
     output: &mut O,
 ) -> Result<Vec<PageNote>, Failure>
-    ensures written { OnOk result (WritesRequest request.now (F.bytes files.now) folders.now (I.remaining input.old)
-        O.contents output.old output.new S.written store.old store.new) }
+    ensures written { IfOk result (λ notes. WritesRequest request.now (F.bytes files.now) folders.now (I.remaining input.old)
+        notes.items O.contents output.old output.new S.written store.old store.new) }
     ensures failure { IfErr result (IsFailureOfRequest request.now (F.bytes files.now) folders.now
         (I.remaining input.old) S.written store.old store.new) }
     ensures unread { list_any is_standard_input (texts_now request.now.inputs.items) ≡ false → input.new ≡ input.old }

@@ -8,6 +8,7 @@ pub mod Limits
 pub mod OtherTexts
 pub mod QuietBytes
 pub mod QuietSteps
+pub mod LanguageSteps
 pub mod NumberSteps
 pub mod ReadSteps
 pub mod ValueSteps

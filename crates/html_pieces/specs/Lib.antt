@@ -6,6 +6,7 @@ pub mod Tags
 pub mod Groups
 pub mod Elements
 pub mod Forms
+pub mod Languages
 pub mod Readings
 pub mod Laws
 pub mod Private

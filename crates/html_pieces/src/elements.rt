@@ -194,7 +194,7 @@ fn value_of_either<'t>(
 }
 
 /// The value that names the language.
-fn language_value<'t>(form: Form, attributes: &[Attribute<'t>]) -> Option<&'t [u8]>
+pub(crate) fn language_value<'t>(form: Form, attributes: &[Attribute<'t>]) -> Option<&'t [u8]>
     ensures { option_map (λ value. value.now) result ≡ language_value form (map as_attribute attributes.now) }
 {
     if form.is_xml() {
@@ -206,9 +206,9 @@ fn language_value<'t>(form: Form, attributes: &[Attribute<'t>]) -> Option<&'t [u
 
 /// A language as it is written, whose references, if it may have some, are read when it is asked for.
 #[derive(Clone, Copy)]
-struct Language<'t> {
-    written: &'t [u8],
-    has_references: bool,
+pub(crate) struct Language<'t> {
+    pub(crate) written: &'t [u8],
+    pub(crate) has_references: bool,
 }
 
 /// The language that a value names, whose references are read.
@@ -222,7 +222,7 @@ fn language_read(value: &[u8]) -> Language<'_>
 }
 
 /// The language that a value names.
-fn language_by(value: &[u8]) -> Language<'_>
+pub(crate) fn language_by(value: &[u8]) -> Language<'_>
     ensures { held_language result.has_references result.written.now ≡ language_by value.now }
 {
     if value.len() > LONGEST_LANGUAGE {

@@ -5,6 +5,7 @@ pub mod bytes;
 pub mod elements;
 pub mod forms;
 pub mod groups;
+pub mod languages;
 pub mod laws;
 pub mod readings;
 pub mod references;

@@ -1,10 +1,12 @@
 //! Soft hyphens for the text of HTML and XHTML pages.
 //!
 //! [`hyphenate_html`] puts a mark where the words of a page's text may be broken, each by the dictionary of its language
-//! ([`LanguageDictionary`]). Nothing else of the page changes. The crate `html_pieces` tells text from markup.
+//! ([`LanguageDictionary`]). Nothing else of the page changes. The crate `html_pieces` tells text from markup. A page is cut
+//! into pieces once, as an [`HtmlPage`], which also says the languages that it names.
 //! [`hyphenate_text`] does the same for a text without markup, by one dictionary.
 #![tactic(auto)]
 
+mod cut;
 mod dictionary;
 mod languages;
 pub mod laws;
@@ -16,6 +18,7 @@ mod touching;
 mod words;
 
 pub use any_dictionary::AnyDictionary;
+pub use cut::HtmlPage;
 pub use languages::LanguageDictionary;
 pub use page::hyphenate_html;
 pub use plain::hyphenate_text;

@@ -13,6 +13,7 @@ ghost use Rattle.hyphenation_html.specs.Private.Fit.{AllFit};
 ghost use Rattle.hyphenation_html.specs.Private.Marked.{is_text, marked_in_language, marked_read_by, marked_in_by};
 ghost use Rattle.hyphenation_html.specs.Private.Marked.{marked_piece_by, marked_pieces_by, marked_page_by};
 
+use crate::cut::HtmlPage;
 use crate::dictionary::limited_breaks_fit;
 use crate::languages::{LanguageDictionary, best_of};
 use crate::settings::Settings;
@@ -20,7 +21,7 @@ use crate::text::push_text;
 use crate::touching::{touched_after, touched_before};
 use html_pieces::bytes::Form;
 use html_pieces::elements::{Element, page_element};
-use html_pieces::forms::{begins_with_order_mark, cut};
+use html_pieces::forms::begins_with_order_mark;
 use html_pieces::laws::{other_texts_are_cut_alike, pieces_are_utf8, pieces_join};
 use html_pieces::readings::{Reading, pass, standing};
 use html_pieces::references::read;
@@ -212,12 +213,11 @@ fn written(
     languages: &[LanguageDictionary],
     language: &str,
     settings: &Settings<'_>,
-    page: &str,
+    page: &HtmlPage<'_>,
 ) -> Result<String, AllocError>
     ensures { IfOk result (λ output.
         string_bytes output ≡ marked_page_by settings.now languages.now language.now page.now) }
 {
-    let cut = cut(alloc, page)?;
     let mut output = String::with_capacity(alloc, page.len())?;
     let around = page_element(language.as_bytes());
     push_pieces(
@@ -225,9 +225,9 @@ fn written(
         alloc,
         languages,
         settings,
-        cut.form,
+        page.form(),
         around,
-        &cut.pieces,
+        page.pieces(),
     )?;
     Ok(output)
 }
@@ -255,14 +255,15 @@ fn all_fit(languages: &[LanguageDictionary], settings: &Settings<'_>)
 /// An error says that memory was refused.
 ///
 /// ```text
-/// hyphenate_html(alloc, &languages, "en", &Settings::new(), "<p>Firkin <code>firkin</code></p>")?;
+/// let page = HtmlPage::new(alloc, "<p>Firkin <code>firkin</code></p>")?;
+/// hyphenate_html(alloc, &languages, "en", &Settings::new(), &page)?
 /// ```
 pub fn hyphenate_html(
     alloc: Global,
     languages: &[LanguageDictionary],
     language: &str,
     settings: &Settings<'_>,
-    page: &str,
+    page: &HtmlPage<'_>,
 ) -> Result<String, AllocError>
     ensures marked { IfOk result (λ output.
         string_bytes output ≡ marked_page settings.now languages.now language.now page.now) }
@@ -280,5 +281,6 @@ pub fn hyphenate_html(
     pieces_are_utf8();
     other_texts_are_cut_alike();
     all_fit(languages, settings);
+    page.invariant();
     written(alloc, languages, language, settings, page)
 }

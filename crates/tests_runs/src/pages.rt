@@ -1,6 +1,6 @@
 //! Pages with marks, each compared with the page that is wanted.
 
-use hyphenation_html::{AnyDictionary, LanguageDictionary, Settings, hyphenate_html};
+use hyphenation_html::{AnyDictionary, HtmlPage, LanguageDictionary, Settings, hyphenate_html};
 use std::alloc::{AllocError, Global};
 use std::test::Fail;
 use test_dictionaries::{extended, standard};
@@ -44,7 +44,8 @@ fn languages(alloc: Global) -> Result<Vec<LanguageDictionary>, CallError> {
 // A page in English with its marks.
 fn hyphenated(alloc: Global, settings: &Settings<'_>, page: &str) -> Result<String, CallError> {
     let languages = languages(alloc)?;
-    Ok(hyphenate_html(alloc, &languages, "en", settings, page)?)
+    let page = HtmlPage::new(alloc, page)?;
+    Ok(hyphenate_html(alloc, &languages, "en", settings, &page)?)
 }
 
 // The usual settings, with a mark that can be seen.

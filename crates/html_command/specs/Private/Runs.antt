@@ -1,5 +1,5 @@
 -- The steps of a run.
-use Rattle.std.specs.Prelude.{◌≡◌, ◌⊎◌, ℕ, List, map, Contains, Option, ⊤}
+use Rattle.std.specs.Prelude.{◌≡◌, ℕ, List, map, Option, ⊤}
 use Rattle.std.specs.Borrow.{Bor}
 use Rattle.std.specs.String.{string_bytes}
 use Rattle.std.specs.declared.string.String.{String}
@@ -14,7 +14,10 @@ use Rattle.text_results.specs.Written.{WritesResults, IsFailureFor}
 use Rattle.html_command.specs.Arguments.{ParsedArgs}
 use Rattle.html_command.specs.Dictionaries.{IsRefusedFor}
 use Rattle.html_command.specs.Private.Requests.{parsed_options, parsed_request}
-use Rattle.html_command.specs.Written.{AreHyphenated, AreResults, IsFailureBefore, IsHyphenatedPage}
+use Rattle.html_command.specs.Notes.{MarkedPage, notes_of, texts_of}
+use Rattle.html_command.specs.Written.{AreHyphenated, AreResults, AreTextsOfResults, IsFailureBefore, IsHyphenatedPage}
+use Rattle.html_command.specs.declared.notes.Note.{Note}
+use Rattle.html_command.specs.declared.notes.PageNote.{PageNote}
 use Rattle.html_command.specs.declared.request.Options.{Options}
 use Rattle.html_command.specs.declared.request.Request.{Request}
 
@@ -28,27 +31,40 @@ IsRefusedFound bytes_of folders failure =
 abbrev pub FailsOver : Options → KnownFiles → List (Bor (List ℕ)) → Failure → Type 0
 FailsOver options bytes_of folders = IsRefusedFor bytes_of (parsed_options options) (texts_now folders)
 
--- This string is the result of a page.
-abbrev pub IsResultBy : {Z : Type 0} → Options → KnownFiles → List (Bor (List ℕ)) → List ℕ → String Z → Type 0
-IsResultBy options bytes_of folders page text =
-    IsHyphenatedPage (parsed_options options) bytes_of (texts_now folders) page (string_bytes text)
+-- This string with this note is the result of a page.
+abbrev pub IsResultBy : {Z : Type 0} → Options → KnownFiles → List (Bor (List ℕ)) → List ℕ → String Z → Option Note → Type 0
+IsResultBy options bytes_of folders page text note =
+    IsHyphenatedPage (parsed_options options) bytes_of (texts_now folders) page (record { text = string_bytes text; note = note })
 
--- These strings are the results of pages.
-abbrev pub AreResultsBy : {Y Z : Type 0} → Options → KnownFiles → List (Bor (List ℕ)) → List (String Y) → List (String Z) → Type 0
-AreResultsBy options bytes_of folders pages results =
-    AreHyphenated (parsed_options options) bytes_of (texts_now folders) (map string_bytes pages) (map string_bytes results)
+-- These strings and notes are those of some results.
+abbrev pub AreOf : {Z : Type 0} → List MarkedPage → List (String Z) → List PageNote → Type 0
+AreOf results texts notes = (map string_bytes texts ≡ texts_of results) × (notes ≡ notes_of results)
 
--- These strings are the results of a request.
-abbrev pub HasResults : {Z : Type 0} → Request → KnownFiles → List (Bor (List ℕ)) → Option (List ℕ) → List (String Z) → Type 0
-HasResults request bytes_of folders left results =
-    AreResults (parsed_request request) bytes_of (texts_now folders) left (map string_bytes results)
+-- These strings and notes are the results of pages.
+abbrev pub AreResultsBy : {Y Z : Type 0} → Options → KnownFiles → List (Bor (List ℕ)) → List (String Y) → List (String Z)
+    → List PageNote → Type 0
+AreResultsBy options bytes_of folders pages texts notes = (results : List MarkedPage)
+    × AreHyphenated (parsed_options options) bytes_of (texts_now folders) (map string_bytes pages) results
+    × AreOf results texts notes
 
--- The results of a request were written.
-abbrev pub WritesRequest : {W S : Type 0} → Request → KnownFiles → List (Bor (List ℕ)) → Option (List ℕ)
+-- These strings and notes are the results of a request.
+abbrev pub HasResults : {Z : Type 0} → Request → KnownFiles → List (Bor (List ℕ)) → Option (List ℕ) → List (String Z)
+    → List PageNote → Type 0
+HasResults request bytes_of folders left texts notes = (results : List MarkedPage)
+    × AreResults (parsed_request request) bytes_of (texts_now folders) left results × AreOf results texts notes
+
+-- The texts of results with these notes were written.
+abbrev pub WritesNoted : {W S : Type 0} → ParsedArgs → KnownFiles → List (List ℕ) → Option (List ℕ) → List PageNote
     → (W → Option (List ℕ)) → W → W → (S → Option WrittenFiles) → S → S → Type 0
-WritesRequest request bytes_of folders left =
-    let args : ParsedArgs = parsed_request request in
-    WritesResults (AreResults args bytes_of (texts_now folders) left) args.options.target args.inputs
+WritesNoted args bytes_of usual left notes contents old new written old_files new_files = (results : List MarkedPage)
+    × AreResults args bytes_of usual left results × (notes ≡ notes_of results)
+    × WritesResults (λ texts. texts ≡ texts_of results) args.options.target args.inputs contents old new
+    written old_files new_files
+
+-- The results of a request were written, and have these notes.
+abbrev pub WritesRequest : {W S : Type 0} → Request → KnownFiles → List (Bor (List ℕ)) → Option (List ℕ) → List PageNote
+    → (W → Option (List ℕ)) → W → W → (S → Option WrittenFiles) → S → S → Type 0
+WritesRequest request bytes_of folders left = WritesNoted (parsed_request request) bytes_of (texts_now folders) left
 
 -- The failure of a request before anything is written.
 abbrev pub FailsBefore : Request → KnownFiles → List (Bor (List ℕ)) → Option (List ℕ) → Failure → Type 0
@@ -60,4 +76,4 @@ abbrev pub IsFailureOfRequest : {S : Type 0} → Request → KnownFiles → List
 IsFailureOfRequest request bytes_of folders left =
     let args : ParsedArgs = parsed_request request in
     let usual : List (List ℕ) = texts_now folders in
-    IsFailureFor (AreResults args bytes_of usual left) (IsFailureBefore args bytes_of usual left) args.options.target args.inputs
+    IsFailureFor (AreTextsOfResults args bytes_of usual left) (IsFailureBefore args bytes_of usual left) args.options.target args.inputs

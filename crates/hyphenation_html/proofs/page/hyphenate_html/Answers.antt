@@ -17,24 +17,24 @@ use Rattle.hyphenation_html.proofs.page.hyphenate_html.Goals as goal
 pub returns-clause-marked : goal.returns-clause-marked
 returns-clause-marked c =
     let laws : Laws = record { join = c.segments_join.ensures; joins = c.marked_segments_join.ensures; fit = c.plain_breaks_fit_where_ascending.ensures } in
-    let marked = page_marked laws _ (form_of c.args.page.now) c.args.settings.now.class.now c.args.language.now c.args.settings.now.mark.now c.args.page.now c.all_fit.ensures (c.pieces_join.ensures (form_of c.args.page.now) c.args.page.now) (c.pieces_are_utf8.ensures (form_of c.args.page.now) c.args.page.now c.utf8.page) in
+    let marked = page_marked laws _ (form_of c.args.page.now) c.args.settings.now.class.now c.args.language.now c.args.settings.now.mark.now c.args.page.now c.all_fit.ensures (c.pieces_join.ensures (form_of c.args.page.now) c.args.page.now) (c.pieces_are_utf8.ensures (form_of c.args.page.now) c.args.page.now c.invariant.ensures) in
     IfOk-weaker c.written.result _ _ (λ output e. e ∙ marked.is) c.written.ensures
 
 pub returns-clause-kept : goal.returns-clause-kept
 returns-clause-kept c =
     let laws : Laws = record { join = c.segments_join.ensures; joins = c.marked_segments_join.ensures; fit = c.plain_breaks_fit_where_ascending.ensures } in
-    let marked = page_marked laws _ (form_of c.args.page.now) c.args.settings.now.class.now c.args.language.now c.args.settings.now.mark.now c.args.page.now c.all_fit.ensures (c.pieces_join.ensures (form_of c.args.page.now) c.args.page.now) (c.pieces_are_utf8.ensures (form_of c.args.page.now) c.args.page.now c.utf8.page) in
+    let marked = page_marked laws _ (form_of c.args.page.now) c.args.settings.now.class.now c.args.language.now c.args.settings.now.mark.now c.args.page.now c.all_fit.ensures (c.pieces_join.ensures (form_of c.args.page.now) c.args.page.now) (c.pieces_are_utf8.ensures (form_of c.args.page.now) c.args.page.now c.invariant.ensures) in
     IfOk-weaker c.written.result _ _ (λ output e. (marked.parts.0, marked.parts.1, marked.parts.2 ∙ sym e)) c.written.ensures
 
 pub returns-clause-in_text : goal.returns-clause-in_text
 returns-clause-in_text c =
     let laws : Laws = record { join = c.segments_join.ensures; joins = c.marked_segments_join.ensures; fit = c.plain_breaks_fit_where_ascending.ensures } in
-    page_in_text laws _ (form_of c.args.page.now) c.args.settings.now.class.now c.args.language.now c.args.page.now c.all_fit.ensures (c.pieces_are_utf8.ensures (form_of c.args.page.now) c.args.page.now c.utf8.page)
+    page_in_text laws _ (form_of c.args.page.now) c.args.settings.now.class.now c.args.language.now c.args.page.now c.all_fit.ensures (c.pieces_are_utf8.ensures (form_of c.args.page.now) c.args.page.now c.invariant.ensures)
 
 pub returns-clause-without : goal.returns-clause-without
 returns-clause-without c = λ e.
     let laws : Laws = record { join = c.segments_join.ensures; joins = c.marked_segments_join.ensures; fit = c.plain_breaks_fit_where_ascending.ensures } in
-    let marked = page_marked laws _ (form_of c.args.page.now) c.args.settings.now.class.now c.args.language.now c.args.settings.now.mark.now c.args.page.now c.all_fit.ensures (c.pieces_join.ensures (form_of c.args.page.now) c.args.page.now) (c.pieces_are_utf8.ensures (form_of c.args.page.now) c.args.page.now c.utf8.page) in
+    let marked = page_marked laws _ (form_of c.args.page.now) c.args.settings.now.class.now c.args.language.now c.args.settings.now.mark.now c.args.page.now c.all_fit.ensures (c.pieces_join.ensures (form_of c.args.page.now) c.args.page.now) (c.pieces_are_utf8.ensures (form_of c.args.page.now) c.args.page.now c.invariant.ensures) in
     let none = page_without _ (form_of c.args.page.now) c.args.settings.now.class.now c.args.language.now c.args.page.now (ap (languages_by c.args.settings.now) e) in
     IfOk-weaker c.written.result _ _ (λ output is. is ∙ marked.is ∙ ap (with_marks c.args.settings.now.mark.now c.args.page.now) none) c.written.ensures
 
@@ -46,5 +46,5 @@ returns-clause-twice c = λ e.
     let around = page_element c.args.language.now in
     IfOk-weaker c.written.result _ _
     (λ output is. page_done laws _ (form_of c.args.page.now) settings.class.now c.args.language.now c.args.page.now (string_bytes output) c.all_fit.ensures
-    (c.pieces_are_utf8.ensures (form_of c.args.page.now) c.args.page.now c.utf8.page) (c.other_texts_are_cut_alike.ensures (form_of c.args.page.now) c.args.page.now)
+    (c.pieces_are_utf8.ensures (form_of c.args.page.now) c.args.page.now c.invariant.ensures) (c.other_texts_are_cut_alike.ensures (form_of c.args.page.now) c.args.page.now)
     (is ∙ ap (λ m. marked_pieces (languages_by settings c.args.languages.now) m (form_of c.args.page.now) settings.class.now around (at_start (form_of c.args.page.now) pieces) false pieces) e)) c.written.ensures
