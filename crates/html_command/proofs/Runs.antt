@@ -28,7 +28,7 @@ use Rattle.html_command.proofs.Given.{pair_more}
 
 -- ---- the result of a page
 
--- What is written back to the place where it was is all of it.
+-- A list that is written back to the place where it was is all of it.
 pub written_back : {X : Type 0} (n : ℕ) (items new shown : List X) → new ≡ items → n ≡ length items → shown ≡ take n (new ++ drop (length new) items) → shown ≡ items
 written_back n items new shown same count is =
     is ∙ ap (λ ns. take n (ns ++ drop (length ns) items)) same ∙ ap (λ rest. take n (items ++ rest)) (drop-length items) ∙ ap (take n) (append-nil items)
