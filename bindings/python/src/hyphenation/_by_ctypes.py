@@ -291,7 +291,8 @@ class Handle:
         """Returns the breaks that are listed for a word; none if it is no exception."""
         text = _encoded(word)
         room, texts_room, count, length = 64, 512, c_size_t(), c_size_t()
-        while True:
+        # A second time with the rooms that are wanted, if the first ones are too short.
+        for _ in range(2):
             # Each break is six numbers: its place, whether there is a change, what it takes, and of its text.
             numbered, texts = (c_size_t * (6 * room))(), ctypes.create_string_buffer(texts_room)
             status = _exception(
