@@ -111,7 +111,7 @@ const FAILING_RUNS: &[FailingRun<'static>] = &[
         "hyphenate-canonical: standard input: can't be read\n",
     ),
     (
-        "an input that can't be read for want of memory",
+        "an input that can't be read, since memory was refused",
         Fault::InputRead(30, OUT_OF_MEMORY),
         &[],
         ORDERED,

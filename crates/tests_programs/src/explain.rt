@@ -112,7 +112,7 @@ const FAILING_RUNS: &[FailingRun<'static>] = &[
         "hyphenate-explain: standard input: can't be read\n",
     ),
     (
-        "a text that can't be read for want of memory",
+        "a text that can't be read, since memory was refused",
         Fault::InputRead(2, OUT_OF_MEMORY),
         &["firkin.txt"],
         b"a word",

@@ -464,7 +464,7 @@ const FAILURES: &[FailingRun<'static>] = &[
         "hyphenate-html: found/en-gb.txt: Connection reset by peer (os error 104)\n",
     ),
     (
-        "a dictionary that can't be read for want of memory",
+        "a dictionary that can't be read, since memory was refused",
         Fault::FileRead(1, OUT_OF_MEMORY),
         &[],
         b"<p lang=en-gb>firkin",

@@ -272,7 +272,7 @@ const FAILURES: &[FailingRun<'static>] = &[
         "hyphenate: the text can't be read\n",
     ),
     (
-        "a text to hyphenate that can't be read for want of memory",
+        "a text to hyphenate that can't be read, since memory was refused",
         Fault::InputRead(1, OUT_OF_MEMORY),
         &["standard", "en-gb", "firkin.txt", "-"],
         b"",

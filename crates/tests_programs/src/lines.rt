@@ -222,7 +222,7 @@ const FAILING_RUNS: &[FailingRun<'static>] = &[
         "",
     ),
     (
-        "a text that can't be read for want of memory",
+        "a text that can't be read, since memory was refused",
         Fault::InputRead(1, OUT_OF_MEMORY),
         &["firkin.txt"],
         b"ab",

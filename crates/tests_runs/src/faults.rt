@@ -166,7 +166,7 @@ const FAILING_READS: [FailingReads; 11] = [
         text: b"",
     },
     FailingReads {
-        shows: "a dictionary without memory once is want of memory",
+        shows: "a dictionary whose reader once lacks memory gives the error of memory",
         task: HYPHENS,
         dictionary: AMERICAN,
         failing: Failing::Dictionary,
@@ -210,7 +210,7 @@ const FAILING_READS: [FailingReads; 11] = [
         text: b"",
     },
     FailingReads {
-        shows: "a text without memory once is want of memory",
+        shows: "a text whose reader once lacks memory gives the error of memory",
         task: HYPHENS,
         dictionary: AMERICAN,
         failing: Failing::Input,
@@ -232,7 +232,7 @@ const FAILING_READS: [FailingReads; 11] = [
         text: b"",
     },
     FailingReads {
-        shows: "a text without memory is want of memory",
+        shows: "a text whose reader lacks memory gives the error of memory",
         task: HYPHENS,
         dictionary: AMERICAN,
         failing: Failing::Input,
@@ -254,7 +254,7 @@ const FAILING_READS: [FailingReads; 11] = [
         text: b"",
     },
     FailingReads {
-        shows: "a text without memory once is want of memory in a run of lines",
+        shows: "in a run of lines a text whose reader once lacks memory gives the error of memory",
         task: Task::Lines(5),
         dictionary: AMERICAN,
         failing: Failing::Input,
@@ -447,7 +447,7 @@ const UNWRITTEN: [(&str, Task, &str, (&str, Reads), (&[u8], Reads), &str); 13] =
         "dictionary: en-gb for en-us",
     ),
     (
-        "a dictionary that fails is told before a text that fails",
+        "a dictionary that fails is named before a text that fails",
         Task::Lines(10),
         "en-us",
         (TWO_LETTERS, Reads::FailFrom(60, CONNECTION_RESET)),
@@ -455,7 +455,7 @@ const UNWRITTEN: [(&str, Task, &str, (&str, Reads), (&[u8], Reads), &str); 13] =
         "dictionary: Some(104)",
     ),
     (
-        "a refused dictionary is told before a text that fails",
+        "a refused dictionary is named before a text that fails",
         Task::Lines(10),
         "en-us",
         ("hyphenation 1 extended\n", WHOLE),
@@ -463,7 +463,7 @@ const UNWRITTEN: [(&str, Task, &str, (&str, Reads), (&[u8], Reads), &str); 13] =
         "dictionary: 1 Header",
     ),
     (
-        "a refused dictionary is told before the text is judged",
+        "a refused dictionary is named before the text is judged",
         Task::Lines(10),
         "en-us",
         ("", WHOLE),
@@ -471,7 +471,7 @@ const UNWRITTEN: [(&str, Task, &str, (&str, Reads), (&[u8], Reads), &str); 13] =
         "dictionary: 1 Header",
     ),
     (
-        "a text that fails is told before its bytes are judged",
+        "a text that fails is named before its bytes are judged",
         Task::Lines(10),
         "en-us",
         (TWO_LETTERS, WHOLE),
