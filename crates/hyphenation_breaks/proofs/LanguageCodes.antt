@@ -1,5 +1,5 @@
 -- Codes have at most 32 bytes, and are UTF-8.
-use Rattle.std.proofs.Common.{◌≡◌, ℕ, ◌-◌, ◌≤◌, ◌<◌, [], ◌∷◌, ◌&&◌, true, false, IsUtf8, nat_le, Bool, List, ◌++◌, length, drop, replicate, IsTrue, arith, leb-true, ◌∙◌, refl}
+use Rattle.std.proofs.Common.{◌≡◌, ℕ, ◌-◌, ◌≤◌, ◌<◌, [], ◌∷◌, ◌&&◌, true, IsUtf8, nat_le, List, ◌++◌, length, drop, replicate, arith, leb-true, ◌∙◌, refl}
 use Rattle.std.specs.Prelude.{Result, Ok, Err, IsOk, MatchResult}
 use Rattle.std.specs.List.{list_all, AllByRecursion}
 use Rattle.std.proofs.lemmas.Bool.Decides.{nat_tests}
@@ -7,29 +7,22 @@ use Rattle.std.proofs.lemmas.Str.{IsUtf8-from_ascii}
 use Rattle.std.proofs.lemmas.Str.Ascii.{IsAscii-from_all}
 use Rattle.std.proofs.lemmas.List.Elements.{All-from_recursion}
 use Rattle.std.proofs.lemmas.List.{drop-replicate, drop_at, take_at, length-append, length-drop, length-replicate}
+use Rattle.std.proofs.lemmas.Bool.{and_parts}
 use Rattle.hyphenation_breaks.specs.Language.{is_code_byte, IsCode}
 use Rattle.hyphenation_breaks.specs.Private.Language.{IsPadded}
 
-first_of : (a b : Bool) → IsTrue (a && b) → IsTrue a
-first_of true b h = refl
-first_of false b h = absurd cc
-
-second_of : (a b : Bool) → IsTrue (a && b) → IsTrue b
-second_of true b h = h
-second_of false b h = absurd cc
-
 pub is_code-short : (text : List ℕ) → IsCode text → length text ≤ 32
-is_code-short text h = leb-true (length text) 32 (second_of (nat_le 1 (length text)) (nat_le (length text) 32) (first_of (nat_le 1 (length text) && nat_le (length text) 32) (list_all is_code_byte text) h))
+is_code-short text h = leb-true (length text) 32 (and_parts (nat_le 1 (length text)) (nat_le (length text) 32) (and_parts (nat_le 1 (length text) && nat_le (length text) 32) (list_all is_code_byte text) h).0).1
 
 small : (b : ℕ) → is_code_byte b ≡ true → b < 128
 small b h = grind (arith, nat_tests)
 
 all_small : (text : List ℕ) → list_all is_code_byte text ≡ true → AllByRecursion (λ b. b < 128) text
 all_small [] h = tt
-all_small (b ∷ bs) h = (small b (first_of (is_code_byte b) (list_all is_code_byte bs) h), all_small bs (second_of (is_code_byte b) (list_all is_code_byte bs) h))
+all_small (b ∷ bs) h = (small b (and_parts (is_code_byte b) (list_all is_code_byte bs) h).0, all_small bs (and_parts (is_code_byte b) (list_all is_code_byte bs) h).1)
 
 pub is_code-utf8 : (text : List ℕ) → IsCode text → IsUtf8 text
-is_code-utf8 text h = IsUtf8-from_ascii text (IsAscii-from_all text (All-from_recursion (λ b. b < 128) text (all_small text (second_of (nat_le 1 (length text) && nat_le (length text) 32) (list_all is_code_byte text) h))))
+is_code-utf8 text h = IsUtf8-from_ascii text (IsAscii-from_all text (All-from_recursion (λ b. b < 128) text (all_small text (and_parts (nat_le 1 (length text) && nat_le (length text) 32) (list_all is_code_byte text) h).1)))
 
 pub zeros-after : (text : List ℕ) → length text ≤ 32 → drop (length text) (text ++ drop (length text) (replicate 32 0)) ≡ replicate (32 - length text) 0
 zeros-after text le = drop_at text (drop (length text) (replicate 32 0)) (length text) refl ∙ drop-replicate (length text) 32 0

@@ -1,4 +1,4 @@
-//! Values and listed breaks as a dictionary of either kind holds them: alone, or with changes.
+//! Values and listed breaks as a dictionary of either kind holds them: without changes, or with them.
 
 ghost use Rattle.std.specs.Prelude.{◌≡◌, ◌↔◌, IfSome, IsTrue, option_copied};
 ghost use Rattle.hyphenation_breaks.specs.Break.{Break};

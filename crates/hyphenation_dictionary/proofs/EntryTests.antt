@@ -2,20 +2,15 @@
 use Rattle.std.proofs.Common.{◌≡◌, ◌∙◌, ℕ, ◌+◌, ◌<◌, ◌≤◌, ◌^◌, Bool, true, false, ◌&&◌, nat_le, List, ◌∷◌, Option, length, get_or, drop, drop-cons, add-one, refl, sym, ap, arith}
 use Rattle.std.specs.Prelude.{IsTrue, ◌↔◌}
 use Rattle.std.proofs.lemmas.Bool.Decides.{nat_tests}
+use Rattle.std.specs.Cmp.{both_ways}
 use Rattle.hyphenation_breaks.specs.Break.{Change, is_boundary}
 use Rattle.hyphenation_breaks.specs.Invariant.{is_value, stays_within, fits_usize}
 use Rattle.hyphenation_breaks.specs.Laws.{is_entry, entries_from}
 use Rattle.hyphenation_breaks.specs.declared.entry.Entry.{Entry}
 
--- Two tests that hold together are equal.
-alike : (r t : Bool) → (IsTrue r ↔ IsTrue t) → r ≡ t
-alike true t h = sym (h.0 refl)
-alike false true h = h.1 refl
-alike false false h = refl
-
 -- The test of an entry whose place and value are in range.
 told : (r b f s v : Bool) → (IsTrue r ↔ IsTrue (b && (f && s))) → f ≡ true → v ≡ true → r ≡ (b && (v && s))
-told r b f s v h ef ev = alike r (b && (f && s)) h ∙ (λ i. b && ((ef ∙ sym ev) i && s))
+told r b f s v h ef ev = both_ways r (b && (f && s)) h.0 h.1 ∙ (λ i. b && ((ef ∙ sym ev) i && s))
 
 pub entry_told : (r : Bool) (key : List ℕ) (place value : ℕ) (change : Option Change) → place < 2 ^ 64 → value ≤ 255 → (value ≡ 0 → ⊥)
     → (IsTrue r ↔ IsTrue (is_boundary key place && (fits_usize place && stays_within key place change))) → r ≡ (is_boundary key place && (is_value value && stays_within key place change))

@@ -23,10 +23,6 @@ mapped_or_none : {A X : Type 0} (f : A → X) (b : Bool) (o : Option A) → opti
 mapped_or_none f true o = refl
 mapped_or_none f false o = refl
 
--- The finite map and the hash map compare words alike.
-same_word_test : (q w : List ℕ) → eq_by_cmp (slice_cmp nat_cmp) q w ≡ bytes_eq w q
-same_word_test q w = same_test q w
-
 find-words : {B Y Z : Type 0} (es : List (String Y × Vec B Z)) (q : List ℕ)
     → find (slice_cmp nat_cmp) q (map (λ x. (string_bytes x.0, x.1.items)) es) ≡ option_map (λ v. v.items) (lookup (λ k. bytes_eq q (string_bytes k)) es)
 find-words [] q = refl
@@ -49,7 +45,7 @@ exceptions_of-insert {B} {Y} {Z} {S} old new word listed updates =
     ∙ ap (option_map (λ v. v.items)) (hash_map_updates_text w old new (Some listed) updates q)
     ∙ mapped_either (λ v. v.items) (bytes_eq w q) listed (get_by_text old q)
     ∙ ap (cond (bytes_eq w q) (Some listed.items)) (sym (get-exceptions_of old q))
-    ∙ ap (λ b. cond b (Some listed.items) (finite.get (exceptions_of old) q)) (sym (same_word_test q w))
+    ∙ ap (λ b. cond b (Some listed.items) (finite.get (exceptions_of old) q)) (sym (same_test q w))
     ∙ sym (get-insert nat_list_cmp_total (exceptions_of old) w listed.items q))
 
 -- A removal from the hash map removes from the finite map.
@@ -61,7 +57,7 @@ exceptions_of-remove old new word updates =
     ∙ ap (option_map (λ v. v.items)) (hash_map_updates_text word old new None updates q)
     ∙ mapped_or_none (λ v. v.items) (bytes_eq word q) (get_by_text old q)
     ∙ ap (cond (bytes_eq word q) None) (sym (get-exceptions_of old q))
-    ∙ ap (λ b. cond b None (finite.get (exceptions_of old) q)) (sym (same_word_test q word))
+    ∙ ap (λ b. cond b None (finite.get (exceptions_of old) q)) (sym (same_test q word))
     ∙ sym (get-remove nat_list_cmp_total (exceptions_of old) word q))
 
 -- Equal entries make equal finite maps.

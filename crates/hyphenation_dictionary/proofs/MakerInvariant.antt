@@ -1,5 +1,5 @@
 -- A dictionary made of keys and words has the invariant if each key and each word is allowed.
-use Rattle.std.proofs.Common.{◌≡◌, ℕ, suc, zero, arith, Bool, true, false, ◌&&◌, List, [], ◌∷◌, map, fold, Option, Some, None, refl, sym, ap, ◌∙◌}
+use Rattle.std.proofs.Common.{◌≡◌, ℕ, arith, List, [], ◌∷◌, map, fold, Option, Some, None, sym, ap, ◌∙◌}
 use Rattle.std.specs.Prelude.{IsTrue, All}
 use Rattle.std.specs.Ordering.{nat_cmp}
 use Rattle.std.specs.Cmp.Lexicographic.{slice_cmp}
@@ -9,6 +9,8 @@ use Rattle.std.specs.String.{string_bytes}
 use Rattle.std.specs.declared.string.String.{String}
 use Rattle.std.specs.declared.vec.Vec.{Vec}
 use Rattle.std.proofs.lemmas.Str.{IsUtf8-string_bytes}
+use Rattle.std.proofs.lemmas.List.Elements.{All-head, All-tail, All-cons}
+use Rattle.std.proofs.lemmas.Bool.{and_parts}
 use Rattle.hyphenation_breaks.specs.Break.{Break, Change}
 use Rattle.hyphenation_breaks.specs.Dictionary.{TextMap}
 use Rattle.hyphenation_breaks.specs.Invariant.{IsPattern, IsException, are_listed, are_entries, has_letter}
@@ -16,22 +18,12 @@ use Rattle.hyphenation_dictionary.specs.Maker.{with_pair, map_of_pairs, pair_of,
 use Rattle.hyphenation_breaks.specs.declared.entry.Entry.{Entry}
 use Rattle.hyphenation_dictionary.proofs.TextMaps.{Holds, inserted}
 
-first_of : {X : Type 0} (P : X → Type 0) (x : X) (xs : List X) → All P (x ∷ xs) → P x
-first_of P x xs all = all 0 x (omega arith)
-
-rest_of : {X : Type 0} (P : X → Type 0) (x : X) (xs : List X) → All P (x ∷ xs) → All P xs
-rest_of P x xs all k d lt = all (suc k) d (omega (arith, lt))
-
 nothing : {X : Type 0} (P : X → Type 0) → All P []
 nothing P k d lt = absurd (omega (arith, lt))
 
-more : {X : Type 0} (P : X → Type 0) (x : X) (xs : List X) → P x → All P xs → All P (x ∷ xs)
-more P x xs is all zero d lt = is
-more P x xs is all (suc k) d lt = all k d (omega (arith, lt))
-
 folded : {X : Type 0} (P : List ℕ → X → Type 0) (said : List (List ℕ × X)) (texts : TextMap X) → Holds P texts → All (λ s. P s.0 s.1) said → Holds P (fold with_pair texts said)
 folded P [] texts holds all = holds
-folded P (s ∷ said) texts holds all = folded P said (finite.insert texts s.0 s.1) (inserted P texts s.0 s.1 holds (first_of (λ t. P t.0 t.1) s said all)) (rest_of (λ t. P t.0 t.1) s said all)
+folded P (s ∷ said) texts holds all = folded P said (finite.insert texts s.0 s.1) (inserted P texts s.0 s.1 holds (All-head (λ t. P t.0 t.1) s said all)) (All-tail (λ t. P t.0 t.1) s said all)
 
 nothing_held : {X : Type 0} (P : List ℕ → X → Type 0) → Holds P (finite.empty {X = X})
 nothing_held P q x has = absurd (never (sym (get-empty (slice_cmp nat_cmp) q) ∙ has))
@@ -39,21 +31,17 @@ nothing_held P q x has = absurd (never (sym (get-empty (slice_cmp nat_cmp) q) �
     never : None ≡ Some x → ⊥
     never e = cc
 
-both : (a b : Bool) → (a && b) ≡ true → (a ≡ true) × (b ≡ true)
-both true b h = (refl, h)
-both false b h = absurd cc
-
 keys-are : {C Y Z : Type 0} (change_of : C → Option Change) (ps : List (String Y × Vec (Entry C) Z)) → All (λ p. IsTrue (fits_key change_of (string_bytes p.0) p.1.items)) ps
     → All (λ s. IsPattern change_of s.0 s.1) (map pair_of ps)
 keys-are change_of [] all = nothing _
 keys-are change_of (p ∷ ps) all =
-    let fits = both (has_letter (string_bytes p.0)) (are_entries change_of (string_bytes p.0) p.1.items) (first_of (λ x. IsTrue (fits_key change_of (string_bytes x.0) x.1.items)) p ps all) in
-    more (λ s. IsPattern change_of s.0 s.1) (pair_of p) (map pair_of ps) (record { utf8 = IsUtf8-string_bytes p.0; letter = fits.0; ascend = fits.1 }) (keys-are change_of ps (rest_of (λ x. IsTrue (fits_key change_of (string_bytes x.0) x.1.items)) p ps all))
+    let fits = and_parts (has_letter (string_bytes p.0)) (are_entries change_of (string_bytes p.0) p.1.items) (All-head (λ x. IsTrue (fits_key change_of (string_bytes x.0) x.1.items)) p ps all) in
+    All-cons (λ s. IsPattern change_of s.0 s.1) (pair_of p) (map pair_of ps) (record { utf8 = IsUtf8-string_bytes p.0; letter = fits.0; ascend = fits.1 }) (keys-are change_of ps (All-tail (λ x. IsTrue (fits_key change_of (string_bytes x.0) x.1.items)) p ps all))
 
 words-are : {B Y Z : Type 0} (break_of : B → Break) (es : List (String Y × Vec B Z)) → All (λ e. IsTrue (are_listed break_of (string_bytes e.0) e.1.items)) es
     → All (λ s. IsException break_of s.0 s.1) (map pair_of es)
 words-are break_of [] all = nothing _
-words-are break_of (e ∷ es) all = more (λ s. IsException break_of s.0 s.1) (pair_of e) (map pair_of es) (record { utf8 = IsUtf8-string_bytes e.0; ascend = first_of (λ x. IsTrue (are_listed break_of (string_bytes x.0) x.1.items)) e es all }) (words-are break_of es (rest_of (λ x. IsTrue (are_listed break_of (string_bytes x.0) x.1.items)) e es all))
+words-are break_of (e ∷ es) all = All-cons (λ s. IsException break_of s.0 s.1) (pair_of e) (map pair_of es) (record { utf8 = IsUtf8-string_bytes e.0; ascend = All-head (λ x. IsTrue (are_listed break_of (string_bytes x.0) x.1.items)) e es all }) (words-are break_of es (All-tail (λ x. IsTrue (are_listed break_of (string_bytes x.0) x.1.items)) e es all))
 
 pub keys_hold : {C Y Z : Type 0} (change_of : C → Option Change) (ps : List (String Y × Vec (Entry C) Z)) → All (λ p. IsTrue (fits_key change_of (string_bytes p.0) p.1.items)) ps
     → Holds (IsPattern change_of) (map_of_pairs (map pair_of ps))

@@ -202,10 +202,11 @@ impl<C: Payload, B: Break> Dictionary<C, B> {
     ///
     /// The contents stay as they are, and so does each break. Without a table the patterns are searched by links. A
     /// table takes memory and time. So it pays for a dictionary that is asked for many words: thousands in English,
-    /// tens of thousands in Hungarian. There is none if a value is more than 15 bytes before its key's end, or if it
-    /// would have more than 16 MB of cells. Nor has an extended dictionary with a value above 127 one. A word of an
-    /// extended dictionary whose breaks may change letters is searched by links as well. The only error is out of
-    /// memory; the dictionary can be used on as it was.
+    /// tens of thousands in Hungarian. There is none if a value is more than 15 bytes before its key's end. Nor is
+    /// there one of more than 67 MB of cells, or of 17 MB where more than 1,024 different lists of values end texts.
+    /// Nor has an extended dictionary with a value above 127 one. A word of an extended dictionary whose breaks may
+    /// change letters is searched by links as well. The only error is out of memory; the dictionary can be used on as
+    /// it was.
     ///
     /// ```text
     /// let mut dictionary = Standard::from_reader(alloc, language, &mut reader)?;

@@ -19,7 +19,7 @@ told_by token ps = cond (nat_lt 0 (length token) && list_all (λ written. is_som
 more : (n k : ℕ) → n < k → nat_lt n k ≡ true
 more n k h = grind (arith, nat_tests)
 
--- what a number alone says, and what is none
+-- what only a number says, and what is none
 abbrev told_number : Option ℕ → LaterToken
 told_number None = NoNumber
 told_number (Some place) = Sound place None

@@ -1,5 +1,5 @@
 -- The first part of a text that is cut at a byte; its first line.
-use Rattle.std.proofs.Common.{◌≡◌, ℕ, suc, ◌+◌, ◌-◌, ◌<◌, ◌≤◌, Bool, true, false, cond, not, eqb, nat_lt, List, [], ◌∷◌, ◌++◌, append_assoc, subst, length, take, drop, Some, None, refl, sym, ap, ◌∙◌, arith}
+use Rattle.std.proofs.Common.{◌≡◌, ℕ, suc, ◌+◌, ◌-◌, ◌<◌, ◌≤◌, Bool, true, false, cond, not, eqb, nat_lt, List, [], ◌∷◌, ◌++◌, append_assoc, subst, length, take, drop, Some, None, refl, sym, ap, ◌∙◌, arith, one-add}
 use Rattle.std.proofs.lemmas.Bool.Decides.{nat_tests}
 use Rattle.std.proofs.lemmas.List.{take_rest, length-drop, append-nil}
 use Rattle.std.proofs.lemmas.Str.{IsUtf8-nil}
@@ -7,9 +7,6 @@ use Rattle.std.specs.Prelude.{IsUtf8, position}
 use Rattle.hyphenation_grammar.specs.Lines.{lines_of, without_empty_last}
 use Rattle.std.specs.List.{slice_split, position_or_len, prefix_len, onto_first}
 use Rattle.hyphenation_grammar.proofs.AsciiSplits.{split_ascii, same_byte}
-
-one : (k : ℕ) → 1 + k ≡ suc k
-one k = omega arith
 
 no_space : (c : ℕ) (text : List ℕ) → length text ≤ position_or_len (λ b. eqb b c) text → slice_split (λ b. eqb b c) text ≡ text ∷ []
 no_space c [] h = refl
@@ -30,13 +27,13 @@ at_space c (b ∷ rest) h = by (eqb b c) h (λ k. at_space c rest k)
         → cond t ([] ∷ slice_split (λ b. eqb b c) rest) (onto_first b (slice_split (λ b. eqb b c) rest))
         ≡ take (cond (not t) (1 + prefix_len (λ x. not (eqb x c)) rest) 0) (b ∷ rest) ∷ slice_split (λ b. eqb b c) (drop (suc (cond (not t) (1 + prefix_len (λ x. not (eqb x c)) rest) 0)) (b ∷ rest))
     by true h more = refl
-    by false h more = rw (one (prefix_len (λ x. not (eqb x c)) rest)) (ap (onto_first b) (more (omega arith)))
+    by false h more = rw (one-add (prefix_len (λ x. not (eqb x c)) rest)) (ap (onto_first b) (more (omega arith)))
 
-absent : (t : Bool) (k : ℕ) → None ≡ cond t (Some k) None → t ≡ false
+pub absent : (t : Bool) (k : ℕ) → None ≡ cond t (Some k) None → t ≡ false
 absent true k e = absurd cc
 absent false k e = refl
 
-found : (t : Bool) (k at : ℕ) → Some at ≡ cond t (Some k) None → (t ≡ true) × (at ≡ k)
+pub found : (t : Bool) (k at : ℕ) → Some at ≡ cond t (Some k) None → (t ≡ true) × (at ≡ k)
 found true k at e = (refl, cc)
 found false k at e = absurd cc
 
@@ -74,7 +71,7 @@ cut_utf8 c small p (b ∷ rest) h u = by (eqb b c) refl h (λ k v. cut_utf8 c sm
         (subst IsUtf8 (sym (append-nil p)) parts.0, parts.1)
     by false e h more =
         let parts = more (omega arith) (subst IsUtf8 (sym (append_assoc p (b ∷ []) rest)) u) in
-        rw (one (prefix_len (λ x. not (eqb x c)) rest)) (subst IsUtf8 (append_assoc p (b ∷ []) (take (prefix_len (λ x. not (eqb x c)) rest) rest)) parts.0, parts.1)
+        rw (one-add (prefix_len (λ x. not (eqb x c)) rest)) (subst IsUtf8 (append_assoc p (b ∷ []) (take (prefix_len (λ x. not (eqb x c)) rest) rest)) parts.0, parts.1)
 
 pub ended-utf8 : (c : ℕ) → c < 128 → (text : List ℕ) (at : ℕ) → Some at ≡ position (λ b. eqb b c) text → IsUtf8 text
     → IsUtf8 (take at text) × IsUtf8 (take (length text - (at + 1)) (drop (at + 1) text))

@@ -6,17 +6,13 @@ use Rattle.std.proofs.lemmas.List.Folds.{list_all_more}
 use Rattle.std.specs.Prelude.{IfSome, codes, position}
 use Rattle.std.specs.List.{list_all, slice_split, onto_first, position_or_len, prefix_len}
 use Rattle.std.specs.Option.{option_map}
+use Rattle.std.proofs.lemmas.Bool.{and_parts}
 use Rattle.hyphenation_grammar.specs.Lines.{strip_prefix}
 use Rattle.hyphenation_grammar.specs.Parsed.{IsPatternLine, IsPatternToken, ReadPattern, nothing_read, read_pattern, with_spelt}
 use Rattle.hyphenation_grammar.specs.Tokens.{unescape_byte, escaped_bytes_after, pattern_bytes, pattern_escapes}
 use Rattle.hyphenation_grammar.specs.declared.form.Version.{Version}
 use Rattle.hyphenation_grammar.proofs.PatternBytes.{byte_more}
 use Rattle.hyphenation_grammar.specs.Private.Tokens.{is_ordinary}
-
-both_true : (a b : Bool) → (a && b) ≡ true → (a ≡ true) × (b ≡ true)
-both_true true true h = (refl, refl)
-both_true true false h = absurd cc
-both_true false b h = absurd cc
 
 -- an ordinary byte is no space, no line feed and no backslash
 no_feed : (b : ℕ) → is_ordinary b ≡ true → eqb b 10 ≡ false
@@ -31,7 +27,7 @@ no_backslash b h = grind (arith, nat_tests)
 one_token : (text : List ℕ) → list_all is_ordinary text ≡ true → slice_split (λ b. eqb b 32) text ≡ text ∷ []
 one_token [] h = refl
 one_token (b ∷ rest) h =
-    let here = both_true (is_ordinary b) (list_all is_ordinary rest) h in
+    let here = and_parts (is_ordinary b) (list_all is_ordinary rest) h in
     by (eqb b 32) (no_space b here.0) (one_token rest here.1)
   where
     by : (t : Bool) → t ≡ false → slice_split (λ b. eqb b 32) rest ≡ rest ∷ [] → cond t ([] ∷ slice_split (λ b. eqb b 32) rest) (onto_first b (slice_split (λ b. eqb b 32) rest)) ≡ (b ∷ rest) ∷ []
@@ -54,7 +50,7 @@ feed_from (b ∷ rest) zero lt all feed = by (eqb b 10) (same b feed)
     by true e = refl
     by false e = absurd cc
 feed_from (b ∷ rest) (suc k) lt all feed =
-    let here = both_true (is_ordinary b) (list_all is_ordinary (take k rest)) all in
+    let here = and_parts (is_ordinary b) (list_all is_ordinary (take k rest)) all in
     by (eqb b 10) (no_feed b here.0) (feed_from rest k (omega (arith, lt)) here.1 feed)
   where
     by : (t : Bool) → t ≡ false → prefix_len (λ x. not (eqb x 10)) rest ≡ k → cond (not t) (1 + prefix_len (λ x. not (eqb x 10)) rest) 0 ≡ suc k

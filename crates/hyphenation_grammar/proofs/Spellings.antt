@@ -1,11 +1,12 @@
 -- Each spelling of bytes and of elements is read as these. Nothing else is read.
-use Rattle.std.proofs.Common.{◌≡◌, ◌∙◌, ℕ, ◌+◌, ◌-◌, ◌≤◌, ◌<◌, Bool, true, false, cond, not, ◌&&◌, ◌||◌, eqb, List, [], ◌∷◌, ◌++◌, Option, Some, None, refl, sym, ap, subst, append_assoc, arith, inl, inr, ◌≢◌}
+use Rattle.std.proofs.Common.{◌≡◌, ◌∙◌, ℕ, ◌+◌, ◌-◌, ◌≤◌, Bool, true, false, cond, not, ◌||◌, eqb, List, [], ◌∷◌, ◌++◌, Option, Some, None, refl, sym, ap, subst, append_assoc, arith, inl, inr, ◌≢◌, ne_of_lt}
 use Rattle.std.specs.List.{list_all}
 use Rattle.std.specs.Option.{option_map, option_and_then}
 use Rattle.std.specs.Cmp.{first_so, second_so}
 use Rattle.std.proofs.lemmas.List.{append-nil}
-use Rattle.std.proofs.lemmas.Bool.{eqb-true}
+use Rattle.std.proofs.lemmas.Bool.{eqb-true, and_parts, not-true, ne_eqb}
 use Rattle.std.proofs.lemmas.Bool.Decides.{nat_tests}
+use Rattle.hyphenation_grammar.proofs.TokenUtf8.{joined_some, none_joined, mapped_some, never_closed, none_and_then}
 use Rattle.hyphenation_grammar.specs.Lines.{is_digit}
 use Rattle.hyphenation_grammar.specs.Laws.{SpeltOneByOne, SpellsByte, unescaped, writes_value, IsBraced, SpellsElement, IsSpeltPattern}
 use Rattle.hyphenation_grammar.specs.Tokens.{escaped_bytes_after, byte_of_escape, concatenation, unescape_byte, element_of, is_unescaped, is_unescaped_digit, braced_value, step_outside, step_inside, step_at, elements_from, elements_of, pattern_escapes, pattern_bytes}
@@ -31,14 +32,6 @@ apart a b e = λ is. over a b e is
     over : (a b : ℕ) → eqb a b ≡ false → a ≡ b → ⊥
     over a b e is = grind (arith, nat_tests)
 
-both_on : (a b : Bool) → (a && b) ≡ true → (a ≡ true) × (b ≡ true)
-both_on true b e = (refl, e)
-both_on false b e = absurd cc
-
-not_on : (b : Bool) → not b ≡ true → b ≡ false
-not_on true e = absurd cc
-not_on false e = refl
-
 none_of_three : (a b c : Bool) → (a || (b || c)) ≡ false → (a ≡ false) × (b ≡ false) × (c ≡ false)
 none_of_three true b c e = absurd cc
 none_of_three false true c e = absurd cc
@@ -54,25 +47,18 @@ raw b = record { byte = b; escaped = false }
 
 raw_is : (b : ℕ) (s : EscapedByte) → is_unescaped b s ≡ true → raw b ≡ s
 raw_is b s e =
-    let two = both_on (not s.escaped) (eqb s.byte b) e in
-    let stands : s.escaped ≡ false = not_on s.escaped two.0 in
+    let two = and_parts (not s.escaped) (eqb s.byte b) e in
+    let stands : s.escaped ≡ false = not-true s.escaped two.0 in
     let same : s.byte ≡ b = eqb-true s.byte b two.1 in
     λ i. record { byte = sym same i; escaped = sym stands i }
 
 raw_digit : (s : EscapedByte) → is_unescaped_digit s ≡ true → (raw s.byte ≡ s) × (is_digit s.byte ≡ true)
 raw_digit s e =
-    let two = both_on (not s.escaped) (is_digit s.byte) e in
-    let stands : s.escaped ≡ false = not_on s.escaped two.0 in
+    let two = and_parts (not s.escaped) (is_digit s.byte) e in
+    let stands : s.escaped ≡ false = not-true s.escaped two.0 in
     (λ i. record { byte = s.byte; escaped = sym stands i }, two.1)
 
 -- ---- bytes
-
-joined_some : (front : List EscapedByte) (rest : Option (List EscapedByte)) (ss : List EscapedByte) → concatenation (Some front) rest ≡ Some ss → (more : List EscapedByte) × (rest ≡ Some more) × (front ++ more ≡ ss)
-joined_some front None ss e = absurd cc
-joined_some front (Some more) ss e = (more, refl, cc)
-
-none_joined : (rest : Option (List EscapedByte)) (ss : List EscapedByte) → concatenation None rest ≡ Some ss → ⊥
-none_joined rest ss e = absurd cc
 
 read_plain : (es : Escapes) (b : ℕ) (rest : List ℕ) (ss : List EscapedByte) → eqb b 92 ≡ false → eqb b 13 ≡ false → escaped_bytes_after es false rest ≡ Some ss
     → escaped_bytes_after es false (b ∷ rest) ≡ Some (raw b ∷ ss)
@@ -160,15 +146,12 @@ letter_taken Second b s is off =
 digit_is : (v : ℕ) → v ≤ 9 → is_digit (48 + v) ≡ true
 digit_is v h = grind (arith, nat_tests)
 
-not_brace : (a b : ℕ) → a < b → eqb a b ≡ false
-not_brace a b h = grind (arith, nat_tests)
-
 value_is : (v : ℕ) → v ≤ 9 → element_of (raw (48 + v)) ≡ Value v
 value_is v h = let e : is_digit (48 + v) ≡ true = digit_is v h in rw e (ap (λ (x : ℕ). Value x) (omega arith))
 
 digit_taken : (version : Version) (v : ℕ) → v ≤ 9 → step_at version None (raw (48 + v)) ≡ Some (None, Value v ∷ [])
 digit_taken First v h = ap (λ (m : PatternElement). Some (None, m ∷ [])) (value_is v h)
-digit_taken Second v h = rw (not_brace (48 + v) 123 (omega arith), not_brace (48 + v) 125 (omega arith)) (ap (λ (m : PatternElement). Some (None, m ∷ [])) (value_is v h))
+digit_taken Second v h = rw (ne_eqb (48 + v) 123 (ne_of_lt (omega arith)), ne_eqb (48 + v) 125 (ne_of_lt (omega arith))) (ap (λ (m : PatternElement). Some (None, m ∷ [])) (value_is v h))
 
 closes_none : (b : ℕ) → is_digit b ≡ true → eqb b 125 ≡ false
 closes_none b e = grind (arith, nat_tests)
@@ -223,13 +206,6 @@ elements-read version ss [] h = ap (elements_from version None) h
 elements-read version ss (m ∷ ms) h = ap (elements_from version None) h.2 ∙ first_element version m ms h.0 h.1 h.3 (elements-read version h.1 ms h.4)
 
 -- ---- elements: nothing else is read
-
-none_and_then : (f : Option (List ℕ) × List PatternElement → Option (List PatternElement)) (ms : List PatternElement) → option_and_then f None ≡ Some ms → ⊥
-none_and_then f ms e = cc
-
-mapped_some : (front : List PatternElement) (o : Option (List PatternElement)) (ms : List PatternElement) → option_map (λ marks. front ++ marks) o ≡ Some ms → (rest : List PatternElement) × (o ≡ Some rest) × (front ++ rest ≡ ms)
-mapped_some front None ms e = absurd cc
-mapped_some front (Some rest) ms e = (rest, refl, cc)
 
 abbrev Spells : Version → List PatternElement → List EscapedByte → Type 0
 Spells version ms ss = SpeltOneByOne (SpellsElement version) ms ss
@@ -303,11 +279,6 @@ inside_spelt digits s ss ms more e = by (is_unescaped 125 s) (is_unescaped_digit
         subst (λ (xs : List PatternElement). Spells Second xs (raw 123 ∷ (unescaped digits ++ s ∷ ss))) r.2
         (subst (λ (xs : List EscapedByte). Spells Second r.0 (raw 123 ∷ xs)) joined (more.1 (digits ++ s.byte ∷ []) r.0 r.1))
     by false false is isd e' = absurd (none_and_then (rest_of Second ss) ms e')
-
--- the first version closes no brace
-never_closed : (digits : List ℕ) (ss : List EscapedByte) (ms : List PatternElement) → elements_from First (Some digits) ss ≡ Some ms → ⊥
-never_closed digits [] ms e = cc
-never_closed digits (s ∷ ss) ms e = let r = mapped_some (element_of s ∷ []) (elements_from First (Some digits) ss) ms e in never_closed digits ss r.0 r.1
 
 all_spelt : (version : Version) (ss : List EscapedByte) → AllSpelt version ss
 all_spelt version [] = (λ ms e. let none : [] ≡ ms = cc in subst (λ (xs : List PatternElement). Spells version xs []) none refl, λ digits ms e. absurd cc)

@@ -4,6 +4,7 @@ use Rattle.std.proofs.lemmas.Bool.Decides.{nat_tests}
 use Rattle.std.proofs.lemmas.List.{take_rest}
 use Rattle.std.specs.Prelude.{position, IsSome}
 use Rattle.std.specs.List.{position_or_len, prefix_len, onto_first}
+use Rattle.hyphenation_grammar.proofs.LinesSplit.{absent, found}
 use Rattle.hyphenation_grammar.specs.Tokens.{parts_within, put_byte}
 
 pub none_left : (text : List ℕ) → parts_within 0 text ≡ text ∷ []
@@ -37,14 +38,6 @@ at_comma n (b ∷ rest) e h = by (eqb b 44) h (λ k. at_comma n rest e k)
         ≡ take (cond (not t) (1 + prefix_len (λ x. not (eqb x 44)) rest) 0) (b ∷ rest) ∷ parts_within (n - 1) (drop (suc (cond (not t) (1 + prefix_len (λ x. not (eqb x 44)) rest) 0)) (b ∷ rest))
     by true h more = rw e refl
     by false h more = rw (one (prefix_len (λ x. not (eqb x 44)) rest)) (ap (onto_first b) (more (omega arith)))
-
-absent : (t : Bool) (k : ℕ) → None ≡ cond t (Some k) None → t ≡ false
-absent true k e = absurd cc
-absent false k e = refl
-
-found : (t : Bool) (k at : ℕ) → Some at ≡ cond t (Some k) None → (t ≡ true) × (at ≡ k)
-found true k at e = (refl, cc)
-found false k at e = absurd cc
 
 pub unparted : (n : ℕ) (text : List ℕ) → None ≡ position (λ b. eqb b 44) text → parts_within n text ≡ text ∷ []
 unparted n text e = no_comma n text (far (absent (nat_lt (position_or_len (λ b. eqb b 44) text) (length text)) (position_or_len (λ b. eqb b 44) text) e))

@@ -6,6 +6,7 @@ use Rattle.std.specs.Option.{option_map, option_and_then}
 use Rattle.std.proofs.lemmas.List.{append-nil}
 use Rattle.std.proofs.lemmas.Bool.Decides.{nat_tests}
 use Rattle.std.proofs.lemmas.Str.{IsUtf8-append, IsCharBoundary-at_seam}
+use Rattle.std.proofs.lemmas.Bool.{and_parts, not-true}
 use Rattle.hyphenation_grammar.specs.Lines.{is_digit}
 use Rattle.hyphenation_grammar.specs.Tokens.{values_from, escaped_bytes_after, escaped_bytes_of, byte_of_escape, escaped_also, concatenation, unescape_byte, bytes_of, element_of, key_of, is_unescaped, is_unescaped_digit, braced_value, step_outside, step_inside, elements_from, elements_of, pattern_escapes, pattern_bytes}
 use Rattle.hyphenation_grammar.specs.declared.form.Version.{Version}
@@ -27,11 +28,11 @@ seams-utf8 p [] h = subst IsUtf8 (sym (append-nil p)) h
 seams-utf8 p (Letter b ∷ ms) h = subst IsUtf8 (append_assoc p (b ∷ []) (key_of ms)) (seams-utf8 (p ++ b ∷ []) ms h)
 seams-utf8 p (Value v ∷ ms) h = IsUtf8-append p (key_of ms) h.0 (seams-utf8 [] ms h.1)
 
-joined_some : (front : List EscapedByte) (rest : Option (List EscapedByte)) (ss : List EscapedByte) → concatenation (Some front) rest ≡ Some ss → (more : List EscapedByte) × (rest ≡ Some more) × (front ++ more ≡ ss)
+pub joined_some : (front : List EscapedByte) (rest : Option (List EscapedByte)) (ss : List EscapedByte) → concatenation (Some front) rest ≡ Some ss → (more : List EscapedByte) × (rest ≡ Some more) × (front ++ more ≡ ss)
 joined_some front None ss e = absurd cc
 joined_some front (Some more) ss e = (more, refl, cc)
 
-none_joined : (rest : Option (List EscapedByte)) (ss : List EscapedByte) → concatenation None rest ≡ Some ss → ⊥
+pub none_joined : (rest : Option (List EscapedByte)) (ss : List EscapedByte) → concatenation None rest ≡ Some ss → ⊥
 none_joined rest ss e = absurd cc
 
 small_meaning : (es : Escapes) (c m : ℕ) → byte_of_escape es c ≡ Some m → (c < 128) × (m < 128)
@@ -105,14 +106,6 @@ spelt-utf8 p (s ∷ ss) h = subst IsUtf8 (append_assoc p (s.byte ∷ []) (bytes_
 small_digit_byte : (b : ℕ) → is_digit b ≡ true → b < 128
 small_digit_byte b e = grind (arith, nat_tests)
 
-both_on : (a b : Bool) → (a && b) ≡ true → (a ≡ true) × (b ≡ true)
-both_on true b e = (refl, e)
-both_on false b e = absurd cc
-
-not_on : (b : Bool) → not b ≡ true → b ≡ false
-not_on true e = absurd cc
-not_on false e = refl
-
 -- a mark of its own
 one_mark : (p : List ℕ) (s : EscapedByte) (ss : List EscapedByte) (ms : List PatternElement) → AreParted p (s ∷ ss) → (AreParted (p ++ s.byte ∷ []) ss → AreSeams (p ++ s.byte ∷ []) ms) → (AreParted [] ss → AreSeams [] ms)
     → AreSeams p (element_of s ∷ ms)
@@ -120,8 +113,8 @@ one_mark p s ss ms h letter value = by (not s.escaped && is_digit s.byte) refl
   where
     by : (t : Bool) → (not s.escaped && is_digit s.byte) ≡ t → AreSeams p (cond t (Value (s.byte - 48)) (Letter s.byte) ∷ ms)
     by true e =
-        let two = both_on (not s.escaped) (is_digit s.byte) e in
-        let cut = h.1 (not_on s.escaped two.0) (small_digit_byte s.byte two.1) in
+        let two = and_parts (not s.escaped) (is_digit s.byte) e in
+        let cut = h.1 (not-true s.escaped two.0) (small_digit_byte s.byte two.1) in
         (cut.0, value cut.1)
     by false e = letter h.0
 
@@ -131,18 +124,18 @@ Between version ss = ((p : List ℕ) (ms : List PatternElement) → AreParted p 
     × ((p digits : List ℕ) (ms : List PatternElement) → IsUtf8 p → AreParted [] ss → elements_from version (Some digits) ss ≡ Some ms → AreSeams p ms)
 
 raw_byte : (b : ℕ) (s : EscapedByte) → is_unescaped b s ≡ true → b < 128 → (s.escaped ≡ false) × (s.byte < 128)
-raw_byte b s e small = let two = both_on (not s.escaped) (eqb s.byte b) e in (not_on s.escaped two.0, same_byte s.byte b two.1 small)
+raw_byte b s e small = let two = and_parts (not s.escaped) (eqb s.byte b) e in (not-true s.escaped two.0, same_byte s.byte b two.1 small)
 
 raw_digit : (s : EscapedByte) → is_unescaped_digit s ≡ true → (s.escaped ≡ false) × (s.byte < 128)
-raw_digit s e = let two = both_on (not s.escaped) (is_digit s.byte) e in (not_on s.escaped two.0, small_digit_byte s.byte two.1)
+raw_digit s e = let two = and_parts (not s.escaped) (is_digit s.byte) e in (not-true s.escaped two.0, small_digit_byte s.byte two.1)
 
-none_and_then : (f : Option (List ℕ) × List PatternElement → Option (List PatternElement)) (ms : List PatternElement) → option_and_then f None ≡ Some ms → ⊥
+pub none_and_then : (f : Option (List ℕ) × List PatternElement → Option (List PatternElement)) (ms : List PatternElement) → option_and_then f None ≡ Some ms → ⊥
 none_and_then f ms e = cc
 
 abbrev rest_of : Version → List EscapedByte → Option (List ℕ) × List PatternElement → Option (List PatternElement)
 rest_of version ss step = option_map (λ marks. step.1 ++ marks) (elements_from version step.0 ss)
 
-mapped_some : (front : List PatternElement) (o : Option (List PatternElement)) (ms : List PatternElement) → option_map (λ marks. front ++ marks) o ≡ Some ms → (rest : List PatternElement) × (o ≡ Some rest) × (front ++ rest ≡ ms)
+pub mapped_some : (front : List PatternElement) (o : Option (List PatternElement)) (ms : List PatternElement) → option_map (λ marks. front ++ marks) o ≡ Some ms → (rest : List PatternElement) × (o ≡ Some rest) × (front ++ rest ≡ ms)
 mapped_some front None ms e = absurd cc
 mapped_some front (Some rest) ms e = (rest, refl, cc)
 
@@ -184,7 +177,7 @@ inside_marks ss more p digits s ms u h e = by (is_unescaped 125 s) (is_unescaped
     by false false is isd e' = absurd (none_and_then (rest_of Second ss) ms e')
 
 -- the first version closes no brace
-never_closed : (digits : List ℕ) (ss : List EscapedByte) (ms : List PatternElement) → elements_from First (Some digits) ss ≡ Some ms → ⊥
+pub never_closed : (digits : List ℕ) (ss : List EscapedByte) (ms : List PatternElement) → elements_from First (Some digits) ss ≡ Some ms → ⊥
 never_closed digits [] ms e = cc
 never_closed digits (s ∷ ss) ms e = let r = mapped_some (element_of s ∷ []) (elements_from First (Some digits) ss) ms e in never_closed digits ss r.0 r.1
 

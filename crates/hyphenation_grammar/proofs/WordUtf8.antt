@@ -1,9 +1,10 @@
 -- The word that a UTF-8 token spells is UTF-8.
-use Rattle.std.proofs.Common.{◌≡◌, ◌∙◌, ℕ, Bool, true, false, cond, ◌&&◌, ◌||◌, eqb, not, List, [], ◌∷◌, Option, Some, None, refl, sym, ap, subst}
+use Rattle.std.proofs.Common.{◌≡◌, ◌∙◌, ℕ, Bool, true, false, cond, ◌||◌, eqb, not, List, [], ◌∷◌, Option, Some, None, refl, sym, ap, subst}
 use Rattle.std.specs.List.{list_all}
 use Rattle.std.specs.Prelude.{IsUtf8}
 use Rattle.std.specs.Option.{option_map}
 use Rattle.std.proofs.lemmas.Str.{IsUtf8-nil}
+use Rattle.std.proofs.lemmas.Bool.{and_parts, or_parts, not-true}
 use Rattle.hyphenation_grammar.specs.Lines.{is_same}
 use Rattle.hyphenation_grammar.specs.Tokens.{text_spelt, escaped_bytes_of, concatenation, bytes_of}
 use Rattle.hyphenation_grammar.specs.Private.Tokens.{stands_for_itself}
@@ -24,15 +25,6 @@ word-utf8 token bytes u e = by (is_same token (92 ∷ 101 ∷ [])) e
 
 -- ---- a text without escapes
 
-both_on : (a b : Bool) → (a && b) ≡ true → (a ≡ true) × (b ≡ true)
-both_on true b e = (refl, e)
-both_on false b e = absurd cc
-
-no_escape : (s r : Bool) → not (s || r) ≡ true → (s ≡ false) × (r ≡ false)
-no_escape true r e = absurd cc
-no_escape false true e = absurd cc
-no_escape false false e = (refl, refl)
-
 one_more : (sign : EscapedByte) (o : Option (List EscapedByte)) (text : List ℕ) → option_map bytes_of o ≡ Some text → option_map bytes_of (concatenation (Some (sign ∷ [])) o) ≡ Some (sign.byte ∷ text)
 one_more sign None text e = absurd cc
 one_more sign (Some ss) text e =
@@ -42,15 +34,15 @@ one_more sign (Some ss) text e =
 plain_signs : (text : List ℕ) → list_all stands_for_itself text ≡ true → option_map bytes_of (escaped_bytes_of Plain text) ≡ Some text
 plain_signs [] e = refl
 plain_signs (b ∷ text) e =
-    let parts = both_on (stands_for_itself b) (list_all stands_for_itself text) e in
-    let off = no_escape (eqb b 92) (eqb b 13) parts.0 in
+    let parts = and_parts (stands_for_itself b) (list_all stands_for_itself text) e in
+    let off = or_parts (eqb b 92) (eqb b 13) (not-true (eqb b 92 || eqb b 13) parts.0) in
     rw (off.0, off.1) (one_more (record { byte = b; escaped = false }) (escaped_bytes_of Plain text) text (plain_signs text parts.1))
 
 not_empty_mark : (text : List ℕ) → list_all stands_for_itself text ≡ true → is_same text (92 ∷ 101 ∷ []) ≡ false
 not_empty_mark [] e = refl
 not_empty_mark (b ∷ text) e =
-    let parts = both_on (stands_for_itself b) (list_all stands_for_itself text) e in
-    let off = no_escape (eqb b 92) (eqb b 13) parts.0 in
+    let parts = and_parts (stands_for_itself b) (list_all stands_for_itself text) e in
+    let off = or_parts (eqb b 92) (eqb b 13) (not-true (eqb b 92 || eqb b 13) parts.0) in
     rw off.0 refl
 
 pub text_itself : (text : List ℕ) → list_all stands_for_itself text ≡ true → Some text ≡ text_spelt text

@@ -90,7 +90,7 @@ abbrev pub IsPatternToken : ReadPattern → List ℕ → Type 0
 IsPatternToken pattern text =
     (0 < length text) × (between_spaces text ≡ text ∷ []) × ((version : Version) → Some pattern ≡ read_pattern version text)
 
--- A line is `p ` and such a token.
+-- A line is `p ` and a token of that sort.
 abbrev pub IsPatternLine : ReadPattern → List ℕ → Type 0
 IsPatternLine pattern line = (text : List ℕ) × (Some text ≡ strip_prefix (codes "p ") line) × IsPatternToken pattern text
 

@@ -193,7 +193,7 @@ fn are_digits(text: &[u8]) -> bool
     text.iter().all(|byte| is_digit(*byte))
 }
 
-// Whether a text is not empty, and begins with no zero unless it is that zero alone.
+// Whether a text is not empty, and begins with no zero unless it is only that zero.
 fn has_no_leading_zero(text: &[u8]) -> bool
     ensures { result ≡ has_no_leading_zero text.now }
 {

@@ -292,7 +292,7 @@ pub fn next_line_reading<'t>(
     }
 }
 
-// Reads the first line of a text, if it is `p ` and an ordinary token alone and ends with a line feed. Returns that line and
+// Reads the first line of a text, if it is only `p ` and an ordinary token, and ends with a line feed. Returns that line and
 // the rest of the text after it. `None` also if memory is refused: the line is read otherwise then, and the error found.
 #[inline(always)]
 fn ordinary_line<'t>(text: &'t [u8], pattern: &mut PatternToken) -> Option<(&'t [u8], &'t [u8])>

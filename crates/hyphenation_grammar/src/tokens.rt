@@ -353,7 +353,7 @@ pub fn string_of(alloc: Global, token: &[u8]) -> Result<Option<String>, AllocErr
     Ok(Some(String::from_utf8(text).unwrap()))
 }
 
-// Whether each part can be read. `\e` is allowed after the fourth comma alone.
+// Whether each part can be read. `\e` is allowed only after the fourth comma.
 fn are_readable(parts: &[&[u8]]) -> bool
     ensures { result ≡ are_readable (texts_now parts.now) }
 {

@@ -64,7 +64,7 @@ entry_stays {C} change_of key (e ∷ es) i entry h lt is =
       | suc i ↦ λ lt there. entry_stays change_of key es i entry all.1 (omega arith) there
     ] lt is
 
--- A change has the same bounds in the word as in the key, but for the dots of the frame.
+-- A change has the same bounds in the word as in the key, without the dots of the frame.
 in_word : (word : List ℕ) (p start end at : ℕ) (change : Change) → IsUtf8 word → start < end → end ≤ length (frame word) → IsUtf8 (slice_range (frame word) start end) → start + at ≡ p + 1
     → KeepsWithin (slice_range (frame word) start end) at change → Ranged word (break_at p (Some change))
 in_word word p start end at change u some within v place k = λ left last.

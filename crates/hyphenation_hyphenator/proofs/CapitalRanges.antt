@@ -29,7 +29,7 @@ pub none_upper_between : (low high c : ℕ) → list_all (is_apart low high) upp
 unfolding is_uppercase
 none_upper_between low high c h l k = in_none low high c uppercase_ranges h l k
 
--- The first range alone holds ASCII characters.
+-- Only the first range holds ASCII characters.
 pub is_uppercase_ascii : (c : ℕ) → c < 128 → is_ascii_uppercase c ≡ is_uppercase c
 unfolding is_uppercase uppercase_ranges in_ranges
 is_uppercase_ascii c below =

@@ -1,12 +1,13 @@
 -- Common lowercase letters are no capitals and no soft hyphens, and a word of them folds to itself.
-use Rattle.std.proofs.Common.{◌≡◌, ℕ, zero, suc, ◌+◌, ◌-◌, ◌*◌, ◌<◌, ◌≤◌, ◌==◌, ◌&&◌, ◌||◌, ◌⊎◌, Bool, true, false, cond, nat_le, leb-true, le-leb, eqb-true, List, [], ◌∷◌, length, take, drop, slice_index, refl, sym, ap, subst, ◌∙◌, arith, inl, inr}
+use Rattle.std.proofs.Common.{◌≡◌, ℕ, zero, suc, ◌+◌, ◌-◌, ◌*◌, ◌<◌, ◌≤◌, ◌==◌, ◌&&◌, ◌||◌, ◌⊎◌, true, false, cond, nat_le, leb-true, eqb-true, List, [], ◌∷◌, length, take, drop, slice_index, refl, sym, ap, subst, ◌∙◌, arith, inl, inr}
 use Rattle.std.specs.Char.{is_ascii_lowercase}
 use Rattle.std.specs.List.{list_all, list_any}
 use Rattle.std.specs.Str.{IsUtf8, IsCharBoundary, chars, chars_after}
 use Rattle.std.proofs.Math.Seq.{drop-cons}
-use Rattle.std.proofs.lemmas.Bool.{and_parts, or_cases, cases_lt, lt-ltb, le-ltb}
+use Rattle.std.proofs.lemmas.Bool.{and_parts, or_cases, cases_lt, lt-ltb, le-ltb, or_left, or_right}
 use Rattle.std.proofs.lemmas.List.{drop_all}
 use Rattle.std.proofs.lemmas.Str.{chars-nil}
+use Rattle.hyphenation_hyphenator.proofs.OddPlaces.{is_within}
 use Rattle.ucd_derived.specs.UppercaseRanges.{uppercase_ranges}
 use Rattle.unicode.specs.Binary.{is_uppercase}
 use Rattle.hyphenation_breaks.specs.Break.{Break}
@@ -81,17 +82,6 @@ one_left word at lt ge =
 
 -- ---- by their characters
 
-pub or_left : (a b : Bool) → a ≡ true → (a || b) ≡ true
-or_left true b e = refl
-or_left false b e = absurd cc
-
-or_right : (a b : Bool) → b ≡ true → (a || b) ≡ true
-or_right true b e = refl
-or_right false b e = e
-
-in_range : (low high c : ℕ) → low ≤ c → c ≤ high → (nat_le low c && nat_le c high) ≡ true
-in_range low high c a b = rw (le-leb low c a, le-leb c high b) refl
-
 lower_below : (c : ℕ) → is_ascii_lowercase c ≡ true → c < 0x80
 lower_below c e = let last = leb-true c 0x7A (and_parts (nat_le 0x61 c) (nat_le c 0x7A) e).1 in omega arith
 
@@ -99,10 +89,10 @@ lower_small : (c : ℕ) → is_ascii_lowercase c ≡ true → is_common_lowercas
 lower_small c e = or_left _ _ (or_left _ _ (or_left _ _ e))
 
 cyrillic_small : (c : ℕ) → 0x430 ≤ c → c ≤ 0x45F → is_common_lowercase c ≡ true
-cyrillic_small c low high = or_left _ _ (or_right ((nat_le 0x61 c && nat_le c 0x7A) || (nat_le 0xDF c && nat_le c 0xFF)) _ (in_range 0x430 0x45F c low high))
+cyrillic_small c low high = or_left _ _ (or_right ((nat_le 0x61 c && nat_le c 0x7A) || (nat_le 0xDF c && nat_le c 0xFF)) _ (is_within 0x430 0x45F c low high))
 
 latin_small : (c : ℕ) → 0xDF ≤ c → c ≤ 0xFF → is_common_lowercase c ≡ true
-latin_small c low high = or_left _ _ (or_left _ _ (or_right (nat_le 0x61 c && nat_le c 0x7A) _ (in_range 0xDF 0xFF c low high)))
+latin_small c low high = or_left _ _ (or_left _ _ (or_right (nat_le 0x61 c && nat_le c 0x7A) _ (is_within 0xDF 0xFF c low high)))
 
 long_small : (c : ℕ) → (c ≡ 0x151) ⊎ (c ≡ 0x171) → is_common_lowercase c ≡ true
 long_small c (inl is) = ap is_common_lowercase is

@@ -1,7 +1,7 @@
 -- Words whose pairs of bytes all encode common lowercase letters of Cyrillic, tested in lanes.
 use Rattle.std.proofs.Common.{◌≡◌, ℕ, zero, suc, ◌+◌, ◌-◌, ◌/◌, ◌%◌, ◌^◌, ◌<◌, ◌≤◌, eqb, ltb, ◌&&◌, ◌||◌, not, cond, nat_le, Bool, true, false, List, [], ◌∷◌, ◌++◌, map, length, get_or, drop, replicate, refl, sym, ap, ◌∙◌, w8, arith, inl, inr}
 use Rattle.std.specs.List.{range_with_len}
-use Rattle.std.proofs.lemmas.Bool.{cases_lt, agree_below_at, not-false}
+use Rattle.std.proofs.lemmas.Bool.{cases_lt, agree_below_at, not-false, or_left}
 use Rattle.std.proofs.lemmas.List.{get_or_append_left, get_or-append_right, get_or-drop}
 use Rattle.std.proofs.lemmas.List.FromFn.{get_or-range_with_len}
 use Rattle.std.proofs.lemmas.Simd.{mask_l-mod, zip2_of_maps, splat_is_map, pick_l_whole, none_from_empty_mask, length-chunk, get_or-chunk}
@@ -10,7 +10,7 @@ use borrow.Rule.Simd.Lanes.{act1, act2}
 use borrow.Table.Row.{s_int}
 use mir.Syntax.{bit_and, bit_or, bit_not}
 use Rattle.hyphenation_hyphenator.specs.Private.CommonLowercase.{is_common_pair, are_common_lowercase}
-use Rattle.hyphenation_hyphenator.proofs.CommonLowercase.{pair_first, pair_small, or_left}
+use Rattle.hyphenation_hyphenator.proofs.CommonLowercase.{pair_first, pair_small}
 
 -- ---- lanes
 

@@ -1,20 +1,10 @@
 -- A word that is added to a map and removed again.
 use Rattle.std.proofs.Common.{◌≡◌, ℕ, Bool, true, false, cond, List, Option, Some, None, refl, sym, ap, subst, ◌∙◌}
-use Rattle.std.specs.Ordering.{nat_cmp, eq_by_cmp, is_eq}
-use Rattle.std.specs.declared.cmp.Ordering.{Ordering}
-use Rattle.std.specs.declared.cmp.Ordering.TheVariants.{Less, Equal, Greater}
-use Rattle.std.specs.Cmp.Lexicographic.{slice_cmp, nat_list_cmp_total}
+use Rattle.std.specs.Ordering.{nat_cmp, eq_by_cmp}
+use Rattle.std.specs.Cmp.Lexicographic.{slice_cmp, nat_list_cmp_total, bytes_decides, texts_ties}
 use Rattle.std.specs.FinMap as finite
 use Rattle.std.specs.FinMap.{get-insert, get-remove, same_map, nat_cmp-IsAntisymmetric, slice_cmp-IsAntisymmetric}
 use Rattle.hyphenation_breaks.specs.Dictionary.{TextMap}
-
-tie : (a b : List ℕ) → eq_by_cmp (slice_cmp nat_cmp) a b ≡ true → a ≡ b
-tie a b e = slice_cmp-IsAntisymmetric nat_cmp-IsAntisymmetric a b (equal (slice_cmp nat_cmp a b) e)
-  where
-    equal : (r : Ordering) → is_eq r ≡ true → r ≡ Equal
-    equal Less e = absurd cc
-    equal Equal e = refl
-    equal Greater e = absurd cc
 
 pub undone : {X : Type 0} (m : TextMap X) (word : List ℕ) (x : X) → finite.get m word ≡ None → finite.remove (finite.insert m word x) word ≡ m
 undone {X} m word x none =
@@ -24,5 +14,5 @@ undone {X} m word x none =
     ∙ by q (eq_by_cmp (slice_cmp nat_cmp) q word) refl)
   where
     by : (q : List ℕ) (t : Bool) → eq_by_cmp (slice_cmp nat_cmp) q word ≡ t → cond t None (cond t (Some x) (finite.get m q)) ≡ finite.get m q
-    by q true e = sym (subst (λ (k : List ℕ). finite.get m k ≡ None) (sym (tie q word e)) none)
+    by q true e = sym (subst (λ (k : List ℕ). finite.get m k ≡ None) (sym ((bytes_decides q word).0 (texts_ties q word ∙ e))) none)
     by q false e = refl

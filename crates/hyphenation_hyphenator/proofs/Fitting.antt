@@ -1,16 +1,17 @@
 -- Kept breaks, carried back, fit the word as written.
-use Rattle.std.proofs.Common.{◌≡◌, ◌==◌, ℕ, zero, suc, ◌+◌, ◌-◌, ◌<◌, ◌≤◌, ◌^◌, ◌&&◌, ◌||◌, not, Bool, true, false, cond, nat_le, nat_lt, le-leb, lt-ltb, leb-true, ltb-true, ltb-false, List, [], ◌∷◌, ◌++◌, length, map, filter, chars, take, refl, sym, ap, subst, ◌∙◌, arith, add-zero}
+use Rattle.std.proofs.Common.{◌≡◌, ℕ, zero, suc, ◌+◌, ◌-◌, ◌<◌, ◌≤◌, ◌^◌, ◌&&◌, ◌||◌, not, Bool, true, false, cond, nat_le, nat_lt, le-leb, lt-ltb, leb-true, ltb-true, ltb-false, List, [], ◌∷◌, ◌++◌, length, map, filter, chars, take, refl, sym, ap, subst, ◌∙◌, arith, add-zero}
 use Rattle.std.specs.Char.{encode_utf8}
 use Rattle.std.specs.List as lists
 use Rattle.std.specs.List.{slice_index, list_any, range_with_len}
 use Rattle.std.specs.Prelude.{All}
 use Rattle.std.specs.Str.{IsUtf8, IsCharBoundary}
-use Rattle.std.proofs.lemmas.Bool.{and_parts}
+use Rattle.std.proofs.lemmas.Bool.{and_parts, not-true, and_from}
 use Rattle.std.proofs.lemmas.List.{append-nil, get_or-map, append_assoc}
 use Rattle.std.proofs.lemmas.List.Elements.{All-nil, All-cons}
 use Rattle.std.proofs.lemmas.List.Folds.{list_all-append, list_any_at}
 use Rattle.std.proofs.lemmas.Str.{IsCharBoundary-start}
 use Rattle.std.proofs.lemmas.List.FromFn.{get_or-range_with_len, length-range_with_len}
+use Rattle.hyphenation_hyphenator.proofs.Shifts.{equal_from_not}
 use Rattle.hyphenation_breaks.specs.Break.{Break, break_at, left_of, right_of, begin_of, end_of}
 use Rattle.hyphenation_segments.specs.Fits.{Fits, FitsFrom, BreakFitsAfter}
 use Rattle.hyphenation_hyphenator.specs.Fitting.{holds_length_change, range_keeps_lengths, is_after, keep_break, kept_breaks, fitted_breaks, KeepsRange}
@@ -24,7 +25,7 @@ use Rattle.hyphenation_hyphenator.proofs.Places.{place_more, place_keeps_order, 
 use Rattle.hyphenation_hyphenator.proofs.RulesAscend.{AscendFrom, ascend_earlier, from_ascending}
 use Rattle.hyphenation_hyphenator.proofs.Standard.{realigned_boundary}
 
--- ---- the same breaks, kept with the end of the last range alone
+-- ---- the same breaks, kept with only the end of the last range
 
 -- The breaks that are kept after an end.
 abbrev pub kept_from : (Break → Bool) → ℕ → List Break → List Break
@@ -67,20 +68,13 @@ kept_is test breaks = kept_with_end test [] 0 breaks ends_at_start
 
 -- ---- ranges that hold no character whose number of bytes changes
 
-same_from_not : (t : Bool) → not t ≡ true → t ≡ false
-same_from_not true h = absurd cc
-same_from_not false h = refl
-
-equal_lengths : (a b : ℕ) → not (a == b) ≡ false → a ≡ b
-equal_lengths a b h = grind (arith)
-
 -- A character that keeps its number of bytes takes as many in both words.
 step_even : (word : List ℕ) (j : ℕ) → IsUtf8 word → j < length (chars word) → changes_length word j ≡ false
     → place_of_character (fold_case word) (j + 1) + place_of_character word j ≡ place_of_character word (j + 1) + place_of_character (fold_case word) j
 step_even word j u h e =
     let c = slice_index (chars word) j in
     let folded_c : slice_index (chars (fold_case word)) j ≡ fold_character c = ap (λ cs. slice_index cs j) (chars_of_fold word u) ∙ get_or-map fold_character (chars word) j 0 0 h in
-    let wide : length (encode_utf8 (slice_index (chars (fold_case word)) j)) ≡ length (encode_utf8 c) = ap (λ d. length (encode_utf8 d)) folded_c ∙ equal_lengths _ _ e in
+    let wide : length (encode_utf8 (slice_index (chars (fold_case word)) j)) ≡ length (encode_utf8 c) = ap (λ d. length (encode_utf8 d)) folded_c ∙ equal_from_not _ _ e in
     let folded_more = place_more (fold_case word) j (omega (arith, as_many_characters word u)) in
     let more = place_more word j h in
     omega arith
@@ -94,9 +88,6 @@ run_even word i (suc m) u l h =
     let k : (i + m) + 1 ≡ i + suc m = omega arith in
     subst (λ n. place_of_character (fold_case word) n + place_of_character word i ≡ place_of_character word n + place_of_character (fold_case word) i) k (omega arith)
 
-both : (a b : Bool) → a ≡ true → b ≡ true → (a && b) ≡ true
-both a b h k = rw (h, k) refl
-
 -- No character of the range changes its number of bytes.
 none_held : (word : List ℕ) (begin end j : ℕ) → holds_length_change word begin end ≡ false → j < length (chars word) → begin ≤ place_of_character (fold_case word) j → place_of_character (fold_case word) j < end → changes_length word j ≡ false
 none_held word begin end j h l a b =
@@ -105,7 +96,7 @@ none_held word begin end j h l a b =
     let at : slice_index (range_with_len 0 n) j ≡ j = get_or-range_with_len 0 n j 0 l ∙ omega arith in
     elim (changes_length word j) as (λ t. changes_length word j ≡ t → changes_length word j ≡ false) [
       | true ↦ λ e.
-          let here : test j ≡ true = both _ _ e (both _ _ (le-leb _ _ a) (lt-ltb _ _ b)) in
+          let here : test j ≡ true = and_from _ _ e (and_from _ _ (le-leb _ _ a) (lt-ltb _ _ b)) in
           let held : list_any test (range_with_len 0 n) ≡ true = list_any_at test (range_with_len 0 n) j 0 (omega (arith, length-range_with_len 0 n)) (ap test at ∙ here) in
           let no : true ≡ false = sym held ∙ h in absurd cc
       | false ↦ λ e. e
@@ -159,7 +150,7 @@ range_carried word b u at ranged steady =
     let two = and_parts (nat_le (left_of b.change) b.place) (nat_le (end_of b) (length (fold_case word))) all.0 in
     let left : left_of b.change ≤ b.place = leb-true _ _ two.0 in
     let ends = ranged left (leb-true _ _ two.1) in
-    let none = same_from_not _ all.1 in
+    let none = not-true _ all.1 in
     let before : carried_back word b.place + begin_of b ≡ carried_back word (begin_of b) + b.place = even_range word (begin_of b) b.place u ends.0 at (omega arith) (λ j l a c. none_held word (begin_of b) (end_of b) j none l a (omega arith)) in
     let after : carried_back word (end_of b) + b.place ≡ carried_back word b.place + end_of b = even_range word b.place (end_of b) u at ends.1 (omega arith) (λ j l a c. none_held word (begin_of b) (end_of b) j none l (omega arith) c) in
     record { left = left; begin_at = ends.0; end_at = ends.1; begin = omega arith; end = omega arith }

@@ -1,25 +1,22 @@
 -- Places and characters of a text.
-use Rattle.std.proofs.Common.{◌≡◌, ℕ, ◌+◌, ◌-◌, ◌<◌, ◌≤◌, ◌&&◌, Bool, true, false, zero, suc, List, [], ◌∷◌, ◌++◌, length, take, drop, chars, encode_utf8_all, refl, sym, ap, subst, ◌∙◌, arith, length-append, min, nat_lt, ltb-true, ltb-false}
+use Rattle.std.proofs.Common.{◌≡◌, ℕ, ◌+◌, ◌-◌, ◌<◌, ◌≤◌, true, false, zero, suc, List, [], ◌∷◌, ◌++◌, length, take, drop, chars, encode_utf8_all, refl, sym, ap, subst, ◌∙◌, arith, length-append, min, nat_lt, ltb-true, ltb-false}
 use Rattle.std.specs.Char.{encode_utf8}
 use Rattle.std.specs.List.{slice_index}
 use Rattle.std.specs.Str.{IsUtf8, IsCharBoundary, all_scalars}
 use Rattle.std.proofs.lemmas.List.{take_more, take_all, take_at, take_min, length-take-le, take-append-drop}
 use Rattle.std.proofs.lemmas.Str.{encodes-append, encodes-chars, chars-encodes, chars-append, scalars-chars, IsUtf8-take, IsCharBoundary-at_seam, length-encode, len_utf8_bounds}
+use Rattle.std.proofs.lemmas.Bool.{and_parts}
 use Rattle.hyphenation_hyphenator.specs.Places.{place_of_character}
-
-both_true : (a b : Bool) → (a && b) ≡ true → (a ≡ true) × (b ≡ true)
-both_true true b h = (refl, h)
-both_true false b h = cc
 
 scalars_take : (cs : List ℕ) (j : ℕ) → all_scalars cs ≡ true → all_scalars (take j cs) ≡ true
 scalars_take cs zero h = refl
 scalars_take [] (suc j) h = refl
-scalars_take (c ∷ cs) (suc j) h = let parts = both_true _ (all_scalars cs) h in rw (parts.0) (scalars_take cs j parts.1)
+scalars_take (c ∷ cs) (suc j) h = let parts = and_parts _ (all_scalars cs) h in rw (parts.0) (scalars_take cs j parts.1)
 
 scalars_drop : (cs : List ℕ) (j : ℕ) → all_scalars cs ≡ true → all_scalars (drop j cs) ≡ true
 scalars_drop cs zero h = h
 scalars_drop [] (suc j) h = refl
-scalars_drop (c ∷ cs) (suc j) h = let parts = both_true _ (all_scalars cs) h in scalars_drop cs j parts.1
+scalars_drop (c ∷ cs) (suc j) h = let parts = and_parts _ (all_scalars cs) h in scalars_drop cs j parts.1
 
 -- The bytes of the first j characters, and of the others.
 text_split : (text : List ℕ) (j : ℕ) → IsUtf8 text → text ≡ encode_utf8_all (take j (chars text)) ++ encode_utf8_all (drop j (chars text))

@@ -1,8 +1,8 @@
--- Where the last so many characters of a text begin.
-use Rattle.std.proofs.Common.{◌≡◌, ℕ, ◌+◌, ◌-◌, ◌≤◌, ◌<◌, List, [], ◌∷◌, ◌++◌, length, chars, encode_utf8, encode_utf8_all, IsUtf8, refl, sym, ap, subst, ◌∙◌, arith, append_assoc, append-nil, length-append, take, take_all, drop, max, None, Some, inl, inr, IsCharBoundary}
+-- Where a number of characters at the end of a text begins.
+use Rattle.std.proofs.Common.{◌≡◌, ℕ, ◌+◌, ◌-◌, ◌≤◌, ◌<◌, List, [], ◌∷◌, ◌++◌, length, chars, encode_utf8, encode_utf8_all, IsUtf8, refl, sym, ap, subst, ◌∙◌, arith, append_assoc, append-nil, length-append, take, drop, max, None, Some, inl, inr, IsCharBoundary, take_at}
 use Rattle.std.proofs.Math.Seq.{take-add}
 use Rattle.std.proofs.lemmas.Bool.{cases_lt}
-use Rattle.std.proofs.lemmas.List.{take-append-le, nil_from_length, length-take, length-drop}
+use Rattle.std.proofs.lemmas.List.{nil_from_length, length-take, length-drop}
 use Rattle.std.proofs.lemmas.Str.{encodes-append, encodes-chars, chars_from_encodes, chars-nil, length-le-encodes, IsCharBoundary-from_take}
 use Rattle.hyphenation_hyphenator.specs.Boundaries.{boundaries}
 use Rattle.hyphenation_hyphenator.specs.Places.{place_of_character}
@@ -17,9 +17,6 @@ pub record AreLast (text rest : List ℕ) (count : ℕ) : Type 0 where
 
 pub none_last : (text : List ℕ) → IsUtf8 text → AreLast text text 0
 none_last text u = record { last = []; read = sym (append-nil (chars text)); long = refl; utf8 = u }
-
-take_front : (xs ys : List ℕ) → take (length xs) (xs ++ ys) ≡ xs
-take_front xs ys = take-append-le (length xs) xs ys (omega arith) ∙ take_all (length xs) xs (omega arith)
 
 chars_front : (bs xs : List ℕ) (c : ℕ) → IsUtf8 bs → IsUtf8 xs → bs ≡ xs ++ encode_utf8 c → chars bs ≡ chars xs ++ c ∷ []
 chars_front bs xs c u ux e =
@@ -46,14 +43,14 @@ last_enough text rest count h = omega (arith, ap length h.read, length-append (c
 pub last_place : (text rest : List ℕ) (count : ℕ) → AreLast text rest count → length rest ≡ place_of_character text (length (chars text) - count)
 last_place text rest count h =
     let size : length (chars text) - count ≡ length (chars rest) = omega (arith, ap length h.read, length-append (chars rest) h.last, h.long) in
-    let front : take (length (chars text) - count) (chars text) ≡ chars rest = ap (λ n. take n (chars text)) size ∙ ap (take (length (chars rest))) h.read ∙ take_front (chars rest) h.last in
+    let front : take (length (chars text) - count) (chars text) ≡ chars rest = ap (λ n. take n (chars text)) size ∙ ap (take (length (chars rest))) h.read ∙ take_at (chars rest) h.last (length (chars rest)) refl in
     sym (ap (λ cs. length (encode_utf8_all cs)) front ∙ ap length (encodes-chars rest h.utf8))
 
 pub last_boundary : (text rest : List ℕ) (count : ℕ) → IsUtf8 text → AreLast text rest count → IsCharBoundary text (length rest)
 last_boundary text rest count u h =
     let all : text ≡ rest ++ encode_utf8_all h.last =
     sym (encodes-chars text u) ∙ ap encode_utf8_all h.read ∙ encodes-append (chars rest) h.last ∙ ap (λ l. l ++ encode_utf8_all h.last) (encodes-chars rest h.utf8) in
-    let front : take (length rest) text ≡ rest = ap (take (length rest)) all ∙ take_front rest (encode_utf8_all h.last) in
+    let front : take (length rest) text ≡ rest = ap (take (length rest)) all ∙ take_at rest (encode_utf8_all h.last) (length rest) refl in
     IsCharBoundary-from_take text (length rest) u (omega (arith, ap length all, length-append rest (encode_utf8_all h.last))) (subst IsUtf8 (sym front) h.utf8)
 
 -- ---- the bounds, by both ends of a word

@@ -1,4 +1,4 @@
--- Plain breaks are all kept, and a standard dictionary has plain breaks alone.
+-- Plain breaks are all kept, and a standard dictionary has only plain breaks.
 use Rattle.std.proofs.Common.{◌≡◌, ℕ, ◌+◌, ◌-◌, ◌≤◌, ◌==◌, ◌&&◌, not, Bool, true, false, cond, nat_le, le-leb, List, [], ◌∷◌, length, map, Option, Some, None, Bor, option_copied, refl, sym, ap, ◌∙◌, arith}
 use Rattle.std.specs.Option.{option_map, option_and_then, option_map_or, unwrap_or}
 use Rattle.std.specs.Str.{IsUtf8}

@@ -41,7 +41,7 @@ one_more text n place =
 same_difference : (a b a' b' w : ℕ) → a' ≡ a + w → b' ≡ b + w → pos a' -ℤ pos b' ≡ pos a -ℤ pos b
 same_difference a b a' b' w h k = omega (arith, ints)
 
-equal_from_not : (a b : ℕ) → not (a == b) ≡ false → a ≡ b
+pub equal_from_not : (a b : ℕ) → not (a == b) ≡ false → a ≡ b
 equal_from_not a b h = grind (arith)
 
 -- A character that keeps its length does not change the growth.

@@ -5,8 +5,7 @@ use Rattle.std.specs.Option.{IsSome, option_map}
 use Rattle.std.specs.Result.{OnOk}
 use Rattle.std.specs.FinMap as finite
 use Rattle.std.specs.FinMap.{get-insert, get-remove}
-use Rattle.std.specs.Cmp.Lexicographic.{slice_cmp, pointwise, nat_list_cmp_total, nat_list_eq_equiv, texts_ties}
-use Rattle.std.specs.Ordering.{nat_cmp, eq_by_cmp}
+use Rattle.std.specs.Cmp.Lexicographic.{pointwise, nat_list_cmp_total, nat_list_eq_equiv, texts_ties}
 use Rattle.std.specs.Str.{IsUtf8, IsCharBoundary}
 use Rattle.hyphenation_breaks.specs.Break.{Break, Change}
 use Rattle.hyphenation_breaks.specs.Dictionary.{Contents}
@@ -38,17 +37,13 @@ chosen_map : {B : Type 0} (break_of : B → Break) (b : Bool) (x y : Option (Lis
 chosen_map break_of true x y = refl
 chosen_map break_of false x y = refl
 
--- A finite map of texts looks up by the equality of their bytes.
-same_test : (a b : List ℕ) → eq_by_cmp (slice_cmp nat_cmp) a b ≡ pointwise nat_eq b a
-same_test a b = sym (texts_ties a b) ∙ nat_list_eq_equiv.symm a b
-
 -- The rules after a change of the exceptions.
 pub lists_inserted : {C B : Type 0} (change_of : C → Option Change) (break_of : B → Break) (contents : Contents C B) (word : List ℕ) (listed : List B)
     → ListsOnly (rules_of change_of break_of contents) (rules_of change_of break_of (record contents { exceptions = finite.insert contents.exceptions word listed })) word (Some (map break_of listed))
 lists_inserted change_of break_of contents word listed = record {
   minima = refl;
   listed = λ other.
-      ap (option_map (map break_of)) (get-insert nat_list_cmp_total contents.exceptions word listed other ∙ ap (λ b. cond b (Some listed) (finite.get contents.exceptions other)) (same_test other word))
+      ap (option_map (map break_of)) (get-insert nat_list_cmp_total contents.exceptions word listed other ∙ ap (λ b. cond b (Some listed) (finite.get contents.exceptions other)) (sym (texts_ties other word) ∙ nat_list_eq_equiv.symm other word))
       ∙ chosen_map break_of (pointwise nat_eq word other) (Some listed) (finite.get contents.exceptions other);
   allowed = λ other. refl;
 }
@@ -58,7 +53,7 @@ pub lists_removed : {C B : Type 0} (change_of : C → Option Change) (break_of :
 lists_removed change_of break_of contents word = record {
   minima = refl;
   listed = λ other.
-      ap (option_map (map break_of)) (get-remove nat_list_cmp_total contents.exceptions word other ∙ ap (λ b. cond b None (finite.get contents.exceptions other)) (same_test other word))
+      ap (option_map (map break_of)) (get-remove nat_list_cmp_total contents.exceptions word other ∙ ap (λ b. cond b None (finite.get contents.exceptions other)) (sym (texts_ties other word) ∙ nat_list_eq_equiv.symm other word))
       ∙ chosen_map break_of (pointwise nat_eq word other) None (finite.get contents.exceptions other);
   allowed = λ other. refl;
 }

@@ -147,7 +147,7 @@ fn is_common_pair(first: u8, second: u8) -> bool
         || (first == 0xC5 && (second == 0x91 || second == 0xB1))
 }
 
-// Whether a word has common lowercase letters alone. Then it folds to itself, and has no soft hyphen.
+// Whether a word has only common lowercase letters. Then it folds to itself, and has no soft hyphen.
 //
 // Most other words begin with a capital of ASCII, so the first byte is tested before.
 #[inline(always)]
@@ -162,7 +162,7 @@ pub(crate) fn are_common_lowercase(word: &str) -> bool
     are_common_lowercase_bytes(bytes)
 }
 
-// Whether a word has common lowercase letters alone. It is kept out of line, since most words do not come to it.
+// Whether a word has only common lowercase letters. It is kept out of line, since most words do not come to it.
 #[inline(never)]
 fn are_common_lowercase_bytes(bytes: &[u8]) -> bool
     ensures { result ≡ are_common_lowercase bytes.now }
@@ -170,7 +170,7 @@ fn are_common_lowercase_bytes(bytes: &[u8]) -> bool
     has_cyrillic_letters_alone(bytes) || are_common_lowercase_in_turn(bytes)
 }
 
-// Whether a word has common lowercase letters alone, tested from the first one on.
+// Whether a word has only common lowercase letters, tested from the first one on.
 //
 // It reads bytes, since decoding characters takes more than twice as long.
 #[inline(never)]

@@ -1,8 +1,8 @@
 -- Edits: how an exception is judged and read by itself, and that the last one decides.
-use Rattle.std.proofs.Common.{◌≡◌, ◌∙◌, ℕ, ◌<◌, Bool, true, false, cond, not, ◌||◌, inr, List, [], ◌∷◌, Option, Some, None, unwrap_or, refl, sym, ap, subst, arith, map}
+use Rattle.std.proofs.Common.{◌≡◌, ◌∙◌, ℕ, ◌<◌, Bool, true, false, cond, not, inr, List, [], ◌∷◌, Option, Some, None, unwrap_or, refl, sym, ap, subst, arith, map}
 use Rattle.std.specs.Prelude.{◌⊎◌, is_none, IsTrue, IsUtf8, codes, Result, Ok, Err}
 use Rattle.std.specs.Option.{option_or}
-use Rattle.std.specs.Cmp.Lexicographic.{nat_list_cmp_total}
+use Rattle.std.specs.Cmp.Lexicographic.{nat_list_cmp_total, texts_ties, nat_list_eq_equiv}
 use Rattle.std.specs.FinMap as finite
 use Rattle.std.specs.FinMap.{get-insert, get-remove}
 use Rattle.std.specs.Str.{is_utf8}
@@ -11,6 +11,7 @@ use Rattle.std.specs.declared.string.String.{String}
 use Rattle.std.specs.declared.vec.Vec.{Vec}
 use Rattle.std.proofs.lemmas.Str.{IsUtf8-append, IsUtf8-from_ascii, is_utf8-from_IsUtf8}
 use Rattle.std.proofs.lemmas.Str.Ascii.{IsAscii-cons, IsAscii-nil}
+use Rattle.std.proofs.lemmas.Bool.{or_right}
 use Rattle.hyphenation_breaks.specs.Break.{Break, Change, plain_break}
 use Rattle.hyphenation_breaks.specs.Dictionary.{Contents}
 use Rattle.hyphenation_reader.specs.Edits.{as_line, form_in, is_addition, is_sound_line, edit_line, after_edit, after_edits}
@@ -27,14 +28,9 @@ use Rattle.hyphenation_grammar.specs.declared.form.Version.TheVariants.{First}
 use Rattle.hyphenation_grammar.specs.declared.Cause.{Cause}
 use Rattle.hyphenation_grammar.specs.declared.Cause.TheVariants.{NotUtf8, UnknownLine}
 use Rattle.hyphenation_reader.proofs.JudgingLine.{halves, past_byte}
-use Rattle.hyphenation_reader.proofs.ItemsOfLines.{same_test}
 use Rattle.hyphenation_reader.proofs.ReadingInvariant.{exception_held}
 
 -- ---- the line of an exception fails none of the tests before Token
-
-either_way : (b : Bool) → (b || true) ≡ true
-either_way true = refl
-either_way false = refl
 
 passed : (u k : Bool) → u ≡ true → k ≡ true → cond {A = Option Cause} (not u) (Some NotUtf8) (cond (not k) (Some UnknownLine) None) ≡ None
 passed u k eu ek = rw (eu, ek) refl
@@ -46,7 +42,7 @@ pub only_item : (form : Form) (text : List ℕ) → IsUtf8 text → own_cause fo
 only_item form text u =
     halves form 4 (as_line text)
     ∙ ap (λ (o : Option Cause). option_or o (item_cause form (as_line text)))
-    (passed (is_utf8 (as_line text)) (is_known (as_line text)) (is_utf8-from_IsUtf8 (as_line text) (line-utf8 text u)) (either_way _))
+    (passed (is_utf8 (as_line text)) (is_known (as_line text)) (is_utf8-from_IsUtf8 (as_line text) (line-utf8 text u)) (or_right _ true refl))
 
 -- ---- so it is sound exactly where it can be read, and what it lists may be listed
 
@@ -96,10 +92,10 @@ one_edit : {C B : Type 0} (dictionary : Contents C B) (name word : List ℕ) (li
     → finite.get (cond adds (record dictionary { exceptions = finite.insert dictionary.exceptions name list }) (record dictionary { exceptions = finite.remove dictionary.exceptions name })).exceptions word
     ≡ unwrap_or (cond (is_same name word) (Some (cond adds (Some list) None)) None) (finite.get dictionary.exceptions word)
 one_edit {C} {B} dictionary name word list true =
-    get-insert nat_list_cmp_total dictionary.exceptions name list word ∙ ap (λ (b : Bool). cond b (Some list) (finite.get dictionary.exceptions word)) (same_test word name)
+    get-insert nat_list_cmp_total dictionary.exceptions name list word ∙ ap (λ (b : Bool). cond b (Some list) (finite.get dictionary.exceptions word)) (sym (texts_ties word name) ∙ nat_list_eq_equiv.symm word name)
     ∙ chosen (is_same name word) (Some list) (finite.get dictionary.exceptions word)
 one_edit {C} {B} dictionary name word list false =
-    get-remove nat_list_cmp_total dictionary.exceptions name word ∙ ap (λ (b : Bool). cond b None (finite.get dictionary.exceptions word)) (same_test word name)
+    get-remove nat_list_cmp_total dictionary.exceptions name word ∙ ap (λ (b : Bool). cond b None (finite.get dictionary.exceptions word)) (sym (texts_ties word name) ∙ nat_list_eq_equiv.symm word name)
     ∙ chosen (is_same name word) None (finite.get dictionary.exceptions word)
 
 either_or : {X : Type 0} (o p : Option X) (x y : X) → y ≡ unwrap_or p x → unwrap_or o y ≡ unwrap_or (option_or o p) x

@@ -1,13 +1,14 @@
 -- The items of lines, with one line more; and the tests of repetition by these items.
-use Rattle.std.proofs.Common.{◌≡◌, ℕ, Bool, true, false, cond, ◌&&◌, ◌||◌, nat_eq, List, [], ◌∷◌, ◌++◌, map, Option, Some, None, is_some, refl, sym, ap, ◌∙◌}
+use Rattle.std.proofs.Common.{◌≡◌, ℕ, Bool, true, false, cond, ◌&&◌, ◌||◌, List, [], ◌∷◌, ◌++◌, map, Option, Some, None, is_some, refl, sym, ap, ◌∙◌}
 use Rattle.std.specs.Option.{option_map, option_map_or}
 use Rattle.std.specs.List.{filter_map, cons_option}
 use Rattle.std.proofs.lemmas.List.{append-nil}
 use Rattle.std.proofs.lemmas.List.Elements.{filter_map-append}
 use Rattle.std.specs.Ordering.{nat_cmp, eq_by_cmp}
-use Rattle.std.specs.Cmp.Lexicographic.{slice_cmp, pointwise, nat_list_cmp_total, nat_list_eq_equiv, texts_ties}
+use Rattle.std.specs.Cmp.Lexicographic.{slice_cmp, nat_list_cmp_total, nat_list_eq_equiv, texts_ties}
 use Rattle.std.specs.FinMap as finite
 use Rattle.std.specs.FinMap.{find, get-from_entries, from_entries_push, nat_cmp-IsAntisymmetric, slice_cmp-IsAntisymmetric}
+use Rattle.std.proofs.option.Match.{None-if_not_some}
 use Rattle.hyphenation_breaks.specs.Break.{Break, Change}
 use Rattle.hyphenation_breaks.specs.Dictionary.{TextMap}
 use Rattle.hyphenation_grammar.specs.Lines.{is_same}
@@ -19,10 +20,6 @@ use Rattle.hyphenation_grammar.specs.declared.form.Version.{Version}
 use Rattle.hyphenation_grammar.specs.declared.Cause.{Cause}
 use Rattle.hyphenation_grammar.specs.declared.Cause.TheVariants.{RepeatedPattern, RepeatedException}
 
--- the test by which a finite map of texts looks up is the equality of their bytes
-pub same_test : (a b : List ℕ) → eq_by_cmp (slice_cmp nat_cmp) a b ≡ pointwise nat_eq b a
-same_test a b = sym (texts_ties a b) ∙ nat_list_eq_equiv.symm a b
-
 -- a text stands among the entries where it is spelt in a line
 standing : {X : Type 0} (spells : List ℕ → Option (List ℕ × X)) (earlier : List (List ℕ)) (q : List ℕ)
     → is_some (find (slice_cmp nat_cmp) q (filter_map spells earlier)) ≡ is_repeated (λ l. option_map (λ x. x.0) (spells l)) earlier q
@@ -30,7 +27,7 @@ standing spells [] q = refl
 standing {X} spells (l ∷ ls) q =
     elim (spells l) as (λ o. is_some (find (slice_cmp nat_cmp) q (cons_option o (filter_map spells ls))) ≡ (option_map_or (λ other. is_same other q) (option_map (λ x. x.0) o) false || is_repeated (λ l. option_map (λ x. x.0) (spells l)) ls q)) [
       | None ↦ standing spells ls q
-      | Some x ↦ either (eq_by_cmp (slice_cmp nat_cmp) q x.0) (is_same x.0 q) x.1 (find (slice_cmp nat_cmp) q (filter_map spells ls)) (is_repeated (λ l. option_map (λ x. x.0) (spells l)) ls q) (same_test q x.0) (standing spells ls q)
+      | Some x ↦ either (eq_by_cmp (slice_cmp nat_cmp) q x.0) (is_same x.0 q) x.1 (find (slice_cmp nat_cmp) q (filter_map spells ls)) (is_repeated (λ l. option_map (λ x. x.0) (spells l)) ls q) (sym (texts_ties q x.0) ∙ nat_list_eq_equiv.symm q x.0) (standing spells ls q)
     ]
   where
     either : (a b : Bool) (v : X) (o : Option X) (t : Bool) → a ≡ b → is_some o ≡ t → is_some (cond a (Some v) o) ≡ (b || t)
@@ -40,10 +37,6 @@ standing {X} spells (l ∷ ls) q =
 contains : {X : Type 0} (spells : List ℕ → Option (List ℕ × X)) (earlier : List (List ℕ)) (q : List ℕ)
     → is_some (finite.get (map_of_lines spells earlier) q) ≡ is_repeated (λ l. option_map (λ x. x.0) (spells l)) earlier q
 contains spells earlier q = ap is_some (get-from_entries nat_list_cmp_total (filter_map spells earlier) q) ∙ standing spells earlier q
-
-none_of : {X : Type 0} (o : Option X) → is_some o ≡ false → o ≡ None
-none_of None e = refl
-none_of (Some x) e = absurd cc
 
 -- whether a map has the text of which something is said
 abbrev pub has : {X : Type 0} → TextMap X → Option (List ℕ × X) → Bool
@@ -62,7 +55,7 @@ gathered-more {X} spells earlier line new =
     ∙ elim (spells line) as (λ o. has (map_of_lines spells earlier) o ≡ false → finite.from_entries {R = slice_cmp nat_cmp} (filter_map spells earlier ++ cons_option o []) ≡ with_spelt (map_of_lines spells earlier) o) [
       | None ↦ λ h. ap (λ (es : List (List ℕ × X)). finite.from_entries {R = slice_cmp nat_cmp} es) (append-nil (filter_map spells earlier))
       | Some x ↦ λ h. from_entries_push nat_list_cmp_total (slice_cmp-IsAntisymmetric nat_cmp-IsAntisymmetric) (filter_map spells earlier) x.0 x.1
-          (sym (get-from_entries nat_list_cmp_total (filter_map spells earlier) x.0) ∙ none_of _ h)
+          (sym (get-from_entries nat_list_cmp_total (filter_map spells earlier) x.0) ∙ None-if_not_some _ h)
     ] new
 
 -- the two tests of repetition, of what is said of a key and of a word

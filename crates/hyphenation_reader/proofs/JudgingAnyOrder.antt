@@ -8,6 +8,8 @@ use Rattle.std.proofs.lemmas.Bool.Decides.{nat_tests}
 use Rattle.std.proofs.lemmas.List.{take_all, drop_all}
 use Rattle.std.proofs.lemmas.List.Edits.{Swapped, swapped_from_swap, length-swap}
 use Rattle.std.proofs.lemmas.List.Sorted.{IsPermutation-keeps}
+use Rattle.std.proofs.lemmas.Bool.{or_from, or_parts}
+use Rattle.hyphenation_reader.proofs.JudgingLine.{alike}
 use native.Mathlib.Decide.{dec_lt, ℕ_discrete}
 use Rattle.hyphenation_grammar.specs.declared.form.Form.{Form}
 use Rattle.hyphenation_grammar.specs.declared.form.Version.{Version}
@@ -54,18 +56,6 @@ gather p q f g (l ∷ ls) = spread p q (f l) (g l) (list_any f ls) (list_any g l
     spread false true a b x y = refl
     spread false false a b x y = refl
 
-both_false : (a b : Bool) → a ≡ false → b ≡ false → (a || b) ≡ false
-both_false true b e f = absurd cc
-both_false false b e f = f
-
-left_false : (a b : Bool) → (a || b) ≡ false → a ≡ false
-left_false true b e = absurd cc
-left_false false b e = refl
-
-right_false : (a b : Bool) → (a || b) ≡ false → b ≡ false
-right_false true b e = absurd cc
-right_false false b e = e
-
 none_again : (a b : Bool) → (a || b) ≡ false → None ≡ cond {A = Option Cause} a (Some RepeatedPattern) (cond b (Some RepeatedException) None)
 none_again true b e = absurd cc
 none_again false true e = absurd cc
@@ -75,7 +65,7 @@ no_clash : (version : Version) (earlier : List (List ℕ)) (l : List ℕ) → No
 no_clash version earlier l none =
     let off = neither (is_pattern_line l && is_repeated (key_spelt version) earlier (key_of_line version l)) (is_exception_line l && is_repeated word_spelt earlier (word_of_line l)) none in
     sym (gather (is_pattern_line l) (is_exception_line l) (spells_same (key_spelt version) (key_of_line version l)) (spells_same word_spelt (word_of_line l)) earlier)
-    ∙ both_false (is_pattern_line l && is_repeated (key_spelt version) earlier (key_of_line version l)) (is_exception_line l && is_repeated word_spelt earlier (word_of_line l)) off.0 off.1
+    ∙ or_from (is_pattern_line l && is_repeated (key_spelt version) earlier (key_of_line version l)) (is_exception_line l && is_repeated word_spelt earlier (word_of_line l)) off.0 off.1
 
 no_repetition : (version : Version) (earlier : List (List ℕ)) (l : List ℕ) → list_any (λ e. clash version e l) earlier ≡ false → None ≡ repetition version earlier l
 no_repetition version earlier l none =
@@ -86,14 +76,14 @@ no_repetition version earlier l none =
 each_of : (p : List ℕ → Bool) (xs : List (List ℕ)) (i : ℕ) → list_any p (take i xs) ≡ false → (k : ℕ) → k < i → k < length xs → p (get_or xs k []) ≡ false
 each_of p [] i none k lt within = absurd (omega arith)
 each_of p (x ∷ xs) zero none k lt within = absurd (omega arith)
-each_of p (x ∷ xs) (suc i) none zero lt within = left_false (p x) (list_any p (take i xs)) none
-each_of p (x ∷ xs) (suc i) none (suc k) lt within = each_of p xs i (right_false (p x) (list_any p (take i xs)) none) k (omega arith) (omega arith)
+each_of p (x ∷ xs) (suc i) none zero lt within = (or_parts (p x) (list_any p (take i xs)) none).0
+each_of p (x ∷ xs) (suc i) none (suc k) lt within = each_of p xs i (or_parts (p x) (list_any p (take i xs)) none).1 k (omega arith) (omega arith)
 
 none_of_first : (p : List ℕ → Bool) (xs : List (List ℕ)) (i : ℕ) → ((k : ℕ) → k < i → k < length xs → p (get_or xs k []) ≡ false) → list_any p (take i xs) ≡ false
 none_of_first p [] zero each = refl
 none_of_first p [] (suc i) each = refl
 none_of_first p (x ∷ xs) zero each = refl
-none_of_first p (x ∷ xs) (suc i) each = both_false (p x) (list_any p (take i xs)) (each zero (omega arith) (omega arith)) (none_of_first p xs i (λ k lt within. each (suc k) (omega arith) (omega arith)))
+none_of_first p (x ∷ xs) (suc i) each = or_from (p x) (list_any p (take i xs)) (each zero (omega arith) (omega arith)) (none_of_first p xs i (λ k lt within. each (suc k) (omega arith) (omega arith)))
 
 -- a text of at least three lines is accepted where each line passes its own tests and no two spell the same
 pub record Stands (form : Form) (all : List (List ℕ)) : Type 0 where
@@ -163,19 +153,9 @@ origin f g a b m s (inr n) (inr o) = (m, inr (inr (n, o, refl)), s.2 m n o)
 equal_or_not : (m n : ℕ) → (m ≡ n) ⊎ (m ≢ n)
 equal_or_not m n = elim (ℕ_discrete m n) [ yes e ↦ inl e | no e ↦ inr e ]
 
--- after the third line a line's number means nothing
-own_late : (form : Form) (n : ℕ) (line : List ℕ) → 3 < n → own_cause form n line ≡ own_cause form 4 line
-own_late form n line late = rw (other 1 n (omega arith), other 2 n (omega arith), other 3 n (omega arith), above n late) refl
-  where
-    other : (k n : ℕ) → k < n → eqb n k ≡ false
-    other k n h = grind (arith, nat_tests)
-
-    above : (n : ℕ) → 3 < n → nat_lt 3 n ≡ true
-    above n h = grind (arith, nat_tests)
-
 own_moved : (form : Form) (i k : ℕ) (line : List ℕ) → (k ≡ i) ⊎ ((3 ≤ i) × (3 ≤ k)) → own_cause form (i + 1) line ≡ own_cause form (k + 1) line
 own_moved form i k line (inl is_same) = ap (λ (n : ℕ). own_cause form (n + 1) line) (sym is_same)
-own_moved form i k line (inr late) = own_late form (i + 1) line (omega (arith, late.0)) ∙ sym (own_late form (k + 1) line (omega (arith, late.1)))
+own_moved form i k line (inr late) = alike form (i + 1) line (omega (arith, late.0)) ∙ sym (alike form (k + 1) line (omega (arith, late.1)))
 
 stays_or_late : (a b i k : ℕ) → 3 ≤ a → 3 ≤ b → From a b i k → (k ≡ i) ⊎ ((3 ≤ i) × (3 ≤ k))
 stays_or_late a b i k la lb (inl h) = inr (omega (arith, h.0), omega (arith, h.1))

@@ -32,6 +32,7 @@ use Rattle.hyphenation_reader.proofs.JudgingLine.{halves}
 use Rattle.hyphenation_reader.proofs.LineInvariant.{found_none}
 use Rattle.std.specs.Cmp.{first_so, second_so}
 use Rattle.std.specs.Cmp.Lexicographic.{bytes_decides}
+use Rattle.std.proofs.lemmas.Bool.{or_parts, not-true}
 
 -- a line of neither sort
 pub record SpellsNothing (line : List ℕ) : Type 0 where
@@ -153,13 +154,8 @@ unspelt spells [] none e = refl
 unspelt {X} spells (l ∷ ls) none e =
     (λ i. cons_option (none l (first_so (not (is_item_line l)) (spell_nothing ls) e) i) (filter_map spells ls)) ∙ unspelt spells ls none (second_so (not (is_item_line l)) (spell_nothing ls) e)
 
-neither : (p x : Bool) → not (p || x) ≡ true → (p ≡ false) × (x ≡ false)
-neither true x e = absurd cc
-neither false true e = absurd cc
-neither false false e = (refl, refl)
-
 pub spells_nothing-spelt : {C B : Type 0} (version : Version) (payload_of : Option Change → C) (listing_of : Break → B) (ls : List (List ℕ)) → spell_nothing ls ≡ true → items_of_lines version payload_of listing_of ls ≡ items_of_lines version payload_of listing_of []
 spells_nothing-spelt {C} {B} version payload_of listing_of ls e =
-    let keys = unspelt (spelling_as (entry_as payload_of) (pattern_of_line version)) ls (λ l h. ap (λ (b : Bool). option_map {U = List ℕ × List (Entry C)} (λ (x : List ℕ × List (Entry (Option Change))). (x.0, map (entry_as payload_of) x.1)) (cond b (Some (key_of_line version l, entries_of_line version l)) None)) (neither (is_pattern_line l) (is_exception_line l) h).0) e in
-    let words = unspelt (spelling_as listing_of exception_of_line) ls (λ l h. ap (λ (b : Bool). option_map {U = List ℕ × List B} (λ (x : List ℕ × List Break). (x.0, map listing_of x.1)) (cond b (Some (word_of_line l, breaks_of_line l)) None)) (neither (is_pattern_line l) (is_exception_line l) h).1) e in
+    let keys = unspelt (spelling_as (entry_as payload_of) (pattern_of_line version)) ls (λ l h. ap (λ (b : Bool). option_map {U = List ℕ × List (Entry C)} (λ (x : List ℕ × List (Entry (Option Change))). (x.0, map (entry_as payload_of) x.1)) (cond b (Some (key_of_line version l, entries_of_line version l)) None)) (or_parts (is_pattern_line l) (is_exception_line l) (not-true ((is_pattern_line l) || (is_exception_line l)) h)).0) e in
+    let words = unspelt (spelling_as listing_of exception_of_line) ls (λ l h. ap (λ (b : Bool). option_map {U = List ℕ × List B} (λ (x : List ℕ × List Break). (x.0, map listing_of x.1)) (cond b (Some (word_of_line l, breaks_of_line l)) None)) (or_parts (is_pattern_line l) (is_exception_line l) (not-true ((is_pattern_line l) || (is_exception_line l)) h)).1) e in
     λ i. record { patterns = finite.from_entries (keys i); exceptions = finite.from_entries (words i) }

@@ -47,9 +47,6 @@ line-utf8 form number line e =
 pub past_byte : (b : ℕ) (rest : List ℕ) → b < 128 → IsUtf8 (b ∷ rest) → IsUtf8 rest
 past_byte b rest small u = IsUtf8-past_char (b ∷ rest) rest b u (ap (λ (t : List ℕ). t ++ rest) (sym (encode_ascii b small)))
 
-same_byte : (a b : ℕ) → eqb a b ≡ true → b < 128 → a < 128
-same_byte a b e small = subst (λ (x : ℕ). x < 128) (sym (eqb-true a b e)) small
-
 both_bytes : (a b : Bool) (d : List ℕ) → is_some (cond (a && (b && true)) (Some d) None) ≡ true → (a ≡ true) × (b ≡ true)
 both_bytes true true d e = (refl, refl)
 both_bytes true false d e = absurd cc
@@ -64,7 +61,7 @@ after-utf8 letter small (b ∷ []) u e = absurd (short (eqb b letter) [] e)
     short false d e = cc
 after-utf8 letter small (b ∷ d ∷ rest) u e =
     let two = both_bytes (eqb b letter) (eqb d 32) rest e in
-    past_byte d rest (same_byte d 32 two.1 (omega arith)) (past_byte b (d ∷ rest) (same_byte b letter two.0 small) u)
+    past_byte d rest (subst (λ (x : ℕ). x < 128) (sym (eqb-true d 32 two.1)) (omega arith)) (past_byte b (d ∷ rest) (subst (λ (x : ℕ). x < 128) (sym (eqb-true b letter two.0)) small) u)
 
 none_of : (o : Option Cause) → ((x : Cause) → o ≡ Some x → ⊥) → o ≡ None
 none_of None never = refl

@@ -4,6 +4,7 @@ use Rattle.std.specs.Prelude.{codes, fold, is_none}
 use Rattle.std.specs.Option.{option_map, option_and_then, option_or, unwrap_or}
 use Rattle.std.specs.List.{list_all, slice_split}
 use Rattle.std.proofs.lemmas.Bool.Decides.{nat_tests}
+use Rattle.std.proofs.lemmas.Bool.{not-false, and_parts}
 use Rattle.hyphenation_breaks.specs.Break.{Break, Change as Changed, ascend_on, is_boundary}
 use Rattle.hyphenation_breaks.specs.Invariant.{has_letter}
 use Rattle.hyphenation_grammar.specs.declared.form.Form.{Form}
@@ -92,32 +93,20 @@ tail false true p q c d e f g = absurd cc
 tail false false p q c d e f g =
     ap (λ (b : Bool). cond b (Some Place) (cond c (Some Change) None)) (f refl) ∙ ap (λ (b : Bool). cond q (Some Place) (cond b (Some Change) None)) (g refl) ∙ split q d
 
-not_off : (b : Bool) → not b ≡ false → b ≡ true
-not_off true e = refl
-not_off false e = absurd cc
-
 same_places : (text : List ℕ) (least : ℕ) (ts : List (List ℕ)) → ascend_on text least (map place_of_token ts) ≡ ascend_on text least (map (λ b. b.0) (map (λ token. said_by (parts_of token)) ts))
 same_places text least [] = refl
 same_places text least (t ∷ ts) = ap (λ (b : Bool). (nat_le least (place_of_token t) && is_boundary text (place_of_token t)) && b) (same_places text (place_of_token t + 1) ts)
 
 -- which of the elements it holds of
-first_so : (a b : Bool) → (a && b) ≡ true → a ≡ true
-first_so true b e = refl
-first_so false b e = absurd cc
-
-second_so : (a b : Bool) → (a && b) ≡ true → b ≡ true
-second_so true b e = e
-second_so false b e = absurd cc
-
 pub in_front : (p : List ℕ → Bool) (xs : List (List ℕ)) (k i : ℕ) → list_all p (take k xs) ≡ true → i < k → i < length xs → p (get_or xs i []) ≡ true
 in_front p [] k i h lt in_xs = absurd (omega arith)
 in_front p (x ∷ xs) zero i h lt in_xs = absurd (omega arith)
-in_front p (x ∷ xs) (suc k) zero h lt in_xs = first_so (p x) (list_all p (take k xs)) h
-in_front p (x ∷ xs) (suc k) (suc i) h lt in_xs = in_front p xs k i (second_so (p x) (list_all p (take k xs)) h) (omega arith) (omega arith)
+in_front p (x ∷ xs) (suc k) zero h lt in_xs = (and_parts (p x) (list_all p (take k xs)) h).0
+in_front p (x ∷ xs) (suc k) (suc i) h lt in_xs = in_front p xs k i (and_parts (p x) (list_all p (take k xs)) h).1 (omega arith) (omega arith)
 
 at_drop : (p : List ℕ → Bool) (xs : List (List ℕ)) (k : ℕ) → list_all p (drop k xs) ≡ true → k < length xs → p (get_or xs k []) ≡ true
 at_drop p [] k h lt = absurd (omega arith)
-at_drop p (x ∷ xs) zero h lt = first_so (p x) (list_all p xs) h
+at_drop p (x ∷ xs) zero h lt = (and_parts (p x) (list_all p xs) h).0
 at_drop p (x ∷ xs) (suc k) h lt = at_drop p xs k h (omega arith)
 
 -- the change of a token that can be read and has numbers, where it is whole and broken between characters
@@ -155,7 +144,7 @@ sound_by ps numbers texts = by (whole ps) refl
         → cond t (chained (number_of (part_at ps 1)) (number_of (part_at ps 2)) (number_of (part_at ps 3)) (text_spelt (part_at ps 4))) None ≡ cond t (cond (at_boundary ps) (Some (change_by ps)) None) None
     by false is = refl
     by true is =
-        let n : length ps ≡ 5 = five ps (first_so (eqb (length ps) 5) (nat_lt 0 (length (part_at ps 4))) is) in
+        let n : length ps ≡ 5 = five ps (and_parts (eqb (length ps) 5) (nat_lt 0 (length (part_at ps 4))) is).0 in
         all_there (is_number (part_at ps 1)) (is_number (part_at ps 2)) (is_number (part_at ps 3)) (number (part_at ps 1)) (number (part_at ps 2)) (number (part_at ps 3)) (text_spelt (part_at ps 4))
         (in_front is_number ps (length ps - 1) 1 numbers (omega arith) (omega arith)) (in_front is_number ps (length ps - 1) 2 numbers (omega arith) (omega arith))
         (in_front is_number ps (length ps - 1) 3 numbers (omega arith) (omega arith)) (at_drop (λ written. is_some (text_spelt written)) ps 4 texts (omega arith))
@@ -174,7 +163,7 @@ by_change false true x true v change F e = sym e
 -- a token that can be read and has numbers
 module _ (form : Form) (text : List ℕ) (token : List ℕ) (readable : is_readable token ≡ true) (numbers : has_numbers (parts_of token) ≡ true) where
   texts : list_all (λ written. is_some (text_spelt written)) (drop 4 (parts_of token)) ≡ true
-  texts = second_so (nat_lt 0 (length token) && list_all (λ written. is_some (escaped_bytes_of Plain written)) (take 4 (parts_of token))) (list_all (λ written. is_some (text_spelt written)) (drop 4 (parts_of token))) readable
+  texts = (and_parts (nat_lt 0 (length token) && list_all (λ written. is_some (escaped_bytes_of Plain written)) (take 4 (parts_of token))) (list_all (λ written. is_some (text_spelt written)) (drop 4 (parts_of token))) readable).1
 
   sound_as : (t : Bool) → nat_lt 1 (length (parts_of token)) ≡ t → t ≡ true → sound_change (parts_of token) ≡ cond (whole (parts_of token)) (cond (at_boundary (parts_of token)) (Some (change_of_token token)) None) None
   sound_as t is on = sound_by (parts_of token) (sym (ap (λ (b : Bool). list_all is_number (cond b (take (length (parts_of token) - 1) (parts_of token)) (parts_of token))) (is ∙ on)) ∙ numbers) texts
@@ -250,22 +239,22 @@ key_tokens : (form : Form) (text : List ℕ) (ms : List PatternElement) (ts : Li
 key_tokens form text ms [] r n = refl
 key_tokens form text ms (t ∷ ts) r n =
     paired (is_good_later_token form true ms text t) (is_sound (parts_of t)) (suits_key form text (values_from 0 ms) (said_by (parts_of t))) (list_all (is_good_later_token form true ms text) ts) (all_sound ts) (list_all (suits_key form text (values_from 0 ms)) (all_said ts))
-    (key_token form text t (first_so (is_readable t) (list_all is_readable ts) r) (first_so (has_numbers (parts_of t)) (all_numbers ts) n) ms)
-    (key_tokens form text ms ts (second_so (is_readable t) (list_all is_readable ts) r) (second_so (has_numbers (parts_of t)) (all_numbers ts) n))
+    (key_token form text t (and_parts (is_readable t) (list_all is_readable ts) r).0 (and_parts (has_numbers (parts_of t)) (all_numbers ts) n).0 ms)
+    (key_tokens form text ms ts (and_parts (is_readable t) (list_all is_readable ts) r).1 (and_parts (has_numbers (parts_of t)) (all_numbers ts) n).1)
 
 word_tokens : (form : Form) (text : List ℕ) (ms : List PatternElement) (ts : List (List ℕ)) → list_all is_readable ts ≡ true → all_numbers ts ≡ true
     → list_all (is_good_later_token form false ms text) ts ≡ (all_sound ts && list_all (suits_word form text) (all_said ts))
 word_tokens form text ms [] r n = refl
 word_tokens form text ms (t ∷ ts) r n =
     paired (is_good_later_token form false ms text t) (is_sound (parts_of t)) (suits_word form text (said_by (parts_of t))) (list_all (is_good_later_token form false ms text) ts) (all_sound ts) (list_all (suits_word form text) (all_said ts))
-    (word_token form text t (first_so (is_readable t) (list_all is_readable ts) r) (first_so (has_numbers (parts_of t)) (all_numbers ts) n) ms)
-    (word_tokens form text ms ts (second_so (is_readable t) (list_all is_readable ts) r) (second_so (has_numbers (parts_of t)) (all_numbers ts) n))
+    (word_token form text t (and_parts (is_readable t) (list_all is_readable ts) r).0 (and_parts (has_numbers (parts_of t)) (all_numbers ts) n).0 ms)
+    (word_tokens form text ms ts (and_parts (is_readable t) (list_all is_readable ts) r).1 (and_parts (has_numbers (parts_of t)) (all_numbers ts) n).1)
 
 listed_tokens : (form : Form) (text : List ℕ) (ts : List (List ℕ)) → list_all is_readable ts ≡ true → all_numbers ts ≡ true → all_sound ts ≡ true → breaks_listed (all_said ts) ≡ map break_of_token ts
 listed_tokens form text [] r n s = refl
 listed_tokens form text (t ∷ ts) r n s =
-    let here = listed_token form text t (first_so (is_readable t) (list_all is_readable ts) r) (first_so (has_numbers (parts_of t)) (all_numbers ts) n) (first_so (is_sound (parts_of t)) (all_sound ts) s) in
-    let rest = listed_tokens form text ts (second_so (is_readable t) (list_all is_readable ts) r) (second_so (has_numbers (parts_of t)) (all_numbers ts) n) (second_so (is_sound (parts_of t)) (all_sound ts) s) in
+    let here = listed_token form text t (and_parts (is_readable t) (list_all is_readable ts) r).0 (and_parts (has_numbers (parts_of t)) (all_numbers ts) n).0 (and_parts (is_sound (parts_of t)) (all_sound ts) s).0 in
+    let rest = listed_tokens form text ts (and_parts (is_readable t) (list_all is_readable ts) r).1 (and_parts (has_numbers (parts_of t)) (all_numbers ts) n).1 (and_parts (is_sound (parts_of t)) (all_sound ts) s).1 in
     λ i. here i ∷ rest i
 
 -- the places of later tokens, and what else they say
@@ -274,16 +263,16 @@ module _ (form : Form) (l : ReadLater) (later : List (List ℕ)) (read : read_la
   numbers_by = ap not (sym (reads_later no_later l later read).numbers)
 
   said : not l.are_numbers ≡ false → l.listed ≡ all_said later
-  said off = (reads_later no_later l later read).listed (not_off l.are_numbers off)
+  said off = (reads_later no_later l later read).listed (not-false l.are_numbers off)
 
   sound : not l.are_numbers ≡ false → l.are_sound ≡ all_sound later
-  sound off = (reads_later no_later l later read).sound (not_off l.are_numbers off)
+  sound off = (reads_later no_later l later read).sound (not-false l.are_numbers off)
 
   are_readable : list_all is_readable later ≡ true
   are_readable = sym (later_total no_later later) ∙ ap is_some read
 
   are_numbers : not l.are_numbers ≡ false → all_numbers later ≡ true
-  are_numbers off = sym (reads_later no_later l later read).numbers ∙ not_off l.are_numbers off
+  are_numbers off = sym (reads_later no_later l later read).numbers ∙ not-false l.are_numbers off
 
   place_test : (text : List ℕ) → not l.are_numbers ≡ false → has_bad_place text later ≡ not (ascend_on text 0 (map (λ b. b.0) l.listed))
   place_test text off = ap not (same_places text 0 later ∙ ap (λ (bs : List (ℕ × Option Changed)). ascend_on text 0 (map (λ b. b.0) bs)) (sym (said off)))

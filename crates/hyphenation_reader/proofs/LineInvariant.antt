@@ -4,7 +4,7 @@ use Rattle.std.specs.Prelude.{IsUtf8, IsCharBoundary}
 use Rattle.std.specs.Option.{option_map, option_and_then, is_none}
 use Rattle.std.specs.List.{find, list_all, AllByRecursion}
 use Rattle.std.specs.Str.{is_utf8}
-use Rattle.std.proofs.lemmas.Bool.{and_from, and_parts}
+use Rattle.std.proofs.lemmas.Bool.{and_from, and_parts, or_left, or_right, not-false}
 use Rattle.std.proofs.lemmas.Bool.Decides.{nat_tests}
 use Rattle.std.proofs.lemmas.Str.{IsUtf8-from_is_utf8, is_utf8-from_IsUtf8, IsUtf8-nil}
 use Rattle.hyphenation_breaks.specs.Break.{Break, Change, ascend_on, is_boundary, keeps_within}
@@ -25,27 +25,11 @@ use Rattle.hyphenation_grammar.specs.declared.tokens.PatternElement.TheVariants.
 use Rattle.hyphenation_grammar.specs.Laws.{PiecesAreText, PartsAreText, SpeltIsText, KeysAreText}
 use Rattle.hyphenation_breaks.specs.Laws.{BoundaryIsOfChars, EntriesInOrder, entries_from}
 use Rattle.hyphenation_reader.proofs.JudgingLine.{after-utf8}
-use Rattle.hyphenation_reader.proofs.LineCauses.{in_front, five}
-
-either_left : (a b : Bool) → a ≡ true → (a || b) ≡ true
-either_left true b e = refl
-either_left false b e = absurd cc
-
-either_right : (a b : Bool) → b ≡ true → (a || b) ≡ true
-either_right true b e = refl
-either_right false b e = e
+use Rattle.hyphenation_reader.proofs.LineCauses.{in_front, five, other_sort}
 
 pub off_right : (a b : Bool) → (a && b) ≡ false → a ≡ true → b ≡ false
 off_right true b e h = e
 off_right false b e h = absurd cc
-
-on_from_not : (b : Bool) → not b ≡ false → b ≡ true
-on_from_not true e = refl
-on_from_not false e = absurd cc
-
-not_none : (b : Bool) → not b ≡ false → b ≡ true
-not_none true e = refl
-not_none false e = absurd cc
 
 pub found_none : {X : Type 0} (p : X → Bool) (x : X) (xs : List X) → find p (x ∷ xs) ≡ None → (p x ≡ false) × (find p xs ≡ None)
 found_none {X} p x xs e = by (p x) refl e
@@ -101,24 +85,6 @@ AllUtf8 ts = AllByRecursion IsUtf8 ts
 first-utf8 : (ts : List (List ℕ)) → AllUtf8 ts → IsUtf8 (get_or ts 0 [])
 first-utf8 [] h = IsUtf8-nil
 first-utf8 (t ∷ ts) h = h.0
-
--- no line is of both sorts
-apart : (line : List ℕ) → is_exception_line line ≡ true → is_pattern_line line ≡ false
-apart [] e = absurd cc
-apart (x ∷ []) e = by (nat_eq x 112) (nat_eq x 101) e
-  where
-    by : (s t : Bool) → is_some (cond {A = Option (List ℕ)} (t && false) (Some []) None) ≡ true → is_some (cond {A = Option (List ℕ)} (s && false) (Some []) None) ≡ false
-    by s true h = absurd cc
-    by s false h = absurd cc
-apart (x ∷ y ∷ rest) e = by (nat_eq x 112) (nat_eq x 101) (nat_eq y 32) refl refl e
-  where
-    clash : nat_eq x 112 ≡ true → nat_eq x 101 ≡ true → ⊥
-    clash p q = grind (arith, nat_tests)
-
-    by : (s t r : Bool) → nat_eq x 112 ≡ s → nat_eq x 101 ≡ t → is_some (cond {A = Option (List ℕ)} (t && (r && true)) (Some rest) None) ≡ true → is_some (cond {A = Option (List ℕ)} (s && (r && true)) (Some rest) None) ≡ false
-    by true true r es et h = absurd (clash es et)
-    by true false r es et h = absurd cc
-    by false t r es et h = refl
 
 text_read : TextLaws → (token : List ℕ) → IsUtf8 token → IsUtf8 (unwrap_or (text_spelt token) [])
 text_read laws token u = by (text_spelt token) refl
@@ -356,7 +322,7 @@ module _ (laws : TextLaws) (form : Form) (number : ℕ) (line : List ℕ) (none 
   passed = passes form number line none
 
   line-utf8 : IsUtf8 line
-  line-utf8 = IsUtf8-from_is_utf8 line (on_from_not (is_utf8 line) passed.utf8)
+  line-utf8 = IsUtf8-from_is_utf8 line (not-false (is_utf8 line) passed.utf8)
 
   first-token-utf8 : IsUtf8 (drop 2 line) → IsUtf8 (first_token_of line)
   first-token-utf8 u = first-utf8 (tokens_of line) (laws.pieces 32 (drop 2 line) (omega arith) u)
@@ -369,11 +335,11 @@ module _ (laws : TextLaws) (form : Form) (number : ℕ) (line : List ℕ) (none 
       after_first (t ∷ ts) h = h.1
 
   item_test : (bad : Bool) → (is_item_line line && not bad) ≡ false → is_item_line line ≡ true → bad ≡ true
-  item_test bad e item = on_from_not bad (off_right (is_item_line line) (not bad) e item)
+  item_test bad e item = not-false bad (off_right (is_item_line line) (not bad) e item)
 
   pub pattern-kept : is_pattern_line line ≡ true → IsPattern (λ c. c) (key_of_line form.version line) (entries_of_line form.version line)
   pattern-kept sort =
-      let item : is_item_line line ≡ true = either_left (is_pattern_line line) (is_exception_line line) sort in
+      let item : is_item_line line ≡ true = or_left (is_pattern_line line) (is_exception_line line) sort in
       let marks : is_none (elements_of form.version (first_token_of line)) ≡ false = off_right (is_pattern_line line) (is_none (elements_of form.version (first_token_of line))) passed.value sort in
       let rest : IsUtf8 (drop 2 line) = after-utf8 112 (omega arith) line line-utf8 sort in
       let read = marks_read laws form.version (first_token_of line) (first-token-utf8 rest) marks in
@@ -382,7 +348,7 @@ module _ (laws : TextLaws) (form : Form) (number : ℕ) (line : List ℕ) (none 
       let by_key : list_all (is_good_later_token form (is_pattern_line line) (pattern_elements form.version line) (key_of_line form.version line)) (later_tokens_of line) ≡ true = subst (λ (t : Bool). list_all (is_good_later_token form (is_pattern_line line) (pattern_elements form.version line) (cond t (key_of_line form.version line) (word_of_line line))) (later_tokens_of line) ≡ true) sort good in
       record {
         utf8 = read.0;
-        letter = not_none (has_letter (key_of_line form.version line)) (off_right (is_pattern_line line) (not (has_letter (key_of_line form.version line))) passed.letters sort);
+        letter = not-false (has_letter (key_of_line form.version line)) (off_right (is_pattern_line line) (not (has_letter (key_of_line form.version line))) passed.letters sort);
         ascend = laws.order (λ c. c) (key_of_line form.version line) (entries_of_line form.version line)
             ∙ values-stand laws (key_of_line form.version line) (breaks_of_line line) (changes-stay laws form (is_pattern_line line) (pattern_elements form.version line) (key_of_line form.version line) (later_tokens_of line) (later-utf8 rest) numbers by_key) (pattern_elements form.version line) 0 0 false read.1 (values-small form.version (first_token_of line))
             (off_right (is_pattern_line line) (two_values false (pattern_elements form.version line)) passed.pattern sort) (omega arith);
@@ -390,8 +356,8 @@ module _ (laws : TextLaws) (form : Form) (number : ℕ) (line : List ℕ) (none 
 
   pub exception-kept : is_exception_line line ≡ true → IsException (λ b. b) (word_of_line line) (breaks_of_line line)
   exception-kept sort =
-      let item : is_item_line line ≡ true = either_right (is_pattern_line line) (is_exception_line line) sort in
-      let off : is_pattern_line line ≡ false = apart line sort in
+      let item : is_item_line line ≡ true = or_right (is_pattern_line line) (is_exception_line line) sort in
+      let off : is_pattern_line line ≡ false = other_sort line sort in
       let places : ascend_on (counted_text form.version line) 0 (map place_of_token (later_tokens_of line)) ≡ true = item_test (ascend_on (counted_text form.version line) 0 (map place_of_token (later_tokens_of line))) passed.place item in
       let good : list_all (is_good_later_token form (is_pattern_line line) (pattern_elements form.version line) (counted_text form.version line)) (later_tokens_of line) ≡ true = item_test (list_all (is_good_later_token form (is_pattern_line line) (pattern_elements form.version line) (counted_text form.version line)) (later_tokens_of line)) passed.change item in
       let rest : IsUtf8 (drop 2 line) = after-utf8 101 (omega arith) line line-utf8 sort in

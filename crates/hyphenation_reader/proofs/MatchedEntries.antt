@@ -1,8 +1,8 @@
 -- One pass over values and listed changes, both in ascending order, finds what a search for each of them would.
-use Rattle.std.proofs.Common.{◌≡◌, ◌∙◌, ℕ, ◌+◌, ◌<◌, ◌≤◌, Bool, true, false, cond, not, ◌&&◌, ◌||◌, eqb, nat_le, List, [], ◌∷◌, ◌++◌, length, drop, map, get_or, Option, Some, None, refl, sym, ap, arith, append_assoc, drop-cons, add-one, is_some, inl, inr, ◌⊎◌}
+use Rattle.std.proofs.Common.{◌≡◌, ◌∙◌, ℕ, ◌+◌, ◌<◌, ◌≤◌, Bool, true, false, cond, not, ◌&&◌, ◌||◌, eqb, nat_le, List, [], ◌∷◌, ◌++◌, length, drop, map, get_or, Option, Some, None, refl, sym, ap, arith, append_assoc, drop-cons, add-one, is_some, inl, inr, ◌⊎◌, ne_of_lt}
 use Rattle.std.proofs.Math.ListN.{drop_of_length-le}
 use Rattle.std.proofs.lemmas.List.{append-nil}
-use Rattle.std.proofs.lemmas.Bool.{cases_order}
+use Rattle.std.proofs.lemmas.Bool.{cases_order, and_parts, and_from, eq-eqb, le-leb, leb-true, ne_eqb}
 use Rattle.std.specs.Option.{option_or}
 use Rattle.std.specs.List.{list_all, list_any}
 use Rattle.std.proofs.lemmas.Bool.Decides.{nat_tests}
@@ -24,32 +24,6 @@ use Rattle.hyphenation_grammar.specs.declared.tokens.PatternElement.TheVariants.
 use Rattle.hyphenation_reader.proofs.LineCauses.{found_marks, read_marks, spaced}
 use Rattle.hyphenation_reader.proofs.ReadTokens.{both_parts}
 
-left : (a b : Bool) → (a && b) ≡ true → a ≡ true
-left true b e = refl
-left false b e = absurd cc
-
-right : (a b : Bool) → (a && b) ≡ true → b ≡ true
-right true b e = e
-right false b e = absurd cc
-
-both : (a b : Bool) → a ≡ true → b ≡ true → (a && b) ≡ true
-both a b x y = rw (x, y) refl
-
-at_most : (a b : ℕ) → nat_le a b ≡ true → a ≤ b
-at_most a b e = grind (arith, nat_tests)
-
-at_least : (a b : ℕ) → a ≤ b → nat_le a b ≡ true
-at_least a b h = grind (arith, nat_tests)
-
-equal : (a b : ℕ) → eqb a b ≡ true → a ≡ b
-equal a b e = grind (arith, nat_tests)
-
-same : (a b : ℕ) → a ≡ b → eqb a b ≡ true
-same a b e = grind (arith, nat_tests)
-
-differs : (a b : ℕ) → a < b → eqb a b ≡ false
-differs a b h = grind (arith, nat_tests)
-
 exceeds : (a b : ℕ) → a < b → eqb b a ≡ false
 exceeds a b h = grind (arith, nat_tests)
 
@@ -57,8 +31,8 @@ exceeds a b h = grind (arith, nat_tests)
 pub from_earlier : {X : Type 0} (least more : ℕ) (xs : List (ℕ × X)) → least ≤ more → ascend more xs ≡ true → ascend least xs ≡ true
 from_earlier least more [] le e = refl
 from_earlier least more (x ∷ xs) le e =
-    let here : more ≤ x.0 = at_most more x.0 (left (nat_le more x.0) (ascend (x.0 + 1) xs) e) in
-    both (nat_le least x.0) (ascend (x.0 + 1) xs) (at_least least x.0 (omega arith)) (right (nat_le more x.0) (ascend (x.0 + 1) xs) e)
+    let here : more ≤ x.0 = leb-true more x.0 (and_parts (nat_le more x.0) (ascend (x.0 + 1) xs) e).0 in
+    and_from (nat_le least x.0) (ascend (x.0 + 1) xs) (le-leb least x.0 (omega arith)) (and_parts (nat_le more x.0) (ascend (x.0 + 1) xs) e).1
 
 -- whether a place has a value
 abbrev has_value : List (ℕ × ℕ) → ℕ → Bool
@@ -67,32 +41,32 @@ has_value values place = list_any (λ v. eqb v.0 place) values
 none_below : (place least : ℕ) (values : List (ℕ × ℕ)) → place < least → ascend least values ≡ true → has_value values place ≡ false
 none_below place least [] lt e = refl
 none_below place least (v ∷ values) lt e =
-    let here : least ≤ v.0 = at_most least v.0 (left (nat_le least v.0) (ascend (v.0 + 1) values) e) in
-    rw (exceeds place v.0 (omega arith)) (none_below place (v.0 + 1) values (omega arith) (right (nat_le least v.0) (ascend (v.0 + 1) values) e))
+    let here : least ≤ v.0 = leb-true least v.0 (and_parts (nat_le least v.0) (ascend (v.0 + 1) values) e).0 in
+    rw (exceeds place v.0 (omega arith)) (none_below place (v.0 + 1) values (omega arith) (and_parts (nat_le least v.0) (ascend (v.0 + 1) values) e).1)
 
 -- an earlier value belongs to none of the listed ones, nor does an earlier listed one to any value
 values_after : (v : ℕ × ℕ) (values : List (ℕ × ℕ)) (least : ℕ) (listed : List (ℕ × Option Changed)) → v.0 < least → ascend least listed ≡ true → have_values (v ∷ values) listed ≡ have_values values listed
 values_after v values least [] lt e = refl
 values_after v values least (b ∷ listed) lt e =
-    let here : least ≤ b.0 = at_most least b.0 (left (nat_le least b.0) (ascend (b.0 + 1) listed) e) in
-    let rest = values_after v values (b.0 + 1) listed (omega arith) (right (nat_le least b.0) (ascend (b.0 + 1) listed) e) in
-    (λ i. (differs v.0 b.0 (omega arith) i || has_value values b.0) && rest i)
+    let here : least ≤ b.0 = leb-true least b.0 (and_parts (nat_le least b.0) (ascend (b.0 + 1) listed) e).0 in
+    let rest = values_after v values (b.0 + 1) listed (omega arith) (and_parts (nat_le least b.0) (ascend (b.0 + 1) listed) e).1 in
+    (λ i. ((ne_eqb v.0 b.0 (ne_of_lt (omega arith))) i || has_value values b.0) && rest i)
 
 changes_after : (b : ℕ × Option Changed) (listed : List (ℕ × Option Changed)) (place : ℕ) → b.0 < place → change_at place (breaks_listed (b ∷ listed)) ≡ change_at place (breaks_listed listed)
-changes_after b listed place lt = rw (differs b.0 place lt) refl
+changes_after b listed place lt = rw (ne_eqb b.0 place (ne_of_lt lt)) refl
 
 none_listed : (place least : ℕ) (listed : List (ℕ × Option Changed)) → place < least → ascend least listed ≡ true → change_at place (breaks_listed listed) ≡ None
 none_listed place least [] lt e = refl
 none_listed place least (b ∷ listed) lt e =
-    let here : least ≤ b.0 = at_most least b.0 (left (nat_le least b.0) (ascend (b.0 + 1) listed) e) in
-    rw (exceeds place b.0 (omega arith)) (none_listed place (b.0 + 1) listed (omega arith) (right (nat_le least b.0) (ascend (b.0 + 1) listed) e))
+    let here : least ≤ b.0 = leb-true least b.0 (and_parts (nat_le least b.0) (ascend (b.0 + 1) listed) e).0 in
+    rw (exceeds place b.0 (omega arith)) (none_listed place (b.0 + 1) listed (omega arith) (and_parts (nat_le least b.0) (ascend (b.0 + 1) listed) e).1)
 
 entries_after : {C : Type 0} (payload_of : Option Changed → C) (least : ℕ) (values : List (ℕ × ℕ)) (b : ℕ × Option Changed) (listed : List (ℕ × Option Changed)) → b.0 < least → ascend least values ≡ true
     → entries_of payload_of values (b ∷ listed) ≡ entries_of payload_of values listed
 entries_after payload_of least [] b listed lt e = refl
 entries_after {C} payload_of least (v ∷ values) b listed lt e =
-    let here : least ≤ v.0 = at_most least v.0 (left (nat_le least v.0) (ascend (v.0 + 1) values) e) in
-    let rest = entries_after payload_of (v.0 + 1) values b listed (omega arith) (right (nat_le least v.0) (ascend (v.0 + 1) values) e) in
+    let here : least ≤ v.0 = leb-true least v.0 (and_parts (nat_le least v.0) (ascend (v.0 + 1) values) e).0 in
+    let rest = entries_after payload_of (v.0 + 1) values b listed (omega arith) (and_parts (nat_le least v.0) (ascend (v.0 + 1) values) e).1 in
     let found = changes_after b listed v.0 (omega arith) in
     (λ i. record { place = v.0; value = v.1; change = payload_of (found i) } ∷ rest i)
 
@@ -104,25 +78,25 @@ none_left (b ∷ rest) = false
 leaves : (least more : ℕ) (values : List (ℕ × ℕ)) (listed : List (ℕ × Option Changed)) → ascend least values ≡ true → ascend more listed ≡ true → none_left (unmatched_changes values listed) ≡ have_values values listed
 leaves least more [] [] e f = refl
 leaves least more [] (b ∷ listed) e f = refl
-leaves least more (v ∷ values) [] e f = leaves (v.0 + 1) 0 values [] (right (nat_le least v.0) (ascend (v.0 + 1) values) e) refl
+leaves least more (v ∷ values) [] e f = leaves (v.0 + 1) 0 values [] (and_parts (nat_le least v.0) (ascend (v.0 + 1) values) e).1 refl
 leaves least more (v ∷ values) (b ∷ listed) e f =
-    by (cases_order v.0 b.0) (leaves (v.0 + 1) (b.0 + 1) values listed later rest) (leaves (v.0 + 1) b.0 values (b ∷ listed) later (both (nat_le b.0 b.0) (ascend (b.0 + 1) listed) (at_least b.0 b.0 (omega arith)) rest))
+    by (cases_order v.0 b.0) (leaves (v.0 + 1) (b.0 + 1) values listed later rest) (leaves (v.0 + 1) b.0 values (b ∷ listed) later (and_from (nat_le b.0 b.0) (ascend (b.0 + 1) listed) (le-leb b.0 b.0 (omega arith)) rest))
   where
     later : ascend (v.0 + 1) values ≡ true
-    later = right (nat_le least v.0) (ascend (v.0 + 1) values) e
+    later = (and_parts (nat_le least v.0) (ascend (v.0 + 1) values) e).1
 
     rest : ascend (b.0 + 1) listed ≡ true
-    rest = right (nat_le more b.0) (ascend (b.0 + 1) listed) f
+    rest = (and_parts (nat_le more b.0) (ascend (b.0 + 1) listed) f).1
 
     from_here : ascend b.0 (b ∷ listed) ≡ true
-    from_here = both (nat_le b.0 b.0) (ascend (b.0 + 1) listed) (at_least b.0 b.0 (omega arith)) rest
+    from_here = and_from (nat_le b.0 b.0) (ascend (b.0 + 1) listed) (le-leb b.0 b.0 (omega arith)) rest
 
     by : (v.0 ≡ b.0) ⊎ ((v.0 < b.0) ⊎ (b.0 < v.0)) → none_left (unmatched_changes values listed) ≡ have_values values listed → none_left (unmatched_changes values (b ∷ listed)) ≡ have_values values (b ∷ listed)
         → none_left (unmatched_changes values (cond (eqb b.0 v.0) listed (b ∷ listed))) ≡ ((eqb v.0 b.0 || has_value values b.0) && have_values (v ∷ values) listed)
-    by (inl is) here more = rw (same b.0 v.0 (sym is), same v.0 b.0 is) (here ∙ sym (values_after v values (b.0 + 1) listed (omega arith) rest))
+    by (inl is) here more = rw (eq-eqb b.0 v.0 (sym is), eq-eqb v.0 b.0 is) (here ∙ sym (values_after v values (b.0 + 1) listed (omega arith) rest))
     by (inr (inl lt)) here more = rw (exceeds v.0 b.0 lt) (more ∙ sym (values_after v values b.0 (b ∷ listed) lt from_here))
     by (inr (inr gt)) here more =
-        rw (differs b.0 v.0 gt) (more ∙ shut (has_value values b.0) (eqb v.0 b.0) (have_values values listed) (have_values (v ∷ values) listed) (none_below b.0 (v.0 + 1) values (omega arith) later) (exceeds b.0 v.0 gt))
+        rw (ne_eqb b.0 v.0 (ne_of_lt gt)) (more ∙ shut (has_value values b.0) (eqb v.0 b.0) (have_values values listed) (have_values (v ∷ values) listed) (none_below b.0 (v.0 + 1) values (omega arith) later) (exceeds b.0 v.0 gt))
       where
         shut : (h t : Bool) (p q : Bool) → h ≡ false → t ≡ false → (h && p) ≡ ((t || h) && q)
         shut h t p q x y = rw (x, y) refl
@@ -132,18 +106,18 @@ pub makes : {C : Type 0} (payload_of : Option Changed → C) (least more : ℕ) 
     → matched_entries payload_of values listed ≡ entries_of payload_of values listed
 makes payload_of least more [] listed e f all = refl
 makes {C} payload_of least more (v ∷ values) [] e f all =
-    ap (λ (es : List (Entry C)). record { place = v.0; value = v.1; change = payload_of None } ∷ es) (makes payload_of (v.0 + 1) 0 values [] (right (nat_le least v.0) (ascend (v.0 + 1) values) e) refl refl)
+    ap (λ (es : List (Entry C)). record { place = v.0; value = v.1; change = payload_of None } ∷ es) (makes payload_of (v.0 + 1) 0 values [] (and_parts (nat_le least v.0) (ascend (v.0 + 1) values) e).1 refl refl)
 makes {C} payload_of least more (v ∷ values) (b ∷ listed) e f all =
     by (cases_order v.0 b.0) (makes payload_of (v.0 + 1) (b.0 + 1) values listed later rest) (makes payload_of (v.0 + 1) b.0 values (b ∷ listed) later from_here)
   where
     later : ascend (v.0 + 1) values ≡ true
-    later = right (nat_le least v.0) (ascend (v.0 + 1) values) e
+    later = (and_parts (nat_le least v.0) (ascend (v.0 + 1) values) e).1
 
     rest : ascend (b.0 + 1) listed ≡ true
-    rest = right (nat_le more b.0) (ascend (b.0 + 1) listed) f
+    rest = (and_parts (nat_le more b.0) (ascend (b.0 + 1) listed) f).1
 
     from_here : ascend b.0 (b ∷ listed) ≡ true
-    from_here = both (nat_le b.0 b.0) (ascend (b.0 + 1) listed) (at_least b.0 b.0 (omega arith)) rest
+    from_here = and_from (nat_le b.0 b.0) (ascend (b.0 + 1) listed) (le-leb b.0 b.0 (omega arith)) rest
 
     entry : Option Changed → Entry C
     entry change = record { place = v.0; value = v.1; change = payload_of change }
@@ -153,13 +127,13 @@ makes {C} payload_of least more (v ∷ values) (b ∷ listed) e f all =
         → record { place = v.0; value = v.1; change = payload_of (cond (eqb b.0 v.0) b.1 None) } ∷ matched_entries payload_of values (cond (eqb b.0 v.0) listed (b ∷ listed))
         ≡ record { place = v.0; value = v.1; change = payload_of (cond (eqb b.0 v.0) b.1 (change_at v.0 (breaks_listed listed))) } ∷ entries_of payload_of values (b ∷ listed)
     by (inl is) here more =
-        let at_rest : have_values values listed ≡ true = sym (values_after v values (b.0 + 1) listed (omega arith) rest) ∙ right (eqb v.0 b.0 || has_value values b.0) (have_values (v ∷ values) listed) all in
-        rw (same b.0 v.0 (sym is)) (ap (λ (es : List (Entry C)). entry b.1 ∷ es) (here at_rest ∙ sym (entries_after payload_of (v.0 + 1) values b listed (omega arith) later)))
+        let at_rest : have_values values listed ≡ true = sym (values_after v values (b.0 + 1) listed (omega arith) rest) ∙ (and_parts (eqb v.0 b.0 || has_value values b.0) (have_values (v ∷ values) listed) all).1 in
+        rw (eq-eqb b.0 v.0 (sym is)) (ap (λ (es : List (Entry C)). entry b.1 ∷ es) (here at_rest ∙ sym (entries_after payload_of (v.0 + 1) values b listed (omega arith) later)))
     by (inr (inl lt)) here more =
         let at_rest : have_values values (b ∷ listed) ≡ true = sym (values_after v values b.0 (b ∷ listed) lt from_here) ∙ all in
         let none : change_at v.0 (breaks_listed listed) ≡ None = none_listed v.0 (b.0 + 1) listed (omega arith) rest in
         rw (exceeds v.0 b.0 lt) (λ i. entry (sym none i) ∷ more at_rest i)
-    by (inr (inr gt)) here more = absurd (missing (eqb v.0 b.0) (has_value values b.0) (exceeds b.0 v.0 gt) (none_below b.0 (v.0 + 1) values (omega arith) later) (left (eqb v.0 b.0 || has_value values b.0) (have_values (v ∷ values) listed) all))
+    by (inr (inr gt)) here more = absurd (missing (eqb v.0 b.0) (has_value values b.0) (exceeds b.0 v.0 gt) (none_below b.0 (v.0 + 1) values (omega arith) later) (and_parts (eqb v.0 b.0 || has_value values b.0) (have_values (v ∷ values) listed) all).0)
       where
         missing : (t h : Bool) → t ≡ false → h ≡ false → (t || h) ≡ true → ⊥
         missing true h x y z = cc
@@ -200,14 +174,14 @@ module _ (values : List (ℕ × ℕ)) (listed : List (ℕ × Option Changed)) (e
   made_all {C} payload_of made is all =
       sym (append-nil made) ∙ ap (λ (vs : List (ℕ × ℕ)). made ++ matched_entries payload_of vs (pending next rest)) (sym (drop_of_length-le values past)) ∙ is ∙ makes payload_of 0 0 values listed e f all
 
--- the contents of a token alone
+-- the contents of only a token
 pub read_alone : (version : Version) (r : ReadPattern) (text : List ℕ) → IsPatternToken r text → pattern_parts version (spaced text) ≡ Some (r, no_later)
 read_alone version r text token =
     ap (pattern_parts version) token.1
     ∙ ap (λ (empty : Bool). cond empty None (all (read_pattern version text) (Some no_later))) (exceeds 0 (length text) token.0)
     ∙ ap (λ (o : Option ReadPattern). all o (Some no_later)) (sym (token.2 version))
 
--- the values of marks ascend, where no two stand in succession
+-- the values of marks ascend, where no two are in succession
 values_ascend : (after : Bool) (at : ℕ) (marks : List PatternElement) → two_values after marks ≡ false → ascend (at + cond after 1 0) (values_from at marks) ≡ true
 values_ascend after at [] e = refl
 values_ascend after at (Letter b ∷ marks) e = from_earlier (at + cond after 1 0) (at + 1 + 0) (values_from (at + 1) marks) (bound after) (values_ascend false (at + 1) marks (quiet after e))
@@ -224,14 +198,14 @@ values_ascend false at (Value v ∷ marks) e = by (eqb v 0) (values_ascend true 
   where
     by : (t : Bool) → ascend (at + 1) (values_from at marks) ≡ true → ascend (at + 0) (cond t (values_from at marks) ((at, v) ∷ values_from at marks)) ≡ true
     by true more = from_earlier (at + 0) (at + 1) (values_from at marks) (omega arith) more
-    by false more = both (nat_le (at + 0) at) (ascend (at + 1) (values_from at marks)) (at_least (at + 0) at (omega arith)) more
+    by false more = and_from (nat_le (at + 0) at) (ascend (at + 1) (values_from at marks)) (le-leb (at + 0) at (omega arith)) more
 
 -- listed places ascend, where they pass the test of places
 pub listed_ascend : (text : List ℕ) (least : ℕ) (listed : List (ℕ × Option Changed)) → ascend_on text least (map (λ b. b.0) listed) ≡ true → ascend least listed ≡ true
 listed_ascend text least [] e = refl
 listed_ascend text least (b ∷ listed) e =
-    both (nat_le least b.0) (ascend (b.0 + 1) listed) (left (nat_le least b.0) (is_boundary text b.0) (left (nat_le least b.0 && is_boundary text b.0) (ascend_on text (b.0 + 1) (map (λ x. x.0) listed)) e))
-    (listed_ascend text (b.0 + 1) listed (right (nat_le least b.0 && is_boundary text b.0) (ascend_on text (b.0 + 1) (map (λ x. x.0) listed)) e))
+    and_from (nat_le least b.0) (ascend (b.0 + 1) listed) (and_parts (nat_le least b.0) (is_boundary text b.0) (and_parts (nat_le least b.0 && is_boundary text b.0) (ascend_on text (b.0 + 1) (map (λ x. x.0) listed)) e).0).0
+    (listed_ascend text (b.0 + 1) listed (and_parts (nat_le least b.0 && is_boundary text b.0) (ascend_on text (b.0 + 1) (map (λ x. x.0) listed)) e).1)
 
 -- each change is kept and has a value, if all are kept and all have values
 fits_apart : (form : Form) (key : List ℕ) (values : List (ℕ × ℕ)) (b : ℕ × Option Changed) → suits_key form key values b ≡ (suits_form_in_pattern form key b && has_value values b.0)

@@ -6,6 +6,7 @@ use Rattle.std.specs.List.{list_all}
 use Rattle.std.proofs.lemmas.List.{append-nil}
 use Rattle.std.proofs.lemmas.Grind.{fold-append}
 use Rattle.std.proofs.lemmas.Bool.Decides.{nat_tests}
+use Rattle.std.proofs.lemmas.Bool.{or_left}
 use Rattle.hyphenation_grammar.specs.Lines.{is_number, number}
 use Rattle.hyphenation_grammar.specs.Tokens.{elements_from, step_at, pattern_bytes, text_spelt, key_of, values_from, two_values, is_readable, parts_of}
 use Rattle.hyphenation_grammar.specs.Parsed.{ReadPattern, nothing_read, is_bad, with_element, with_step, with_spelt, read_pattern, parse_parts, parse_change_token, token_with, sound_change, part_at}
@@ -241,10 +242,6 @@ bad_stays version r (s ∷ ss) bad = bad_stays version (with_spelt version r s) 
     by None = refl
     by (Some step) = marks_keep r step.1 ∙ bad
 
-bad_left : (a b : Bool) → a ≡ true → (a || b) ≡ true
-bad_left true b e = refl
-bad_left false b e = absurd cc
-
 -- what one pass over signs finds: their marks, or that a value is bad
 abbrev pub Finds : ReadPattern → ReadPattern → Option (List PatternElement) → Type 0
 Finds r found None = is_bad found ≡ true
@@ -269,5 +266,5 @@ finds version r (s ∷ ss) = by (step_at version r.digits s) (λ x. finds versio
 
     by : (o : Option (Option (List ℕ) × List PatternElement)) → ((x : Option (Option (List ℕ) × List PatternElement)) → Finds (with_step r x) (fold (with_spelt version) (with_step r x) ss) (elements_from version (with_step r x).digits ss))
         → Finds r (fold (with_spelt version) (with_step r o) ss) (option_and_then (λ step. option_map (λ marks. step.1 ++ marks) (elements_from version step.0 ss)) o)
-    by None each = bad_left (fold (with_spelt version) (with_step r None) ss).has_bad_value (is_some (fold (with_spelt version) (with_step r None) ss).digits) (bad_stays version (with_step r None) ss refl)
+    by None each = or_left (fold (with_spelt version) (with_step r None) ss).has_bad_value (is_some (fold (with_spelt version) (with_step r None) ss).digits) (bad_stays version (with_step r None) ss refl)
     by (Some step) each = more step (fold (with_spelt version) (with_step r (Some step)) ss) (elements_from version step.0 ss) (each (Some step))

@@ -3,10 +3,8 @@ use Rattle.std.proofs.Common.{◌≡◌, ℕ, ◌+◌, Bool, true, false, cond, 
 use Rattle.std.specs.Prelude.{◌⊎◌}
 use Rattle.std.proofs.lemmas.List.{append-nil}
 use Rattle.std.specs.Option.{option_map, option_or}
-use Rattle.std.specs.Ordering.{nat_cmp, eq_by_cmp, is_eq}
-use Rattle.std.specs.declared.cmp.Ordering.{Ordering}
-use Rattle.std.specs.declared.cmp.Ordering.TheVariants.{Less, Equal, Greater}
-use Rattle.std.specs.Cmp.Lexicographic.{slice_cmp, nat_list_cmp_total, nat_list_eq_equiv, texts_ties}
+use Rattle.std.specs.Ordering.{nat_cmp, eq_by_cmp}
+use Rattle.std.specs.Cmp.Lexicographic.{slice_cmp, nat_list_cmp_total, nat_list_eq_equiv, texts_ties, bytes_decides}
 use Rattle.std.specs.FinMap as finite
 use Rattle.std.specs.FinMap.{get-insert, get-empty, same_map, nat_cmp-IsAntisymmetric, slice_cmp-IsAntisymmetric}
 use Rattle.hyphenation_breaks.specs.Break.{Break, Change}
@@ -55,14 +53,6 @@ moved P ls ms among h =
 abbrev pub Tells : {X : Type 0} → (List ℕ → Option (List ℕ × X)) → List (List ℕ) → Type 0
 Tells {X} spells lines = (k : List ℕ) (v : X) → (finite.get (map_of_lines spells lines) k ≡ Some v → SomeLine (λ l. spells l ≡ Some (k, v)) lines) × (SomeLine (λ l. spells l ≡ Some (k, v)) lines → finite.get (map_of_lines spells lines) k ≡ Some v)
 
-pub tie : (a b : List ℕ) → eq_by_cmp (slice_cmp nat_cmp) a b ≡ true → a ≡ b
-tie a b e = slice_cmp-IsAntisymmetric nat_cmp-IsAntisymmetric a b (equal (slice_cmp nat_cmp a b) e)
-  where
-    equal : (r : Ordering) → is_eq r ≡ true → r ≡ Equal
-    equal Less e = absurd cc
-    equal Equal e = refl
-    equal Greater e = absurd cc
-
 untied : (a b : List ℕ) → eq_by_cmp (slice_cmp nat_cmp) a b ≡ false → a ≡ b → ⊥
 untied a b e is = let itself : eq_by_cmp (slice_cmp nat_cmp) a b ≡ true = subst (λ (x : List ℕ). eq_by_cmp (slice_cmp nat_cmp) a x ≡ true) is ((sym (texts_ties a a) ∙ nat_list_eq_equiv.refl a)) in absurd cc
 
@@ -84,7 +74,7 @@ tells_more {X} spells earlier line new tells k v = subst (λ (m : TextMap X). (f
       where
         both : (t : Bool) → eq_by_cmp (slice_cmp nat_cmp) k x.0 ≡ t → (finite.get (finite.insert (map_of_lines spells earlier) x.0 x.1) k ≡ Some v → SomeLine (λ l. spells l ≡ Some (k, v)) (earlier ++ line ∷ [])) × (SomeLine (λ l. spells l ≡ Some (k, v)) (earlier ++ line ∷ []) → finite.get (finite.insert (map_of_lines spells earlier) x.0 x.1) k ≡ Some v)
         both true t =
-            let is : k ≡ x.0 = tie k x.0 t in
+            let is : k ≡ x.0 = (bytes_decides k x.0).0 (texts_ties k x.0 ∙ t) in
             let got : finite.get (finite.insert (map_of_lines spells earlier) x.0 x.1) k ≡ Some x.1 = get-insert nat_list_cmp_total (map_of_lines spells earlier) x.0 x.1 k ∙ ap (λ (b : Bool). cond b (Some x.1) (finite.get (map_of_lines spells earlier) k)) t in (
               λ h. let same : x.1 ≡ v = cc in some_end (λ l. spells l ≡ Some (k, v)) earlier line (e ∙ (λ i. Some (sym is i, same i))),
               λ h. elim (some_of (λ l. spells l ≡ Some (k, v)) earlier line h) [

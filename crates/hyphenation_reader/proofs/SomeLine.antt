@@ -6,7 +6,7 @@ abbrev pub SomeLine : (List ℕ → Type 0) → List (List ℕ) → Type 0
 SomeLine P [] = ⊥
 SomeLine P (l ∷ ls) = P l ⊎ SomeLine P ls
 
--- Each line of the first text stands in the second.
+-- Each line of the first text is in the second.
 abbrev pub AllAmong : List (List ℕ) → List (List ℕ) → Type 0
 AllAmong ls ms = (l : List ℕ) → SomeLine (λ m. m ≡ l) ls → SomeLine (λ m. m ≡ l) ms
 

@@ -18,7 +18,7 @@ pub(crate) struct KnownEntries {
 }
 
 impl KnownEntries {
-    // Knows no entries yet: the root, which stands for them, is no key. The only error is out of memory.
+    // Knows no entries yet: the root, which is there in their place, is no key. The only error is out of memory.
     //
     // Entries of a standard dictionary have 8 bytes. To look for equal ones would save little and take longer.
     pub(crate) fn new(alloc: Global, kind: Kind) -> Result<KnownEntries, AllocError> {

@@ -1,5 +1,5 @@
 -- The first entry of the greatest value, and the greater of two entries.
-use Rattle.std.proofs.Common.{◌≡◌, ℕ, ◌<◌, ◌≤◌, max, Bool, true, false, cond, eqb, List, [], ◌∷◌, ◌++◌, map, Option, Some, None, refl, sym, ap, ◌∙◌, arith, inl, inr}
+use Rattle.std.proofs.Common.{◌≡◌, ℕ, ◌<◌, ◌≤◌, max, true, false, cond, eqb, List, [], ◌∷◌, ◌++◌, map, Option, Some, None, refl, sym, ap, ◌∙◌, arith, inl, inr, true≢false}
 use Rattle.std.specs.Option.{option_or}
 use Rattle.std.specs.List.{find}
 use Rattle.std.proofs.lemmas.Bool.{cases_lt, cases_eq, lt-ltb, le-ltb, eqb-true, eq-eqb}
@@ -22,13 +22,9 @@ not_found {C} (e ∷ es) v lt =
       | false ↦ λ is. not_found es v (omega arith)
     ] refl
 
-differ : (b : Bool) → b ≡ true → b ≡ false → ⊥
-differ true p q = cc
-differ false p q = cc
-
 rest_greatest : (a b v : ℕ) → v ≡ max a b → eqb a v ≡ false → v ≡ b
 rest_greatest a b v is other = elim (cases_eq a v) [
-  | inl same ↦ absurd (differ (eqb a v) (eq-eqb a v same) other)
+  | inl same ↦ absurd (true≢false (sym (eq-eqb a v same) ∙ other))
   | inr apart ↦ omega arith
 ]
 

@@ -6,6 +6,7 @@ use Rattle.std.proofs.lemmas.Bool.{cases_eq}
 use Rattle.std.proofs.lemmas.List.Sums.{fold-append, sum_by-append}
 use Rattle.std.proofs.lemmas.List.{length-append, take_more, length-take, length-drop, append-nil, drop-drop, drop-take}
 use Rattle.std.proofs.lemmas.Grind.{flat_map-append, common_steps}
+use Rattle.std.proofs.lemmas.List.Elements.{filter-append}
 use Rattle.hyphenation_breaks.specs.declared.entry.Entry.{Entry}
 use Rattle.hyphenation_breaks.specs.Dictionary.{Patterns}
 use Rattle.hyphenation_breaks.specs.Ranks.{greatest_rank}
@@ -15,7 +16,7 @@ use Rattle.hyphenation_trie.specs.Laws.{KeysHaveNodes}
 use Rattle.hyphenation_score.specs.Scoring.{frame, bearers_between, bearers_from, bearers, values}
 use Rattle.hyphenation_score.specs.OnePass.{keys_ending, occurrences}
 use Rattle.hyphenation_score.specs.Private.OnePass.{bearing, entries_of_end, entries_of_ends, bearers_to, bearers_by_ends, AreAfter}
-use Rattle.hyphenation_score.proofs.GreatestValues.{greatest_rank-within, row_rank, filter-append}
+use Rattle.hyphenation_score.proofs.GreatestValues.{greatest_rank-within, row_rank}
 use Rattle.hyphenation_score.proofs.NumberRows.{range-append, range_more, flat_map_none}
 
 -- a text without its first bytes ends the text

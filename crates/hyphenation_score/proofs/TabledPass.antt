@@ -8,6 +8,7 @@ use Rattle.std.proofs.lemmas.List.{length-take-le, length-drop, get_or_past, tak
 use Rattle.std.proofs.Math.ListN.{drop_of_length-le}
 use Rattle.std.proofs.lemmas.List.FromFn.{length-range_with_len, length-map-range_with_len, get_or-map-range_with_len}
 use Rattle.std.proofs.lemmas.List.Sums.{count_by-le-length}
+use Rattle.std.proofs.lemmas.List.Elements.{filter_agree}
 use Rattle.hyphenation_breaks.specs.Dictionary.{Patterns}
 use Rattle.hyphenation_breaks.specs.Ranks.{greatest_rank}
 use Rattle.hyphenation_breaks.specs.declared.entry.Entry.{Entry}
@@ -43,9 +44,6 @@ same_tests a b c d to back = elim (cases_eq a b) [
   | inr apart ↦ ne_eqb a b apart ∙ sym (ne_eqb c d (λ e. apart (back e)))
 ]
 
-filter_by : {A : Type 0} (p q : A → Bool) (xs : List A) → ((x : A) → p x ≡ q x) → filter p xs ≡ filter q xs
-filter_by {A} p q xs h = let same : ◌≡◌ {A = A → Bool} p q = λ i x. h x i in ap (λ t. filter t xs) same
-
 filter_none : {A : Type 0} (q : A → Bool) (xs : List A) → ((x : A) → IsAmong xs x → q x ≡ false) → filter q xs ≡ []
 filter_none q [] h = refl
 filter_none {A} q (x ∷ xs) h =
@@ -79,8 +77,7 @@ module _ {C : Type 0} (rank : C → ℕ → ℕ) (keys : Patterns C) (framed : L
       let f = λ (start : ℕ). bearers_between keys framed p start end in
       let h = λ (d : ℕ). filter (λ entry. d + entry.place + distance == length T) (unwrap_or (keys (drop d T)) []) in
       let each : (d : ℕ) → f d ≡ h d = λ d. ap (λ x. filter (λ entry. d + entry.place == p + 1) (unwrap_or (keys x) [])) (piece_is d end le)
-      ∙ filter_by (λ entry. d + entry.place == p + 1) (λ entry. d + entry.place + distance == length T) (unwrap_or (keys (drop d T)) [])
-      (λ entry. same_tests (d + entry.place) (p + 1) (d + entry.place + distance) (length T) (λ is. omega arith) (λ is. omega arith)) in
+      ∙ filter_agree (λ entry. d + entry.place == p + 1) (λ entry. d + entry.place + distance == length T) (λ entry. same_tests (d + entry.place) (p + 1) (d + entry.place + distance) (length T) (λ is. omega arith) (λ is. omega arith)) (unwrap_or (keys (drop d T)) []) in
       let same : ◌≡◌ {A = ℕ → List (Entry C)} f h = λ i d. each d i in
       ap (λ (t : ℕ → List (Entry C)). flat_map t (range_with_len 0 end)) same ∙ ap (λ (k : ℕ). flat_map h (range_with_len 0 k)) (sym len)
 
@@ -123,7 +120,7 @@ module _ {C : Type 0} (rank : C → ℕ → ℕ) (keys : Patterns C) (framed : L
         let distance : ℕ = 15 - lane in
         v.each lane distance (omega arith) ∙ ap (λ t. greatest_rank rank (entries_before keys t distance)) is ∙ ap (greatest_rank rank) (sym (ending_before p end distance le (omega arith)))
 
-    -- so many keys can end there
+    -- as many keys can end there
     few_end : (end : ℕ) → keys_ending keys framed end ≤ end
     few_end end = omega (arith, count_by-le-length (λ start. is_some (keys (slice_range framed start end))) (range_with_len 0 end), length-range_with_len 0 end)
 

@@ -1,4 +1,4 @@
--- This file defines the values of a word's places, and the entries that win them.
+-- The values of a word's places, and the entries that win them.
 -- Sources: F. M. Liang, Word Hy-phen-a-tion by Com-put-er (1983), for keys whose values compete;
 -- L. Németh, Automatic non-standard hyphenation in OpenOffice.org, TUGboat 27:1 (2006), for values that carry changes.
 use Rattle.std.specs.Prelude.{ℕ, ◌+◌, ◌-◌, ◌==◌, if◌then◌else◌, List, [], ◌∷◌, ◌++◌, length, map, filter, Option, Some, None, unwrap_or, option_copied, slice_range}

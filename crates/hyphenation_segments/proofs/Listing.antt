@@ -1,16 +1,12 @@
 -- Breaks may be listed exactly where each fits the word by itself.
-use Rattle.std.proofs.Common.{◌≡◌, ℕ, ◌+◌, ◌-◌, ◌<◌, ◌^◌, ◌&&◌, Bool, true, false, nat_le, le-leb, List, [], ◌∷◌, length, map, Option, Some, None, refl, sym, subst, arith, add-zero, IsCharBoundary}
+use Rattle.std.proofs.Common.{◌≡◌, ℕ, ◌+◌, ◌-◌, ◌<◌, ◌^◌, ◌&&◌, true, nat_le, le-leb, List, [], ◌∷◌, length, map, Option, Some, None, refl, sym, subst, arith, add-zero, IsCharBoundary}
 use Rattle.std.proofs.Math.Nat.{sub-zero}
-use Rattle.std.proofs.lemmas.Bool.{and_parts, leb-true, lt-ltb}
+use Rattle.std.proofs.lemmas.Bool.{and_parts, leb-true, lt-ltb, and_from}
 use Rattle.hyphenation_breaks.specs.Break.{Break, Change, break_at, is_boundary, has_boundary, keeps_within}
 use Rattle.hyphenation_breaks.specs.Invariant.{fits_usize, can_be_written, can_be_written_if_any, lists_within, stays_within}
 use Rattle.hyphenation_breaks.specs.Laws.{listed_from, BoundaryIsOfChars}
 use Rattle.hyphenation_segments.specs.Fits.{BreakFitsAfter}
 use Rattle.hyphenation_segments.specs.Laws.{MayBeListed, MeetInvariant}
-
-both : (a b : Bool) → a ≡ true → b ≡ true → (a && b) ≡ true
-both true b p q = q
-both false b p q = p
 
 -- A break whose tests pass fits the word.
 tested : BoundaryIsOfChars → (word : List ℕ) (least place : ℕ) (change : Option Change) → nat_le least place ≡ true → is_boundary word place ≡ true → lists_within word place change ≡ true → BreakFitsAfter word 0 least (break_at place change)
@@ -44,14 +40,14 @@ tested chars word least place (Some change) ascends at within =
 
 -- A break that fits the word passes the tests, where its change has the properties of its type.
 passes : BoundaryIsOfChars → (word : List ℕ) (least place : ℕ) (change : Option Change) → length word < 2 ^ 64 → has_boundary change ≡ true → can_be_written_if_any change ≡ true → BreakFitsAfter word 0 least (break_at place change) → lists_within word place change ≡ true
-passes chars word least place None size kept said s = both (fits_usize place) true (lt-ltb place (2 ^ 64) (omega (arith, s.place.0))) refl
+passes chars word least place None size kept said s = and_from (fits_usize place) true (lt-ltb place (2 ^ 64) (omega (arith, s.place.0))) refl
 passes chars word least place (Some change) size kept said s =
     let small : fits_usize place ≡ true = lt-ltb place (2 ^ 64) (omega (arith, s.place.0)) in
     let low : nat_le change.left place ≡ true = le-leb change.left place s.within in
     let begin : is_boundary word (place - change.left) ≡ true = (chars word (place - change.left)).1 s.begin in
     let end : is_boundary word (place + change.right) ≡ true = (chars word (place + change.right)).1 s.end in
-    let keeps : keeps_within word place change ≡ true = both _ _ (both _ _ (both _ _ low begin) end) kept in
-    both (fits_usize place) (stays_within word place (Some change)) small (both _ _ (both _ _ small said) keeps)
+    let keeps : keeps_within word place change ≡ true = and_from _ _ (and_from _ _ (and_from _ _ low begin) end) kept in
+    and_from (fits_usize place) (stays_within word place (Some change)) small (and_from _ _ (and_from _ _ small said) keeps)
 
 pub by_rule : {B : Type 0} (break_of : B → Break) → BoundaryIsOfChars → (word : List ℕ) (least : ℕ) (listed : List B) → listed_from break_of word least listed ≡ true → MayBeListed word least (map break_of listed)
 by_rule break_of chars word least [] h = tt
@@ -68,6 +64,6 @@ pub from_rule : {B : Type 0} (break_of : B → Break) → BoundaryIsOfChars → 
 from_rule break_of chars word least [] size kept h = refl
 from_rule break_of chars word least (x ∷ xs) size kept h =
     let b = break_of x in
-    let at : (nat_le least b.place && is_boundary word b.place) ≡ true = both _ _ (le-leb least b.place h.0.ascends) ((chars word b.place).1 h.0.place) in
+    let at : (nat_le least b.place && is_boundary word b.place) ≡ true = and_from _ _ (le-leb least b.place h.0.ascends) ((chars word b.place).1 h.0.place) in
     let within : lists_within word b.place b.change ≡ true = passes chars word least b.place b.change size kept.0 kept.1 h.0 in
-    both _ _ (both _ _ at within) (from_rule break_of chars word (b.place + 1) xs size kept.2 h.1)
+    and_from _ _ (and_from _ _ at within) (from_rule break_of chars word (b.place + 1) xs size kept.2 h.1)

@@ -11,6 +11,7 @@ use Rattle.std.specs.List.{zip}
 use Rattle.std.specs.Prelude.{IfSome, IfNone}
 use Rattle.hyphenation_trie.specs.Private.States.{froms_by, texts_by}
 use Rattle.std.proofs.lemmas.Simd.{map-map}
+use Rattle.hyphenation_trie.proofs.RowsPlaced.{same_some}
 use Rattle.hyphenation_trie.proofs.TrieNodes.{length-texts_of, last_same, not_empty}
 
 -- ---- parents and bytes of nodes
@@ -96,9 +97,6 @@ frozen_is tree parents bytes bases cells trie has len rows full = record {
   ];
   full = full;
 }
-
-same_some : (a b : ℕ) → Some a ≡ Some b → a ≡ b
-same_some a b e = cc
 
 -- The result of a look-up: the child, or none; the root itself where the root has no child.
 abbrev pub Found : {E : Type 0} → Tree E → ℕ → ℕ → Option ℕ → Type 0

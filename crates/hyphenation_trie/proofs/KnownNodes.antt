@@ -5,6 +5,7 @@ use Rattle.std.specs.List.{flat_map, range_with_len}
 use Rattle.std.proofs.lemmas.Bool.{cases_lt, cases_eq, eq-eqb, ne_eqb}
 use Rattle.std.proofs.lemmas.Grind.{fold-append}
 use Rattle.std.proofs.lemmas.List.{length-replicate, length-take, length-set, get_or-set_same, get_or-set_other, get_or_default, get_or-take, map-append, take_more}
+use Rattle.std.proofs.lemmas.List.Elements.{filter-append, filter_agree}
 use Rattle.hyphenation_breaks.specs.Dictionary.{Patterns, greatest}
 use Rattle.hyphenation_breaks.specs.Ranks.{greatest_rank}
 use Rattle.hyphenation_breaks.specs.declared.entry.Entry.{Entry}
@@ -16,7 +17,7 @@ use Rattle.hyphenation_trie.specs.Vectors.{AreNearEntries, entries_before, keys_
 use Rattle.hyphenation_trie.proofs.ChainsGrow.{zero_read}
 use Rattle.hyphenation_trie.proofs.LinksMade.{link_less}
 use Rattle.hyphenation_trie.proofs.Suffixes.{depth_pos}
-use Rattle.hyphenation_trie.proofs.Tails.{count_append, count_same, count_shift, entries_same, filter_by, flat_map_shift, none_counted, none_longer, one_counted, same_tests}
+use Rattle.hyphenation_trie.proofs.Tails.{count_append, count_same, count_shift, entries_same, flat_map_shift, none_counted, none_longer, one_counted, same_tests}
 
 -- ---- the greatest of ranks
 
@@ -29,13 +30,6 @@ greatest_rank-append rank xs ys =
     let vs : List ℕ = map (λ e. rank e.change e.value) xs in
     let ws : List ℕ = map (λ e. rank e.change e.value) ys in
     ap greatest (map-append (λ e. rank e.change e.value) xs ys) ∙ fold-append max 0 vs ws ∙ greatest_from (greatest vs) ws
-
-filter-append : {X : Type 0} (p : X → Bool) (xs ys : List X) → filter p (xs ++ ys) ≡ filter p xs ++ filter p ys
-filter-append p [] ys = refl
-filter-append {X} p (x ∷ xs) ys = elim (p x) as (λ b. cond {A = List X} b (x ∷ filter p (xs ++ ys)) (filter p (xs ++ ys)) ≡ cond b (x ∷ filter p xs) (filter p xs) ++ filter p ys) [
-  | true ↦ ap (λ (zs : List X). x ∷ zs) (filter-append p xs ys)
-  | false ↦ filter-append p xs ys
-]
 
 one_rank : {C : Type 0} (rank : C → ℕ → ℕ) (p : Entry C → Bool) (e : Entry C) → greatest_rank rank (filter p (e ∷ [])) ≡ cond (p e) (rank e.change e.value) 0
 one_rank {C} rank p e = elim (p e) as (λ b. greatest_rank rank (cond {A = List (Entry C)} b (e ∷ []) []) ≡ cond b (rank e.change e.value) 0) [ true ↦ omega arith | false ↦ refl ]
@@ -109,8 +103,7 @@ entries_first rank keys (x ∷ rest) distance pos =
     let text : List ℕ = x ∷ rest in
     let f = λ (d : ℕ). filter (λ entry. d + entry.place + distance == length text) (unwrap_or (keys (drop d text)) []) in
     let h = λ (d : ℕ). filter (λ entry. d + entry.place + distance == length rest) (unwrap_or (keys (drop d rest)) []) in
-    let own = filter_by (λ entry. 0 + entry.place + distance == length text) (λ entry. entry.place + distance == length text) (unwrap_or (keys text) [])
-    (λ entry. same_tests (0 + entry.place + distance) (length text) (entry.place + distance) (length text) (λ e. omega arith) (λ e. omega arith)) in
+    let own = filter_agree (λ entry. 0 + entry.place + distance == length text) (λ entry. entry.place + distance == length text) (λ entry. same_tests (0 + entry.place + distance) (length text) (entry.place + distance) (length text) (λ e. omega arith) (λ e. omega arith)) (unwrap_or (keys text) []) in
     greatest_rank-append rank (f 0) (flat_map f (range_with_len (0 + 1) (length rest)))
     ∙ ap (λ es. max (greatest_rank rank es) (greatest_rank rank (flat_map f (range_with_len (0 + 1) (length rest))))) own
     ∙ ap (λ es. max (greatest_rank rank (filter (λ entry. entry.place + distance == length text) (unwrap_or (keys text) []))) (greatest_rank rank es))
@@ -118,8 +111,7 @@ entries_first rank keys (x ∷ rest) distance pos =
     let at : (0 + 1) + d ≡ suc d = omega arith in
     let first : 0 + d ≡ d = omega arith in
     ap f at
-    ∙ filter_by (λ entry. suc d + entry.place + distance == length text) (λ entry. d + entry.place + distance == length rest) (unwrap_or (keys (drop d rest)) [])
-    (λ entry. same_tests (suc d + entry.place + distance) (length text) (d + entry.place + distance) (length rest) (λ e. omega arith) (λ e. omega arith))
+    ∙ filter_agree (λ entry. suc d + entry.place + distance == length text) (λ entry. d + entry.place + distance == length rest) (λ entry. same_tests (suc d + entry.place + distance) (length text) (d + entry.place + distance) (length rest) (λ e. omega arith) (λ e. omega arith)) (unwrap_or (keys (drop d rest)) [])
     ∙ ap h (sym first)))
 
 pub count_first : {C : Type 0} (keys : Patterns C) (text : List ℕ) → 0 < length text → keys_at_end keys text ≡ cond (is_some (keys text)) 1 0 + keys_at_end keys (drop 1 text)

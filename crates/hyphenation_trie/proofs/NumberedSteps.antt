@@ -1,9 +1,10 @@
 -- Steps of a table with a number for each node: what the cell of a row leads to.
-use Rattle.std.proofs.Common.{◌≡◌, ℕ, suc, ◌+◌, ◌*◌, ◌/◌, ◌%◌, ◌<◌, ◌≤◌, List, [], ◌∷◌, ◌++◌, length, get_or, slice_index, refl, sym, ap, subst, ◌∙◌, arith, inl, inr}
+use Rattle.std.proofs.Common.{◌≡◌, ℕ, suc, ◌+◌, ◌*◌, ◌<◌, ◌≤◌, List, [], ◌∷◌, ◌++◌, length, get_or, slice_index, sym, ap, subst, ◌∙◌, arith, inl, inr}
 use Rattle.std.proofs.lemmas.List.{get_or_default}
 use Rattle.std.proofs.Math.Nat.{mul-le-mul_right, suc-mul}
+use Rattle.hyphenation_trie.specs.Cells.{number_in, place_in}
 use Rattle.hyphenation_trie.specs.Links.{EndsWith, IsLongest}
-use Rattle.hyphenation_trie.specs.Steps.{HasChild, IsLongestInner, IsCellTo, AreSteps, StandsFor, IsStepOf}
+use Rattle.hyphenation_trie.specs.Steps.{IsLongestInner, IsCellTo, AreSteps, StandsFor, IsStepOf}
 use Rattle.hyphenation_trie.specs.Trie.{Tree, node_text, IsTrie}
 use Rattle.hyphenation_trie.specs.declared.table.steps.Steps.{Steps}
 use Rattle.hyphenation_trie.proofs.Suffixes.{Ends-both, Ends-trans, Ends-push, Ends-nil, length-push, parent}
@@ -38,16 +39,16 @@ module _ {E : Type 0} (tree : Tree E) (trie : IsTrie tree) (text : List ℕ) (by
 
 -- the cell of a byte in the row of a text
 abbrev cell_of : Steps → ℕ → ℕ → ℕ
-cell_of steps start byte = slice_index steps.cells.items (start * 4 + slice_index steps.classes.items byte)
+cell_of steps start byte = slice_index steps.cells.items (start * 4 + slice_index steps.classes byte)
 
 -- what the cell of a row at a byte leads to
 step_is : {E : Type 0} (tree : Tree E) → IsTrie tree → (numbers : List ℕ) (steps : Steps) (start : ℕ) (text : List ℕ) (byte cell : ℕ) → byte < 256 → cell ≡ cell_of steps start byte → StandsFor tree numbers steps start text
-    → IsStepOf tree numbers steps (text ++ byte ∷ []) (cell / 4096) (cell % 4096)
+    → IsStepOf tree numbers steps (text ++ byte ∷ []) (place_in steps.split cell) (number_in steps.split cell)
 step_is tree trie numbers steps start text byte cell small is on =
     let there : cell ≡ cell_of steps (on.row * on.quarter) byte = is ∙ ap (λ (r : ℕ). cell_of steps r byte) on.start_is in
     let node : ℕ = slice_index on.rows on.row in
-    let to : IsCellTo tree numbers on.rows on.quarter (node_text tree node ++ byte ∷ []) cell =
-    subst (λ (k : ℕ). IsCellTo tree numbers on.rows on.quarter (node_text tree node ++ byte ∷ []) k) (sym there) (on.are_steps.cells.each on.row byte on.within small) in
+    let to : IsCellTo tree numbers on.rows on.quarter steps.split (node_text tree node ++ byte ∷ []) cell =
+    subst (λ (k : ℕ). IsCellTo tree numbers on.rows on.quarter steps.split (node_text tree node ++ byte ∷ []) k) (sym there) (on.are_steps.cells.each on.row byte on.within small) in
     record {
       stands = record {
         rows = on.rows;
@@ -70,22 +71,13 @@ row_in tree numbers steps start text on =
     let one = suc-mul on.row on.quarter in
     omega (arith, on.start_is, on.are_steps.cells.room, times, one)
 
--- the class of a byte is one, and its cell is there
-pub class_in : {E : Type 0} (tree : Tree E) (numbers : List ℕ) (steps : Steps) (start : ℕ) (text : List ℕ) (byte class : ℕ) → byte < 256 → StandsFor tree numbers steps start text
-    → class ≡ get_or steps.classes.items byte class → (byte < length steps.classes.items) × (start * 4 + class < length steps.cells.items)
-class_in tree numbers steps start text byte class small on class_read =
-    let t = on.are_steps in
-    let known : class ≡ slice_index steps.classes.items byte = class_read ∙ get_or_default steps.classes.items byte class 0 (omega (arith, t.classes)) in
-    let low = t.below byte small in
-    (omega (arith, t.classes), omega (arith, known, low, row_in tree numbers steps start text on))
-
 -- a cell that was read is that of the row at the byte
-pub step_read : {E : Type 0} (tree : Tree E) → IsTrie tree → (numbers : List ℕ) (steps : Steps) (start : ℕ) (text : List ℕ) (byte class cell : ℕ) → byte < 256 → StandsFor tree numbers steps start text
-    → class ≡ get_or steps.classes.items byte class → cell ≡ get_or steps.cells.items (start * 4 + class) cell → IsStepOf tree numbers steps (text ++ byte ∷ []) (cell / 4096) (cell % 4096)
-step_read tree trie numbers steps start text byte class cell small on class_read cell_read =
-    let known : class ≡ slice_index steps.classes.items byte = class_read ∙ get_or_default steps.classes.items byte class 0 (omega (arith, on.are_steps.classes)) in
-    let within = class_in tree numbers steps start text byte class small on class_read in
-    let is : cell ≡ cell_of steps start byte = cell_read ∙ get_or_default steps.cells.items (start * 4 + class) cell 0 within.1 ∙ ap (λ (k : ℕ). slice_index steps.cells.items (start * 4 + k)) known in
+pub step_read : {E : Type 0} (tree : Tree E) → IsTrie tree → (numbers : List ℕ) (steps : Steps) (start : ℕ) (text : List ℕ) (byte cell : ℕ) → byte < 256 → StandsFor tree numbers steps start text
+    → cell ≡ get_or steps.cells.items (start * 4 + slice_index steps.classes byte) cell → IsStepOf tree numbers steps (text ++ byte ∷ []) (place_in steps.split cell) (number_in steps.split cell)
+step_read tree trie numbers steps start text byte cell small on read =
+    let low = on.are_steps.below byte small in
+    let within = row_in tree numbers steps start text on in
+    let is : cell ≡ cell_of steps start byte = read ∙ get_or_default steps.cells.items (start * 4 + slice_index steps.classes byte) cell 0 (omega (arith, low, within)) in
     step_is tree trie numbers steps start text byte cell small is on
 
 -- the row of the empty text

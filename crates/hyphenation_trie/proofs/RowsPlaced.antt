@@ -67,7 +67,7 @@ only_child children node last before lasts pos befores first = record {
   ];
 }
 
-same_some : (a b : ℕ) → Some a ≡ Some b → a ≡ b
+pub same_some : (a b : ℕ) → Some a ≡ Some b → a ≡ b
 same_some a b e = cc
 
 pub only_row : (children : Children) (old new : List Cell) (base node child at : ℕ) → IsOnlyChild children node child → base + slice_index children.bytes.items child ≡ at → base + 255 < length new → OwnsNoChild old node

@@ -1,18 +1,21 @@
 -- Rows of a table, and their cells.
-use Rattle.std.proofs.Common.{◌≡◌, ◌≢◌, ℕ, zero, suc, ◌+◌, ◌-◌, ◌*◌, ◌/◌, ◌%◌, ◌^◌, ◌<◌, ◌≤◌, Bool, true, false, cond, List, [], ◌∷◌, ◌++◌, length, take, drop, set, get_or, slice_index, sym, ap, subst, ◌∙◌, arith, ◌⊎◌, inl, inr}
+use Rattle.std.proofs.Common.{◌≡◌, ◌≢◌, ℕ, zero, suc, ◌+◌, ◌-◌, ◌*◌, ◌%◌, ◌^◌, ◌<◌, ◌≤◌, Bool, true, false, cond, List, [], ◌∷◌, ◌++◌, length, take, drop, set, get_or, slice_index, sym, ap, subst, ◌∙◌, arith, ◌⊎◌, inl, inr}
 use Rattle.std.specs.Prelude.{slice_index_or, replicate}
 use Rattle.std.proofs.lemmas.Bool.{cases_lt, cases_eq, eq-eqb, ne_eqb}
 use Rattle.std.proofs.lemmas.List.{length-append, length-set, get_or-set_same, get_or-set_other, get_or_append_left, get_or_default, get_or_push}
-use Rattle.std.proofs.Math.Nat.{mul-le-mul_right}
+use Rattle.std.proofs.Math.Nat.{mul-le-mul_right, suc-mul}
+use Rattle.std.proofs.lemmas.Nat.{pow_pos, pow-add, mod_low, shr_high}
 use Rattle.std.proofs.Math.Seq.{take-append_seam}
 use Rattle.hyphenation_trie.specs.Trie.{Tree, node_text, IsTrie}
+use Rattle.hyphenation_trie.specs.Cells.{IsSplit, number_in, place_in}
 use Rattle.hyphenation_trie.specs.Links.{EndsWith, IsLongest}
 use Rattle.hyphenation_trie.specs.Private.Known.{AreByDepth, AreClasses}
 use Rattle.hyphenation_trie.specs.Steps.{HasChild, IsLongestInner, IsCellTo, AreRows}
 use Rattle.hyphenation_trie.specs.Private.Links.{HasNoChild}
 use Rattle.hyphenation_trie.specs.Private.States.{LinkedTree, links_of, IsLinked}
 use Rattle.hyphenation_trie.specs.declared.frozen.Links.{Links}
-use Rattle.hyphenation_trie.specs.Private.TableRows.{AreInner, HasRowOf, AreRowNodes, AreRowsOf, cell_of, free_cell, AreChildCells, link_row, filled, AreFilled}
+use Rattle.hyphenation_trie.specs.declared.table.split.Split.{Split}
+use Rattle.hyphenation_trie.specs.Private.TableRows.{AreInner, HasRowOf, AreRowNodes, AreRowsOf, cell_of, free_cell, AreLinked, link_row, filled, AreFilled}
 use Rattle.hyphenation_trie.proofs.ChainsGrow.{zero_read}
 use Rattle.hyphenation_trie.proofs.LinksMade.{link_less}
 use Rattle.hyphenation_trie.proofs.Suffixes.{depth_pos, parent, Ends-refl, Ends-nil, Ends-same, Ends-rest, Ends-both, Ends-trans, Ends-whole, Ends-push}
@@ -91,7 +94,7 @@ pub record AreNumbered {E : Type 0} (tree : Tree E) (order : List ℕ) (marks : 
   pub last : (r k : ℕ) → r < length nodes → bound ≤ k → k < length order → length (node_text tree (slice_index nodes r)) ≤ length (node_text tree (slice_index order k))
   pub each : (j : ℕ) → j < length tree.texts → HasRowOf tree nodes of j ⊎ ((0 < j) × (slice_index of j ≡ 0) × ((k : ℕ) → k < bound → slice_index order k ≢ j))
 
--- at first the root alone has a row
+-- at first only the root has a row
 pub numbered_start : {E : Type 0} (tree : Tree E) → IsTrie tree → (order : List ℕ) (marks : List Bool) (nodes of : List ℕ) → nodes ≡ 0 ∷ [] → of ≡ replicate (length tree.texts) 0 → length of ≡ length tree.texts → AreNumbered tree order marks nodes of 0
 numbered_start tree trie order marks nodes of first zeros len =
     let zero_of : (j : ℕ) → slice_index of j ≡ 0 = λ j. ap (λ (xs : List ℕ). slice_index xs j) zeros ∙ zero_read (length tree.texts) j in
@@ -305,14 +308,14 @@ place_apart r s quarter k l klt llt e = elim (cases_eq r s) [
 
 -- ---- cells of children
 
-pub children_more : {E : Type 0} (tree : Tree E) → IsTrie tree → (nodes of numbers classes : List ℕ) (quarter : ℕ) (cells : List ℕ) (node p byte : ℕ) → AreRowsOf tree nodes of → AreClasses tree.texts classes quarter
+pub children_more : {E : Type 0} (tree : Tree E) → IsTrie tree → (nodes of numbers classes : List ℕ) (quarter : ℕ) (split : Split) (cells : List ℕ) (node p byte : ℕ) → AreRowsOf tree nodes of → AreClasses tree.texts classes quarter
     → length cells ≡ length nodes * quarter * 4 → node < length tree.texts → p < length tree.texts → byte < 256 → node_text tree node ≡ node_text tree p ++ byte ∷ []
-    → AreChildCells tree nodes of numbers classes quarter node cells
-    → AreChildCells tree nodes of numbers classes quarter (node + 1) (set cells (slice_index of p * quarter * 4 + slice_index classes byte) (cell_of of numbers quarter node))
-children_more {E} tree trie nodes of numbers classes quarter cells node p byte rows class len lt plt small is old = λ r b rlt blt.
+    → AreLinked tree nodes of numbers classes quarter split node cells
+    → AreLinked tree nodes of numbers classes quarter split (node + 1) (set cells (slice_index of p * quarter * 4 + slice_index classes byte) (cell_of of numbers quarter split node))
+children_more {E} tree trie nodes of numbers classes quarter split cells node p byte rows class len lt plt small is old = λ r b rlt blt.
     let row : ℕ = slice_index of p in
     let at : ℕ = row * quarter * 4 + slice_index classes byte in
-    let value : ℕ = cell_of of numbers quarter node in
+    let value : ℕ = cell_of of numbers quarter split node in
     let here : ℕ = r * quarter * 4 + slice_index classes b in
     let has = rows.each p plt in
     let mine : slice_index nodes row ≡ p = own_row tree trie nodes of p plt (node, byte, lt, is) has in
@@ -356,9 +359,9 @@ free_rows cells rows quarter places is root free (suc r) class lt low =
     free (suc r * quarter * 4 + class) (omega (arith, first)) (omega (arith, is, row_after (suc r) rows quarter lt))
 
 -- before the first child
-pub children_start : {E : Type 0} (tree : Tree E) → IsTrie tree → (nodes of numbers classes : List ℕ) (quarter : ℕ) (cells : List ℕ) → AreClasses tree.texts classes quarter
-    → ((row class : ℕ) → row < length nodes → class < quarter * 4 → slice_index cells (row * quarter * 4 + class) ≡ free_cell row) → AreChildCells tree nodes of numbers classes quarter 1 cells
-children_start tree trie nodes of numbers classes quarter cells class free = λ r b rlt blt.
+pub children_start : {E : Type 0} (tree : Tree E) → IsTrie tree → (nodes of numbers classes : List ℕ) (quarter : ℕ) (split : Split) (cells : List ℕ) → AreClasses tree.texts classes quarter
+    → ((row class : ℕ) → row < length nodes → class < quarter * 4 → slice_index cells (row * quarter * 4 + class) ≡ free_cell row) → AreLinked tree nodes of numbers classes quarter split 1 cells
+children_start tree trie nodes of numbers classes quarter split cells class free = λ r b rlt blt.
     inr (free r (slice_index classes b) rlt (class.below b blt), λ j low e. absurd (omega (arith, child_pos tree trie j (node_text tree (slice_index nodes r)) b e)))
 
 -- ---- cells of rows
@@ -366,15 +369,41 @@ children_start tree trie nodes of numbers classes quarter cells class free = λ 
 self_longest : (texts : List (List ℕ)) (node : ℕ) → node < length texts → IsLongest texts (slice_index_or texts node []) node
 self_longest texts node lt = record { within = lt; ends = Ends-refl (slice_index_or texts node []); most = λ k klt ends. ends.0 }
 
-cell_parts : (place number : ℕ) → number < 4096 → ((place * 4096 + number) / 4096 ≡ place) × ((place * 4096 + number) % 4096 ≡ number)
-cell_parts place number low = (omega arith, omega arith)
+-- a place below the last one
+place_below : (split : Split) (of : List ℕ) (quarter node count : ℕ) → slice_index of node < count → 0 < quarter → count * quarter ≤ split.last_place → slice_index of node * quarter < split.last_place
+place_below split of quarter node count lt pos places = omega (arith, row_after (slice_index of node) count quarter lt)
+
+-- the place in a cell, and the number in it
+cell_parts : (split : Split) → IsSplit split → (place number : ℕ) → place < split.last_place → (place_in split (number * 2 ^ split.place_bits + place) ≡ place) × (number_in split (number * 2 ^ split.place_bits + place) ≡ number)
+cell_parts split is place number low =
+    let small : place < 2 ^ split.place_bits = omega (arith, is.last) in
+    (mod_low number split.place_bits place small, shr_high number split.place_bits place small)
+
+-- a cell of which all bits are 0
+parts_of_none : (split : Split) → (place_in split 0 ≡ 0) × (number_in split 0 ≡ 0)
+parts_of_none split =
+    let none : 0 ≡ 0 * 2 ^ split.place_bits + 0 = omega arith in
+    (ap (place_in split) none ∙ mod_low 0 split.place_bits 0 (pow_pos split.place_bits), ap (number_in split) none ∙ shr_high 0 split.place_bits 0 (pow_pos split.place_bits))
+
+-- the place in a cell of which all bits are 1 is the last one
+last_place_in : (split : Split) → IsSplit split → place_in split (2 ^ 32 - 1) ≡ split.last_place
+last_place_in split is =
+    let k : ℕ = split.place_bits in
+    let high : ℕ = 32 - k in
+    let bits : 32 ≡ high + k = omega (arith, is.within) in
+    let all : 2 ^ 32 ≡ 2 ^ high * 2 ^ k = ap (λ (n : ℕ). 2 ^ n) bits ∙ pow-add 2 high k in
+    let more : ℕ = 2 ^ high - 1 in
+    let one : suc more ≡ 2 ^ high = omega (arith, pow_pos high) in
+    let parts : suc more * 2 ^ k ≡ 2 ^ high * 2 ^ k = ap (λ (n : ℕ). n * 2 ^ k) one in
+    let cell : 2 ^ 32 - 1 ≡ more * 2 ^ k + split.last_place = omega (arith, all, parts, suc-mul more (2 ^ k), is.last) in
+    ap (λ (n : ℕ). n % 2 ^ k) cell ∙ mod_low more k split.last_place (omega (arith, is.last))
 
 -- the cell of a child
-cell_child : {E : Type 0} (tree : Tree E) (nodes of numbers : List ℕ) (quarter : ℕ) (text : List ℕ) (child : ℕ) → AreRowsOf tree nodes of → child < length tree.texts → slice_index numbers child < 4096 → node_text tree child ≡ text
-    → IsCellTo tree numbers nodes quarter text (cell_of of numbers quarter child)
-cell_child tree nodes of numbers quarter text child rows lt low is =
+cell_child : {E : Type 0} (tree : Tree E) (nodes of numbers : List ℕ) (quarter : ℕ) (split : Split) (text : List ℕ) (child : ℕ) → AreRowsOf tree nodes of → child < length tree.texts → IsSplit split → slice_index of child * quarter < split.last_place → node_text tree child ≡ text
+    → IsCellTo tree numbers nodes quarter split text (cell_of of numbers quarter split child)
+cell_child tree nodes of numbers quarter split text child rows lt right low is =
     let has = rows.each child lt in
-    let parts = cell_parts (slice_index of child * quarter) (slice_index numbers child) low in
+    let parts = cell_parts split right (slice_index of child * quarter) (slice_index numbers child) low in
     record {
       row = slice_index of child;
       within = has.row;
@@ -406,9 +435,9 @@ goes_on {E} tree trie p link inner b k plt none longest has klt ends = elim (par
 ]
 
 -- where a node has no child its cell is that of the row of its link
-cell_link : {E : Type 0} (tree : Tree E) → IsTrie tree → (numbers nodes : List ℕ) (quarter p link inner b cell : ℕ) → p < length tree.texts → HasNoChild tree p b → IsLongest tree.texts (drop 1 (node_text tree p)) link → IsLongestInner tree (node_text tree link) inner
-    → IsCellTo tree numbers nodes quarter (node_text tree inner ++ b ∷ []) cell → IsCellTo tree numbers nodes quarter (node_text tree p ++ b ∷ []) cell
-cell_link {E} tree trie numbers nodes quarter p link inner b cell plt none longest has is =
+cell_link : {E : Type 0} (tree : Tree E) → IsTrie tree → (numbers nodes : List ℕ) (quarter : ℕ) (split : Split) (p link inner b cell : ℕ) → p < length tree.texts → HasNoChild tree p b → IsLongest tree.texts (drop 1 (node_text tree p)) link → IsLongestInner tree (node_text tree link) inner
+    → IsCellTo tree numbers nodes quarter split (node_text tree inner ++ b ∷ []) cell → IsCellTo tree numbers nodes quarter split (node_text tree p ++ b ∷ []) cell
+cell_link {E} tree trie numbers nodes quarter split p link inner b cell plt none longest has is =
     let text = node_text tree p in
     let inner_ends : EndsWith text (node_text tree inner) = Ends-trans text (node_text tree link) (node_text tree inner) (Ends-whole text (node_text tree link) longest.ends) has.ends in
     let pushed = Ends-push text (node_text tree inner) b inner_ends in
@@ -441,23 +470,24 @@ root_only tree trie b k none klt ends = elim (parent tree.texts trie.root trie.c
 ]
 
 -- where the root has no child its cell is 0
-cell_root : {E : Type 0} (tree : Tree E) → IsTrie tree → (numbers nodes : List ℕ) (quarter b : ℕ) → 0 < length nodes → slice_index nodes 0 ≡ 0 → slice_index numbers 0 ≡ 0 → HasNoChild tree 0 b
-    → IsCellTo tree numbers nodes quarter (node_text tree 0 ++ b ∷ []) 0
-cell_root tree trie numbers nodes quarter b some root number none =
+cell_root : {E : Type 0} (tree : Tree E) → IsTrie tree → (numbers nodes : List ℕ) (quarter : ℕ) (split : Split) (b : ℕ) → 0 < length nodes → slice_index nodes 0 ≡ 0 → slice_index numbers 0 ≡ 0 → HasNoChild tree 0 b
+    → IsCellTo tree numbers nodes quarter split (node_text tree 0 ++ b ∷ []) 0
+cell_root tree trie numbers nodes quarter split b some root number none =
     let ends : EndsWith (node_text tree 0 ++ b ∷ []) (node_text tree 0) = subst (λ (t : List ℕ). EndsWith (node_text tree 0 ++ b ∷ []) t) (sym trie.root) (Ends-nil (node_text tree 0 ++ b ∷ [])) in
     let inner : IsLongestInner tree (node_text tree 0 ++ b ∷ []) 0 = record {
       within = trie.has_root;
       ends = ends;
       most = λ k klt child e. omega (arith, root_only tree trie b k none klt e);
     } in
+    let first : 0 ≡ 0 * quarter = omega arith in
     record {
       row = 0;
       within = some;
-      next = omega arith;
+      next = (parts_of_none split).0 ∙ first;
       inner = subst (λ (i : ℕ). IsLongestInner tree (node_text tree 0 ++ b ∷ []) i) (sym root) inner;
       node = 0;
       longest = record { within = trie.has_root; ends = ends; most = λ k klt e. omega (arith, root_only tree trie b k none klt e) };
-      number = sym number;
+      number = (parts_of_none split).1 ∙ sym number;
     }
 
 -- ---- rows filled from one another
@@ -514,14 +544,21 @@ filled_more from row rows quarter old now new pos lt less before rest mine stays
     }
 
 -- the cell of a child is not free
-taken : (of numbers : List ℕ) (quarter child count : ℕ) → slice_index of child < count → 0 < quarter → count * quarter < 2 ^ 20 → slice_index numbers child < 4096 → cell_of of numbers quarter child ≢ 2 ^ 32 - 1
-taken of numbers quarter child count lt pos places low e = absurd (omega (arith, row_after (slice_index of child) count quarter lt))
+taken : (of numbers : List ℕ) (quarter : ℕ) (split : Split) (child : ℕ) → IsSplit split → slice_index of child * quarter < split.last_place → cell_of of numbers quarter split child ≢ 2 ^ 32 - 1
+taken of numbers quarter split child right low e =
+    let parts = cell_parts split right (slice_index of child * quarter) (slice_index numbers child) low in
+    let place : slice_index of child * quarter ≡ split.last_place = sym parts.0 ∙ ap (place_in split) e ∙ last_place_in split right in
+    absurd (omega (arith, place))
 
-module _ {E : Type 0} (trie : LinkedTree E) (is : IsTrie trie.tree) (linked : IsLinked trie) (nodes of numbers classes : List ℕ) (quarter : ℕ) (old new : List ℕ) (rows : AreRowsOf trie.tree nodes of)
-    (few : (j : ℕ) → j < length trie.tree.texts → slice_index numbers j < 4096) (root : slice_index numbers 0 ≡ 0) (class : AreClasses trie.tree.texts classes quarter) (places : length nodes * quarter < 2 ^ 20)
-    (children : AreChildCells trie.tree nodes of numbers classes quarter (length trie.tree.texts) old) (done : AreFilled (link_row trie nodes of) (length nodes) quarter old new) where
+module _ {E : Type 0} (trie : LinkedTree E) (is : IsTrie trie.tree) (linked : IsLinked trie) (nodes of numbers classes : List ℕ) (quarter : ℕ) (split : Split) (old new : List ℕ) (rows : AreRowsOf trie.tree nodes of)
+    (right : IsSplit split) (root : slice_index numbers 0 ≡ 0) (class : AreClasses trie.tree.texts classes quarter) (places : length nodes * quarter ≤ split.last_place)
+    (children : AreLinked trie.tree nodes of numbers classes quarter split (length trie.tree.texts) old) (done : AreFilled (link_row trie nodes of) (length nodes) quarter old new) where
+  -- the place of a child's row
+  low_place : (b child : ℕ) → b < 256 → child < length trie.tree.texts → slice_index of child * quarter < split.last_place
+  low_place b child blt lt = place_below split of quarter child (length nodes) (rows.each child lt).row (omega (arith, class.below b blt)) places
+
   -- each cell of each row is right
-  pub cells_right : (n r b : ℕ) → r < n → r < length nodes → b < 256 → IsCellTo trie.tree numbers nodes quarter (node_text trie.tree (slice_index nodes r) ++ b ∷ []) (slice_index new (r * quarter * 4 + slice_index classes b))
+  pub cells_right : (n r b : ℕ) → r < n → r < length nodes → b < 256 → IsCellTo trie.tree numbers nodes quarter split (node_text trie.tree (slice_index nodes r) ++ b ∷ []) (slice_index new (r * quarter * 4 + slice_index classes b))
   cells_right zero r b low rlt blt = absurd (omega arith)
   cells_right (suc n) zero b low rlt blt =
       let tree = trie.tree in
@@ -529,13 +566,13 @@ module _ {E : Type 0} (trie : LinkedTree E) (is : IsTrie trie.tree) (linked : Is
       let at : 0 * quarter * 4 + k ≡ k = omega arith in
       let same : slice_index new (0 * quarter * 4 + k) ≡ slice_index old (0 * quarter * 4 + k) = ap (slice_index new) at ∙ done.root k (class.below b blt) ∙ ap (slice_index old) (sym at) in
       elim (children 0 b rlt blt) [
-        | inl child ↦ subst (λ (x : ℕ). IsCellTo tree numbers nodes quarter (node_text tree (slice_index nodes 0) ++ b ∷ []) x) (sym (same ∙ child.3))
-            (cell_child tree nodes of numbers quarter (node_text tree (slice_index nodes 0) ++ b ∷ []) child.0 rows child.1 (few child.0 child.1) child.2)
+        | inl child ↦ subst (λ (x : ℕ). IsCellTo tree numbers nodes quarter split (node_text tree (slice_index nodes 0) ++ b ∷ []) x) (sym (same ∙ child.3))
+            (cell_child tree nodes of numbers quarter split (node_text tree (slice_index nodes 0) ++ b ∷ []) child.0 rows child.1 right (low_place b child.0 blt child.1) child.2)
         | inr free ↦
             let first = rows.rows.root in
             let none : HasNoChild tree 0 b = λ j jlt e. free.1 j jlt (e ∙ ap (λ (i : ℕ). node_text tree i ++ b ∷ []) (sym first)) in
-            subst (λ (x : ℕ). IsCellTo tree numbers nodes quarter (node_text tree (slice_index nodes 0) ++ b ∷ []) x) (sym (same ∙ free.0))
-            (subst (λ (i : ℕ). IsCellTo tree numbers nodes quarter (node_text tree i ++ b ∷ []) 0) (sym first) (cell_root tree is numbers nodes quarter b rlt first root none))
+            subst (λ (x : ℕ). IsCellTo tree numbers nodes quarter split (node_text tree (slice_index nodes 0) ++ b ∷ []) x) (sym (same ∙ free.0))
+            (subst (λ (i : ℕ). IsCellTo tree numbers nodes quarter split (node_text tree i ++ b ∷ []) 0) (sym first) (cell_root tree is numbers nodes quarter split b rlt first root none))
       ]
   cells_right (suc n) (suc m) b low rlt blt =
       let tree = trie.tree in
@@ -548,9 +585,9 @@ module _ {E : Type 0} (trie : LinkedTree E) (is : IsTrie trie.tree) (linked : Is
       let same : slice_index new (r * quarter * 4 + k) ≡ filled own other = done.each r k (omega arith) rlt (class.below b blt) in
       elim (children r b rlt blt) [
         | inl child ↦
-            let kept : own ≢ 2 ^ 32 - 1 = λ e. absurd (taken of numbers quarter child.0 (length nodes) (rows.each child.0 child.1).row (omega (arith, class.below b blt)) places (few child.0 child.1) (sym child.3 ∙ e)) in
-            subst (λ (x : ℕ). IsCellTo tree numbers nodes quarter (node_text tree p ++ b ∷ []) x) (sym (same ∙ filled_own own other kept ∙ child.3))
-            (cell_child tree nodes of numbers quarter (node_text tree p ++ b ∷ []) child.0 rows child.1 (few child.0 child.1) child.2)
+            let kept : own ≢ 2 ^ 32 - 1 = λ e. absurd (taken of numbers quarter split child.0 right (low_place b child.0 blt child.1) (sym child.3 ∙ e)) in
+            subst (λ (x : ℕ). IsCellTo tree numbers nodes quarter split (node_text tree p ++ b ∷ []) x) (sym (same ∙ filled_own own other kept ∙ child.3))
+            (cell_child tree nodes of numbers quarter split (node_text tree p ++ b ∷ []) child.0 rows child.1 right (low_place b child.0 blt child.1) child.2)
         | inr free ↦
             let plt = rows.rows.within r rlt in
             let link : ℕ = (links_of trie p).link in
@@ -558,11 +595,11 @@ module _ {E : Type 0} (trie : LinkedTree E) (is : IsTrie trie.tree) (linked : Is
             let has = rows.each link longest.within in
             let less = link_row_less trie is linked nodes of rows r (omega arith) rlt in
             let before = cells_right n from b (omega (arith, less)) has.row blt in
-            subst (λ (x : ℕ). IsCellTo tree numbers nodes quarter (node_text tree p ++ b ∷ []) x) (sym (same ∙ filled_free own other free.0))
-            (cell_link tree is numbers nodes quarter p link (slice_index nodes from) b other plt free.1 longest has.inner before)
+            subst (λ (x : ℕ). IsCellTo tree numbers nodes quarter split (node_text tree p ++ b ∷ []) x) (sym (same ∙ filled_free own other free.0))
+            (cell_link tree is numbers nodes quarter split p link (slice_index nodes from) b other plt free.1 longest has.inner before)
       ]
 
-  pub rows_right : length nodes * quarter * 4 ≤ length new → AreRows trie.tree numbers classes quarter new nodes
+  pub rows_right : length nodes * quarter * 4 ≤ length new → AreRows trie.tree numbers classes quarter split new nodes
   rows_right room = record {
     has_root = rows.rows.has_root;
     root = rows.rows.root;

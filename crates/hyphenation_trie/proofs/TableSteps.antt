@@ -1,9 +1,10 @@
 -- Steps of a table: what the cell of a row leads to.
-use Rattle.std.proofs.Common.{◌≡◌, ℕ, suc, ◌+◌, ◌*◌, ◌/◌, ◌%◌, ◌<◌, ◌≤◌, List, [], ◌∷◌, ◌++◌, length, get_or, slice_index, slice_index_or, refl, sym, ap, subst, ◌∙◌, arith}
+use Rattle.std.proofs.Common.{◌≡◌, ℕ, suc, ◌+◌, ◌*◌, ◌<◌, ◌≤◌, List, [], ◌∷◌, ◌++◌, length, get_or, slice_index, slice_index_or, refl, sym, ap, subst, ◌∙◌, arith}
 use Rattle.std.proofs.lemmas.List.{get_or_default}
 use Rattle.std.proofs.Math.Nat.{mul-le-mul_right, suc-mul}
 use Rattle.hyphenation_breaks.specs.Dictionary.{Patterns}
 use Rattle.hyphenation_breaks.specs.Ranks.{greatest_rank}
+use Rattle.hyphenation_trie.specs.Cells.{number_in, place_in}
 use Rattle.hyphenation_trie.specs.Tables.{IsTail, IsStepTo, cell_at, IsTableOf, GoesOn, IsRead}
 use Rattle.hyphenation_trie.specs.Vectors.{AreNear}
 use Rattle.hyphenation_trie.specs.declared.table.Table.{Table}
@@ -11,13 +12,13 @@ use Rattle.hyphenation_trie.proofs.Tails.{same_before, same_count, tail_goes_on}
 
 -- what the cell of a row at a byte leads to
 pub read_is : {C : Type 0} (rank : C → ℕ → ℕ) (keys : Patterns C) (table : Table) (start : ℕ) (text : List ℕ) (byte cell : ℕ) → byte < 256 → cell ≡ cell_at table start byte → GoesOn rank keys table start text
-    → IsRead rank keys table (text ++ byte ∷ []) (cell / 4096) (cell % 4096)
+    → IsRead rank keys table (text ++ byte ∷ []) (place_in table.split cell) (number_in table.split cell)
 read_is rank keys table start text byte cell small is on =
     let there : cell ≡ cell_at table (on.row * on.quarter) byte = is ∙ ap (λ (r : ℕ). cell_at table r byte) on.start_is in
     let tail : List ℕ = slice_index_or on.texts on.row [] in
     let step = on.is_table.steps on.row byte on.within small in
-    let read : IsStepTo rank keys on.texts on.quarter table (tail ++ byte ∷ []) (cell / 4096) (cell % 4096) =
-    subst (λ (k : ℕ). IsStepTo rank keys on.texts on.quarter table (tail ++ byte ∷ []) (k / 4096) (k % 4096)) (sym there) step in
+    let read : IsStepTo rank keys on.texts on.quarter table (tail ++ byte ∷ []) (place_in table.split cell) (number_in table.split cell) =
+    subst (λ (k : ℕ). IsStepTo rank keys on.texts on.quarter table (tail ++ byte ∷ []) (place_in table.split k) (number_in table.split k)) (sym there) step in
     record {
       goes_on = record {
         texts = on.texts;
@@ -43,22 +44,20 @@ row_in rank keys table start text on =
     omega (arith, on.start_is, on.is_table.room, times, one)
 
 -- a cell that was read is that of the row at the byte
-pub cell_is : {C : Type 0} (rank : C → ℕ → ℕ) (keys : Patterns C) (table : Table) (start : ℕ) (text : List ℕ) (byte class cell : ℕ) → byte < 256 → GoesOn rank keys table start text
-    → class ≡ get_or table.classes.items byte class → cell ≡ get_or table.cells.items (start * 4 + class) cell → cell ≡ cell_at table start byte
-cell_is rank keys table start text byte class cell small on class_read cell_read =
-    let t = on.is_table in
-    let known : class ≡ slice_index table.classes.items byte = class_read ∙ get_or_default table.classes.items byte class 0 (omega (arith, t.classes)) in
-    let low = t.below byte small in
+pub cell_is : {C : Type 0} (rank : C → ℕ → ℕ) (keys : Patterns C) (table : Table) (start : ℕ) (text : List ℕ) (byte cell : ℕ) → byte < 256 → GoesOn rank keys table start text
+    → cell ≡ get_or table.cells.items (start * 4 + slice_index table.classes byte) cell → cell ≡ cell_at table start byte
+cell_is rank keys table start text byte cell small on read =
+    let low = on.is_table.below byte small in
     let within = row_in rank keys table start text on in
-    cell_read ∙ get_or_default table.cells.items (start * 4 + class) cell 0 (omega (arith, known)) ∙ ap (λ (k : ℕ). slice_index table.cells.items (start * 4 + k)) known
+    read ∙ get_or_default table.cells.items (start * 4 + slice_index table.classes byte) cell 0 (omega (arith, low, within))
 
 -- the number in the cell of a row is one of a vector
-pub number_in : {C : Type 0} (rank : C → ℕ → ℕ) (keys : Patterns C) (table : Table) (start : ℕ) (text : List ℕ) (byte cell : ℕ) → byte < 256 → cell ≡ cell_at table start byte → GoesOn rank keys table start text
-    → cell % 4096 < length table.vectors.items
-number_in rank keys table start text byte cell small is on =
+pub number_within : {C : Type 0} (rank : C → ℕ → ℕ) (keys : Patterns C) (table : Table) (start : ℕ) (text : List ℕ) (byte cell : ℕ) → byte < 256 → cell ≡ cell_at table start byte → GoesOn rank keys table start text
+    → number_in table.split cell < length table.vectors.items
+number_within rank keys table start text byte cell small is on =
     let there : cell ≡ cell_at table (on.row * on.quarter) byte = is ∙ ap (λ (r : ℕ). cell_at table r byte) on.start_is in
     let step = on.is_table.steps on.row byte on.within small in
-    subst (λ (k : ℕ). k % 4096 < length table.vectors.items) (sym there) step.number_of
+    subst (λ (k : ℕ). number_in table.split k < length table.vectors.items) (sym there) step.number_of
 
 -- the row of the empty text
 pub root_goes_on : {C : Type 0} (rank : C → ℕ → ℕ) (keys : Patterns C) (table : Table) → IsTableOf rank keys table → GoesOn rank keys table 0 []

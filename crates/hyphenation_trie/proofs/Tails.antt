@@ -5,6 +5,7 @@ use Rattle.std.specs.List.{flat_map, range_with_len}
 use Rattle.std.proofs.lemmas.Bool.{cases_eq, cases_lt, eq-eqb, ne_eqb}
 use Rattle.std.proofs.lemmas.List.{length-append, length-drop, drop-drop, append_assoc}
 use Rattle.std.proofs.lemmas.Grind.{flat_map-append, common_steps}
+use Rattle.std.proofs.lemmas.List.Elements.{filter_agree}
 use Rattle.hyphenation_breaks.specs.Dictionary.{Patterns}
 use Rattle.hyphenation_trie.specs.Links.{EndsWith, IsLongest}
 use Rattle.hyphenation_trie.specs.Tables.{OpensNoKey, IsTail}
@@ -15,7 +16,7 @@ use Rattle.hyphenation_trie.proofs.Suffixes.{Ends-trans}
 
 -- ---- lists by parts
 
-range-append : (a m n : ℕ) → range_with_len a (m + n) ≡ range_with_len a m ++ range_with_len (a + m) n
+pub range-append : (a m n : ℕ) → range_with_len a (m + n) ≡ range_with_len a m ++ range_with_len (a + m) n
 range-append a zero n = ap (range_with_len a) (omega arith) ∙ ap (λ (k : ℕ). range_with_len k n) (omega arith)
 range-append a (suc m) n =
     let one : suc m + n ≡ suc (m + n) = omega arith in
@@ -57,7 +58,7 @@ count_shift p q a b (suc n) h =
     let parts = count_append q (b ∷ []) (range_with_len (b + 1) n) in
     split ∙ ap (λ (x : ℕ). x + count_by p (range_with_len (a + 1) n)) (one_same p q a b first) ∙ ap (λ (x : ℕ). count_by q (b ∷ []) + x) rest ∙ sym parts
 
-count_none : (p : ℕ → Bool) (a n : ℕ) → ((k : ℕ) → a ≤ k → k < a + n → p k ≡ false) → count_by p (range_with_len a n) ≡ 0
+pub count_none : (p : ℕ → Bool) (a n : ℕ) → ((k : ℕ) → a ≤ k → k < a + n → p k ≡ false) → count_by p (range_with_len a n) ≡ 0
 count_none p a zero h = refl
 count_none p a (suc n) h = let one = h a (omega arith) (omega arith) in let rest = count_none p (a + 1) n (λ k low high. h k (omega arith) (omega arith)) in grind (arith, common_steps)
 
@@ -67,9 +68,6 @@ same_tests a b c d to back = elim (cases_eq a b) [
   | inl is ↦ eq-eqb a b is ∙ sym (eq-eqb c d (to is))
   | inr apart ↦ ne_eqb a b apart ∙ sym (ne_eqb c d (λ e. apart (back e)))
 ]
-
-pub filter_by : {A : Type 0} (p q : A → Bool) (xs : List A) → ((x : A) → p x ≡ q x) → filter p xs ≡ filter q xs
-filter_by {A} p q xs h = let same : ◌≡◌ {A = A → Bool} p q = λ i x. h x i in ap (λ t. filter t xs) same
 
 -- ---- a text and one more byte, and the tail of the text
 
@@ -100,8 +98,7 @@ module _ {C : Type 0} (keys : Patterns C) (T t : List ℕ) (ends : EndsWith T t)
       let at : (0 + g) + d ≡ g + d = omega arith in
       let first : 0 + d ≡ d = omega arith in
       ap f at
-      ∙ filter_by (λ entry. (g + d) + entry.place + distance == length T) (λ entry. d + entry.place + distance == length t) (unwrap_or (keys (drop (g + d) T)) [])
-      (λ entry. same_tests ((g + d) + entry.place + distance) (length T) (d + entry.place + distance) (length t) (λ e. omega arith) (λ e. omega arith))
+      ∙ filter_agree (λ entry. (g + d) + entry.place + distance == length T) (λ entry. d + entry.place + distance == length t) (λ entry. same_tests ((g + d) + entry.place + distance) (length T) (d + entry.place + distance) (length t) (λ e. omega arith) (λ e. omega arith)) (unwrap_or (keys (drop (g + d) T)) [])
       ∙ ap (λ x. filter (λ entry. d + entry.place + distance == length t) (unwrap_or (keys x) [])) (ends_at d)
       ∙ ap h (sym first))
 

@@ -7,7 +7,7 @@ use Rattle.hyphenation_trie.specs.Trie.{Tree, node_text, KeepsNodes}
 use Rattle.hyphenation_trie.specs.Private.Trie.{Grows}
 use Rattle.hyphenation_trie.proofs.TrieNodes.{keeps-grows}
 
--- The first numbers are the nodes of a text's beginnings, from one byte to so many.
+-- The first numbers are the nodes of a text's beginnings, from one byte to a number of them.
 abbrev pub AreAlong : {E : Type 0} → Tree E → List ℕ → List ℕ → Type 0
 AreAlong t nodes key =
     (k : ℕ) → k < length key → (get_or nodes k 0 < length t.texts) × (node_text t (get_or nodes k 0) ≡ take (k + 1) key)

@@ -1,7 +1,7 @@
 -- Texts of nodes and their entries, as a trie grows.
-use Rattle.std.proofs.Common.{◌≡◌, ℕ, zero, suc, ◌+◌, ◌-◌, ◌<◌, ◌≤◌, drop, Bool, true, false, cond, ◌&&◌, nat_eq, eqb, List, [], ◌∷◌, ◌++◌, length, take, get_or, set, map, fold, Option, Some, None, refl, sym, ap, subst, ◌∙◌, arith, ◌⊎◌, inl, inr}
+use Rattle.std.proofs.Common.{◌≡◌, ℕ, zero, suc, ◌+◌, ◌-◌, ◌<◌, ◌≤◌, drop, Bool, true, false, cond, nat_eq, List, [], ◌∷◌, ◌++◌, length, take, get_or, set, map, fold, Option, Some, None, refl, sym, ap, subst, ◌∙◌, arith, ◌⊎◌, inl, inr}
 use Rattle.std.specs.Prelude.{slice_get, IsSome, is_some}
-use Rattle.std.proofs.lemmas.Bool.{cases_lt, eqb-true, eq-eqb}
+use Rattle.std.proofs.lemmas.Bool.{cases_lt}
 use Rattle.std.proofs.lemmas.List.{length-append, map_push, length-map, map-set, take_more, length-take-le, drop-append-le, take-append-le, length-drop, get_or_append_left, get_or_push}
 use Rattle.std.proofs.lemmas.Grind.{fold-append}
 use Rattle.hyphenation_trie.specs.Private.Growing.{IsGrowing}
@@ -10,7 +10,7 @@ use Rattle.hyphenation_trie.specs.Private.Trie.{with_node_text, text_after, text
 use Rattle.std.specs.Option.{option_map}
 use Rattle.std.specs.List.{slice_range}
 use Rattle.std.proofs.Math.Seq.{drop-append_seam, take-length}
-use Rattle.std.specs.Cmp.Lexicographic.{pointwise}
+use Rattle.std.specs.Cmp.Lexicographic.{pointwise, bytes_decides}
 use Rattle.hyphenation_trie.specs.declared.state.Span.{Span}
 
 length-fold : (acc : List (List ℕ)) (fs : List (Option (ℕ × ℕ))) → length (fold with_node_text acc fs) ≡ length acc + length fs
@@ -43,10 +43,6 @@ not_empty (x ∷ xs) b e = cc
 pub root_text : (texts : List (List ℕ)) → slice_get texts 0 ≡ Some [] → (get_or texts 0 [] ≡ []) × (0 < length texts)
 root_text [] e = absurd cc
 root_text (t ∷ ts) e = (cc, omega arith)
-
-both_true : (a b : Bool) → (a && b) ≡ true → (a ≡ true) × (b ≡ true)
-both_true true b e = (refl, e)
-both_true false b e = absurd cc
 
 pub root-push : (texts : List (List ℕ)) (t : List ℕ) → slice_get texts 0 ≡ Some [] → slice_get (texts ++ t ∷ []) 0 ≡ Some []
 root-push [] t e = absurd cc
@@ -179,21 +175,9 @@ swapped true true x y z apart = absurd (apart refl refl)
 swapped true false x y z apart = refl
 swapped false b x y z apart = refl
 
-pub same_text : (a b : List ℕ) → pointwise nat_eq a b ≡ true → a ≡ b
-same_text [] [] e = refl
-same_text [] (y ∷ b) e = absurd cc
-same_text (x ∷ a) [] e = absurd cc
-same_text (x ∷ a) (y ∷ b) e =
-    let h = both_true (eqb x y) (pointwise nat_eq a b) e in
-    ap (λ (z : ℕ). z ∷ a) (eqb-true x y h.0) ∙ ap (λ (zs : List ℕ). y ∷ zs) (same_text a b h.1)
-
-pub text_itself : (a : List ℕ) → pointwise nat_eq a a ≡ true
-text_itself [] = refl
-text_itself (x ∷ a) = let e : eqb x x ≡ true = eq-eqb x x refl in rw e (text_itself a)
-
 other_text : (a b : List ℕ) → (a ≡ b → ⊥) → pointwise nat_eq a b ≡ false
 other_text a b apart = elim (pointwise nat_eq a b) as (λ r. pointwise nat_eq a b ≡ r → r ≡ false) [
-  | true ↦ λ e. absurd (apart (same_text a b e))
+  | true ↦ λ e. absurd (apart ((bytes_decides a b).0 e))
   | false ↦ λ e. refl
 ] refl
 
@@ -205,13 +189,13 @@ entries_at-set (t ∷ ts) (e ∷ es) zero x q apart len lt = shadowed (pointwise
 entries_at-set (t ∷ ts) (e ∷ es) (suc i) x q apart len lt =
     ap (λ r. cond (pointwise nat_eq t q) e r) (entries_at-set ts es i x q (apart_rest t ts apart) (omega arith) (omega arith))
     ∙ swapped (pointwise nat_eq t q) (pointwise nat_eq (get_or ts i []) q) e x (entries_at ts es q)
-    (λ p r. apart_first t ts i apart (omega arith) (same_text t q p ∙ sym (same_text (get_or ts i []) q r)))
+    (λ p r. apart_first t ts i apart (omega arith) ((bytes_decides t q).0 p ∙ sym ((bytes_decides (get_or ts i []) q).0 r)))
 
 pub entries_at-here : {E : Type 0} (ts : List (List ℕ)) (es : List (Option (List E))) (i : ℕ) → AllApart ts → length es ≡ length ts → i < length ts
     → entries_at ts es (get_or ts i []) ≡ get_or es i None
 entries_at-here [] es i apart len lt = absurd (omega arith)
 entries_at-here (t ∷ ts) [] i apart len lt = absurd (omega arith)
-entries_at-here (t ∷ ts) (e ∷ es) zero apart len lt = ap (λ b. cond b e (entries_at ts es t)) (text_itself t)
+entries_at-here (t ∷ ts) (e ∷ es) zero apart len lt = ap (λ b. cond b e (entries_at ts es t)) ((bytes_decides t t).1 refl)
 entries_at-here (t ∷ ts) (e ∷ es) (suc i) apart len lt =
     ap (λ b. cond b e (entries_at ts es (get_or ts i []))) (other_text t (get_or ts i []) (λ same. apart_first t ts i apart (omega arith) same))
     ∙ entries_at-here ts es i (apart_rest t ts apart) (omega arith) (omega arith)
@@ -244,5 +228,5 @@ begins-insert {E} old mid key node es keys adds trie lt e begins j pos lj =
             subst (λ (o : Option (List E)). IsSome o) (sym (at b.0)) (some_either (pointwise nat_eq key b.0) es (entries_of_key mid b.0) (subst (λ (o : Option (List E)). IsSome o) (sym (keys b.0)) b.1)),
             h.1 ∙ b.2 ∙ ap (λ (x : List ℕ). take (length x) b.0) (sym h.1),
           )
-      | inr h ↦ (key, subst (λ (o : Option (List E)). IsSome o) (sym (at key ∙ ap (λ b. cond b (Some es) (entries_of_key mid key)) (text_itself key))) refl, h)
+      | inr h ↦ (key, subst (λ (o : Option (List E)). IsSome o) (sym (at key ∙ ap (λ b. cond b (Some es) (entries_of_key mid key)) ((bytes_decides key key).1 refl))) refl, h)
     ]

@@ -4,6 +4,7 @@ pub mod Links
 pub mod Keys
 pub mod Trail
 pub mod Laws
+pub mod Cells
 pub mod Steps
 pub mod Vectors
 pub mod Tables

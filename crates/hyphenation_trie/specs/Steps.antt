@@ -1,7 +1,9 @@
 -- Steps by rows of cells: a row for each node with children, and a number for each node.
-use Rattle.std.specs.Prelude.{◌≡◌, ℕ, ◌+◌, ◌*◌, ◌/◌, ◌%◌, ◌<◌, ◌≤◌, List, [], ◌∷◌, ◌++◌, length, slice_index}
+use Rattle.std.specs.Prelude.{◌≡◌, ℕ, ◌+◌, ◌*◌, ◌<◌, ◌≤◌, List, [], ◌∷◌, ◌++◌, length, slice_index}
+use Rattle.hyphenation_trie.specs.Cells.{IsSplit, number_in, place_in}
 use Rattle.hyphenation_trie.specs.Links.{EndsWith, IsLongest}
 use Rattle.hyphenation_trie.specs.Trie.{Tree, node_text}
+use Rattle.hyphenation_trie.specs.declared.table.split.Split.{Split}
 use Rattle.hyphenation_trie.specs.declared.table.steps.Steps.{Steps}
 
 -- The node has a child.
@@ -19,30 +21,31 @@ pub record IsLongestInner {E : Type 0} (tree : Tree E) (text : List ℕ) (node :
 
 -- A cell for this text. It leads to the row of the longest node with children that ends the text, and holds the number of the
 -- longest node that does.
-pub record IsCellTo {E : Type 0} (tree : Tree E) (numbers rows : List ℕ) (quarter : ℕ) (text : List ℕ) (cell : ℕ) : Type 0 where
+pub record IsCellTo {E : Type 0} (tree : Tree E) (numbers rows : List ℕ) (quarter : ℕ) (split : Split) (text : List ℕ) (cell : ℕ) : Type 0 where
   pub row : ℕ
   pub within : row < length rows
-  pub next : cell / 4096 ≡ row * quarter
+  pub next : place_in split cell ≡ row * quarter
   pub inner : IsLongestInner tree text (slice_index rows row)
   pub node : ℕ
   pub longest : IsLongest tree.texts text node
-  pub number : cell % 4096 ≡ slice_index numbers node
+  pub number : number_in split cell ≡ slice_index numbers node
 
 -- The cells are those of the rows of these nodes. The first is that of the root.
-pub record AreRows {E : Type 0} (tree : Tree E) (numbers classes : List ℕ) (quarter : ℕ) (cells rows : List ℕ) : Type 0 where
+pub record AreRows {E : Type 0} (tree : Tree E) (numbers classes : List ℕ) (quarter : ℕ) (split : Split) (cells rows : List ℕ) : Type 0 where
   pub has_root : 0 < length rows
   pub root : slice_index rows 0 ≡ 0
   pub room : length rows * quarter * 4 ≤ length cells
   pub each : (row byte : ℕ) → row < length rows → byte < 256
-      → IsCellTo tree numbers rows quarter (node_text tree (slice_index rows row) ++ byte ∷ [])
+      → IsCellTo tree numbers rows quarter split (node_text tree (slice_index rows row) ++ byte ∷ [])
       (slice_index cells (row * quarter * 4 + slice_index classes byte))
 
 -- The table has a row for each of these nodes, and right steps from each. The width of a row is four times this number of
 -- cells.
 pub record AreStepsBy {E : Type 0} (tree : Tree E) (numbers rows : List ℕ) (quarter : ℕ) (steps : Steps) : Type 0 where
-  pub classes : length steps.classes.items ≡ 256
-  pub below : (b : ℕ) → b < 256 → slice_index steps.classes.items b < quarter * 4
-  pub cells : AreRows tree numbers steps.classes.items quarter steps.cells.items rows
+  pub classes : length steps.classes ≡ 256
+  pub below : (b : ℕ) → b < 256 → slice_index steps.classes b < quarter * 4
+  pub split : IsSplit steps.split
+  pub cells : AreRows tree numbers steps.classes quarter steps.split steps.cells.items rows
 
 -- The table is one of this trie, with these numbers of its nodes.
 abbrev pub AreSteps : {E : Type 0} → Tree E → List ℕ → Steps → Type 0

@@ -23,7 +23,7 @@ pub(crate) struct Children {
 }
 
 impl Children {
-    // Returns the root alone, with room for `nodes` nodes. The only error is out of memory.
+    // Returns only the root, with room for `nodes` nodes. The only error is out of memory.
     pub(crate) fn with_room(alloc: Global, nodes: usize) -> Result<Children, AllocError>
         ensures nodes { IfOk result (λ children. (children.parents.items ≡ 0 ∷ []) × (children.bytes.items ≡ 0 ∷ [])) }
         ensures chains { IfOk result (λ children. (children.last.items ≡ 0 ∷ []) × (children.before.items ≡ 0 ∷ [])) }

@@ -21,7 +21,7 @@ use std::marker::Model;
 
 /// Keys, each with its entries, to which more can be added.
 pub struct Trie<E> {
-    // The children of each node. If keys are inserted in order, each look-up asks the last child alone.
+    // The children of each node. If keys are inserted in order, each look-up asks only the last child.
     pub(crate) children: Children,
     // The states of the nodes.
     pub(crate) states: Vec<State>,
@@ -121,7 +121,7 @@ impl<E: Drop> Trie<E> {
     /// ```text
     /// let mut trail = Trail::new(alloc);
     /// trie.insert_along(b"rk", &mut trail, &mut entries)?;
-    /// trie.insert_along(b"rkin", &mut trail, &mut others)?;      // looks up `i` and `n` alone
+    /// trie.insert_along(b"rkin", &mut trail, &mut others)?;      // looks up only `i` and `n`
     /// ```
     #[inline(always)]
     pub fn insert_along(

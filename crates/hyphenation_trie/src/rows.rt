@@ -139,7 +139,7 @@ fn row_fits(cells: &[Cell], free: u32, base: usize, node: u32, children: &Childr
 }
 
 // The number of places that are tried for a row. More of them pack the rows closer and take longer. There are so few that
-// placing all rows takes time in the number of nodes alone.
+// placing all rows takes time only in the number of nodes.
 const TRIED_PLACES: usize = 96;
 
 // The number of cells from the first tried place to the end of the cells in use. It is more than most rows span, since the
@@ -204,8 +204,8 @@ fn first_fit(
     ensures fits { IfSome result (λ base.
         IsFreeRow children.now cells.now free base node) }
 {
-    // If a row does not fit, most often the cell of its least byte is in use, since cells are filled from the first
-    // free one on. So that cell is tested first, without a look at the children. A row has 256 cells.
+    // Cells are filled from the first free one on. So where a row does not fit, most often the cell of its least byte
+    // is in use. This cell is tested first, without a look at the children. A row has 256 cells.
     let end = to.min(cells.len().saturating_sub(255));
     for base in from..end {
         if cells[base + least].owner == free && row_fits(cells, free, base, node, children) {

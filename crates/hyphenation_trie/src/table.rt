@@ -13,6 +13,7 @@ ghost use Rattle.hyphenation_trie.specs.Trie.{entries_of_key};
 mod classes;
 mod order;
 mod rows;
+pub mod split;
 pub mod steps;
 mod vectors;
 
@@ -21,17 +22,19 @@ use classes::classes_of;
 use hyphenation_breaks::entry::{Entry, Payload};
 use order::nodes_by_depth;
 use rows::cells_of;
+use split::{Split, split_of};
 use std::alloc::{AllocError, Global};
 use vectors::{Known, known_of_all};
 
 /// A table of steps of an automaton.
 #[derive(Drop)]
 pub struct Table {
-    /// The cells of all rows. A cell holds where the next row begins, in units of four cells, times 4096, plus the number of
-    /// a vector.
+    /// The cells of all rows. A cell holds where the next row begins, in units of four cells, and the number of a vector.
     pub cells: Vec<u32>,
+    /// How a cell holds these two.
+    pub split: Split,
     /// The class of each byte.
-    pub classes: Vec<u8>,
+    pub classes: [u8; 256],
     /// The vectors.
     pub vectors: Vec<[u8; 16]>,
     /// For each vector the number of keys that end the texts that it is of.
@@ -59,7 +62,7 @@ impl Table {
     {
         count.look_up();
         let cell = self.cells[start * 4 + self.classes[byte as usize] as usize];
-        ((cell >> 12) as usize, (cell % 4096) as usize)
+        self.split.parts(cell)
     }
 
     /// Returns the vector of a number, and counts one report for each key that ends the texts that it is of.
@@ -80,7 +83,8 @@ impl Table {
 /// Makes a table of an automaton, or returns `None` where there can be none of this form.
 ///
 /// There is none if an entry is more than 15 bytes before its key's end, or a rank is above 255. Nor is there one if
-/// the rows would have 4,194,304 cells or more, or there are more than 4,096 vectors, or all 256 bytes are in keys. The
+/// there are more than 4,096 vectors, or all 256 bytes are in keys. With at most 1,024 vectors the rows have fewer than
+/// 16,777,216 cells, and there is no table if they would have more. With more vectors they have fewer than 4,194,304. The
 /// only error is out of memory.
 pub fn make_table<C: Payload>(
     alloc: Global,
@@ -89,9 +93,11 @@ pub fn make_table<C: Payload>(
     ensures { IfOk result (λ made. IfSome made (λ table. IsTableOf C.rank_of (entries_of_key automaton.now) table)) }
 {
     automaton.invariant();
-    let Some((classes, quarter)) = classes_of(alloc, automaton)? else {
+    let Some(found) = classes_of(automaton) else {
         return Ok(None);
     };
+    let classes = found.0;
+    let quarter = found.1;
     let order = nodes_by_depth(alloc, automaton)?;
     let Some(known) = known_of_all(alloc, automaton, &order)? else {
         return Ok(None);
@@ -101,11 +107,13 @@ pub fn make_table<C: Payload>(
         vectors,
         counts,
     } = known;
-    let Some(cells) = cells_of(alloc, automaton, &order, &numbers, &classes, quarter)? else {
+    let split = split_of(&numbers);
+    let Some(cells) = cells_of(alloc, automaton, &order, &numbers, &classes, quarter, split)? else {
         return Ok(None);
     };
     Ok(Some(Table {
         cells,
+        split,
         classes,
         vectors,
         counts,

@@ -1,5 +1,5 @@
 -- UTF-8 at ASCII bytes.
-use Rattle.std.proofs.Common.{◌≡◌, ℕ, suc, zero, ◌+◌, ◌<◌, true, eqb, List, [], ◌∷◌, ◌++◌, length, get_or, subst, refl, arith, length-append}
+use Rattle.std.proofs.Common.{◌≡◌, ℕ, suc, zero, ◌+◌, ◌<◌, true, List, [], ◌∷◌, ◌++◌, length, get_or, subst, refl, arith, length-append}
 use Rattle.std.specs.Prelude.{IsUtf8, IsCharBoundary}
 use Rattle.std.proofs.lemmas.Bool.Decides.{nat_tests}
 use Rattle.std.proofs.lemmas.List.{take_at}
@@ -31,9 +31,6 @@ split_ascii p b rest small u =
     )
 
 -- A byte that is escaped is ASCII.
-pub same_byte : (a b : ℕ) → eqb a b ≡ true → b < 128 → a < 128
-same_byte a b e h = grind (arith, nat_tests)
-
 pub small_digit : (es : Escapes) (b : ℕ) → escaped_also es b ≡ true → b < 128
 small_digit Plain b e = absurd cc
 small_digit Digits b e = grind (arith, nat_tests)

@@ -185,7 +185,7 @@ tells place (Some c) h w =
     (below c.breakpoint (second_so (fits_usize c.left && fits_usize c.right) (fits_usize c.breakpoint) w3))
     (IsUtf8-from_is_utf8 c.substitution (second_so (fits_usize c.left && fits_usize c.right && fits_usize c.breakpoint) (is_utf8 c.substitution) w))
 
--- A change stands in an extended text alone.
+-- Only an extended text has changes.
 abbrev pub is_allowed : Kind → Option Change → Bool
 is_allowed kind None = true
 is_allowed kind (Some c) = is_extended kind

@@ -25,7 +25,7 @@ use Rattle.hyphenation_grammar.specs.declared.Cause.TheVariants.{NotUtf8, Header
 use Rattle.hyphenation_grammar.specs.declared.tokens.PatternElement.{PatternElement}
 use Rattle.hyphenation_grammar.specs.declared.tokens.PatternElement.TheVariants.{Letter, Value}
 use Rattle.hyphenation_writer.proofs.AsciiBytes.{one_ascii, two_ascii}
-use Rattle.hyphenation_writer.proofs.SpelledBytes.{Free, space, feed, free-append, marks-free, text-free}
+use Rattle.hyphenation_writer.proofs.SpelledBytes.{Free, space, feed, free-append, marks-free, text-free, small}
 use Rattle.hyphenation_breaks.specs.Laws.{entries_from, EntriesInOrder}
 use Rattle.std.specs.Cmp.{first_so, second_so}
 use Rattle.hyphenation_writer.proofs.CanonicalLaterTokens.{Tells, tells, is_allowed, good, text-again, token-some}
@@ -142,19 +142,16 @@ pub none-found : (p : Cause → Bool) (xs : List Cause) → AllByRecursion (λ x
 none-found p [] h = refl
 none-found p (x ∷ xs) h = ap (λ (t : Bool). cond t (Some x) (find p xs)) h.0 ∙ none-found p xs h.1
 
-other : (n k : ℕ) → k < n → eqb n k ≡ false
-other n k h = grind (arith, nat_tests)
-
 pub own-none : (form : Form) (n : ℕ) (line : List ℕ) → 3 < n → Faultless form line → own_cause form n line ≡ None
 own-none form n line big f =
     none-found (fails form n line) own_tests (
       ap not f.utf8,
       (
-        and_left (eqb n 1) _ (other n 1 (omega arith)),
+        and_left (eqb n 1) _ (small n 1 (omega arith)),
         (
-          and_left (eqb n 2) _ (other n 2 (omega arith)),
+          and_left (eqb n 2) _ (small n 2 (omega arith)),
           (
-            and_left (eqb n 3) _ (other n 3 (omega arith)),
+            and_left (eqb n 3) _ (small n 3 (omega arith)),
             (ap (λ (k : Bool). nat_lt 3 n && not k) f.known ∙ and_right (nat_lt 3 n) false refl, (f.token, (f.value, (f.pattern, (f.letters, (f.number, (f.place, (f.change, tt)))))))),
           ),
         ),

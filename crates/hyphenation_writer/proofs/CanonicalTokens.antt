@@ -85,7 +85,7 @@ AllValues version [] = Unit {0}
 AllValues version (Letter b ∷ ms) = AllValues version ms
 AllValues version (Value v ∷ ms) = (v ≤ greatest version) × AllValues version ms
 
--- A sign that stands for itself.
+-- A sign that means itself.
 abbrev pub raw : ℕ → EscapedByte
 raw b = record { byte = b; escaped = false }
 
@@ -115,9 +115,6 @@ braced_on b e = grind (arith, nat_tests)
 digit_inside : (digits : List ℕ) (b : ℕ) → is_digit b ≡ true → step_inside digits (raw b) ≡ Some (Some (digits ++ b ∷ []), [])
 digit_inside digits b e = rw (braced_on b e, e) refl
 
-one_more : (ms : List PatternElement) (o : Option (List PatternElement)) → o ≡ Some ms → option_map {U = List PatternElement} (λ marks. [] ++ marks) o ≡ Some ms
-one_more ms o e = ap (option_map {U = List PatternElement} (λ marks. [] ++ marks)) e
-
 value-inside : (digits ds : List ℕ) (v : ℕ) (ss : List EscapedByte) (ms : List PatternElement) → list_all is_digit ds ≡ true → braced_value (digits ++ ds) ≡ Some v → elements_from Second None ss ≡ Some ms
     → elements_from Second (Some digits) (map raw ds ++ raw 125 ∷ ss) ≡ Some (Value v ∷ ms)
 value-inside digits [] v ss ms e is h =
@@ -125,7 +122,7 @@ value-inside digits [] v ss ms e is h =
     ∙ ap (option_map {U = List PatternElement} (λ marks. Value v ∷ marks)) h
 value-inside digits (b ∷ ds) v ss ms e is h =
     ap (option_and_then (rest_of Second (map raw ds ++ raw 125 ∷ ss))) (digit_inside digits b (first_so (is_digit b) (list_all is_digit ds) e))
-    ∙ one_more (Value v ∷ ms) (elements_from Second (Some (digits ++ b ∷ [])) (map raw ds ++ raw 125 ∷ ss)) (value-inside (digits ++ b ∷ []) ds v ss ms (second_so (is_digit b) (list_all is_digit ds) e) (ap braced_value (append_assoc digits (b ∷ []) ds) ∙ is) h)
+    ∙ ap (option_map {U = List PatternElement} (λ marks. [] ++ marks)) (value-inside (digits ++ b ∷ []) ds v ss ms (second_so (is_digit b) (list_all is_digit ds) e) (ap braced_value (append_assoc digits (b ∷ []) ds) ∙ is) h)
 
 -- a letter stands outside braces, and so does a digit
 letter_mark : (b : ℕ) (s : EscapedByte) → s.byte ≡ b → (not s.escaped && is_digit s.byte) ≡ false → element_of s ≡ Letter b
@@ -200,7 +197,7 @@ reads_value version v rest ms le r = by version (nat_le v 9) refl le r
           read = read_plain DigitsAndBraces 123 ((decimal v ++ 125 ∷ []) ++ rest) (map raw (decimal v) ++ (raw 125 ∷ r.signs)) refl refl
               (ap (escaped_bytes_after DigitsAndBraces false) (append_assoc (decimal v) (125 ∷ []) rest)
               ∙ digits-signs DigitsAndBraces (decimal v) (125 ∷ rest) (raw 125 ∷ r.signs) w.digits (read_plain DigitsAndBraces 125 rest r.signs refl refl r.read));
-          marks = one_more (Value v ∷ ms) (elements_from Second (Some []) (map raw (decimal v) ++ (raw 125 ∷ r.signs))) (value-inside [] (decimal v) v r.signs ms w.digits (braced-again v e le) r.marks);
+          marks = ap (option_map {U = List PatternElement} (λ marks. [] ++ marks)) (value-inside [] (decimal v) v r.signs ms w.digits (braced-again v e le) r.marks);
         }
 
 reads_marks : (version : Version) (ms : List PatternElement) → AllValues version ms → ReadsMarks version (flat_map (element_spelling version) ms) ms

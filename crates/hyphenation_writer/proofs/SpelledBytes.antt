@@ -41,7 +41,7 @@ feed = record { below = omega arith; not_comma = refl; escaped = λ es b e. eith
 above : (b c : ℕ) → c < 48 → is_digit b ≡ true → eqb b c ≡ false
 above b c h e = grind (arith, nat_tests)
 
-small : (b c : ℕ) → c < b → eqb b c ≡ false
+pub small : (b c : ℕ) → c < b → eqb b c ≡ false
 small b c h = grind (arith, nat_tests)
 
 pub digits-free : (c n : ℕ) → c < 48 → n < 2 ^ 64 → Free c (decimal n)

@@ -14,7 +14,7 @@ use Rattle.hyphenation_grammar.specs.declared.tokens.Escapes.{Escapes}
 use Rattle.hyphenation_grammar.specs.declared.tokens.Escapes.TheVariants.{Plain}
 use Rattle.hyphenation_grammar.specs.declared.tokens.PatternElement.TheVariants.{Letter, Value}
 use Rattle.hyphenation_grammar.specs.declared.form.Version.{Version}
-use Rattle.hyphenation_writer.proofs.AsciiBytes.{one_ascii, two_ascii, split_ascii, same_byte, small_digit}
+use Rattle.hyphenation_writer.proofs.AsciiBytes.{one_ascii, two_ascii, split_ascii, small_digit}
 use Rattle.hyphenation_writer.proofs.Decimals.{decimal-utf8, wide}
 use Rattle.hyphenation_writer.proofs.CanonicalTokens.{greatest, greatest-byte}
 
@@ -30,10 +30,10 @@ step-utf8 es p b text tail u more =
 
     by : (t1 t2 t3 t4 t5 : Bool) → eqb b 92 ≡ t1 → eqb b 32 ≡ t2 → eqb b 10 ≡ t3 → eqb b 13 ≡ t4 → escaped_also es b ≡ t5 → IsUtf8 ((p ++ b ∷ []) ++ tail)
         → IsUtf8 (p ++ (cond t1 (92 ∷ 92 ∷ []) (cond t2 (92 ∷ 115 ∷ []) (cond t3 (92 ∷ 110 ∷ []) (cond t4 (92 ∷ 114 ∷ []) (cond t5 (92 ∷ b ∷ []) (b ∷ []))))) ++ tail))
-    by true t2 t3 t4 t5 e1 e2 e3 e4 e5 plain = put 92 (same_byte b 92 e1 (omega arith)) (omega arith)
-    by false true t3 t4 t5 e1 e2 e3 e4 e5 plain = put 115 (same_byte b 32 e2 (omega arith)) (omega arith)
-    by false false true t4 t5 e1 e2 e3 e4 e5 plain = put 110 (same_byte b 10 e3 (omega arith)) (omega arith)
-    by false false false true t5 e1 e2 e3 e4 e5 plain = put 114 (same_byte b 13 e4 (omega arith)) (omega arith)
+    by true t2 t3 t4 t5 e1 e2 e3 e4 e5 plain = put 92 (subst (λ (x : ℕ). x < 128) (sym (eqb-true b 92 e1)) (omega arith)) (omega arith)
+    by false true t3 t4 t5 e1 e2 e3 e4 e5 plain = put 115 (subst (λ (x : ℕ). x < 128) (sym (eqb-true b 32 e2)) (omega arith)) (omega arith)
+    by false false true t4 t5 e1 e2 e3 e4 e5 plain = put 110 (subst (λ (x : ℕ). x < 128) (sym (eqb-true b 10 e3)) (omega arith)) (omega arith)
+    by false false false true t5 e1 e2 e3 e4 e5 plain = put 114 (subst (λ (x : ℕ). x < 128) (sym (eqb-true b 13 e4)) (omega arith)) (omega arith)
     by false false false false true e1 e2 e3 e4 e5 plain = put b (small_digit es b e5) (small_digit es b e5)
     by false false false false false e1 e2 e3 e4 e5 plain = subst IsUtf8 (append_assoc p (b ∷ []) tail) plain
 

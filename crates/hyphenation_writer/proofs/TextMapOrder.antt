@@ -7,6 +7,7 @@ use Rattle.std.specs.BTreeMap.{insert_entry}
 use Rattle.std.specs.Cmp.Lexicographic.{slice_cmp, nat_list_cmp_total}
 use Rattle.std.specs.FinMap.{put, entries-insert, len-entries, len-empty}
 use Rattle.std.specs.FinMap.Entries.{by_order}
+use Rattle.std.proofs.lemmas.List.{get_or_default, nil_from_length}
 use Rattle.hyphenation_dictionary.specs.Parts.{pair_views}
 use Rattle.hyphenation_writer.specs.Private.Ordered.{as_texts, in_byte_order}
 
@@ -27,11 +28,6 @@ pub put_before : {X : Type 0} (k : Bor (List ℕ)) (v : Bor (List X)) (found : L
     → pair_views (insert_entry (λ a b. slice_cmp nat_cmp a.now b.now) found k v) ≡ in_byte_order ((k.now, v.now) ∷ rest)
 put_before {X} k v found rest h = put_shown k v found ∙ ap (put (slice_cmp nat_cmp) k.now v.now) h ∙ sym (entries-insert nat_list_cmp_total (as_texts rest) k.now v.now)
 
-any_default : {X : Type 0} (xs : List X) (m : ℕ) (x y : X) → m < length xs → get_or xs m x ≡ get_or xs m y
-any_default [] m x y h = absurd (omega arith)
-any_default (z ∷ xs) zero x y h = refl
-any_default (z ∷ xs) (suc m) x y h = any_default xs m x y (omega arith)
-
 -- one pair more, from the back
 pub put_step : {X : Type 0} (pairs found new : List (Bor (List ℕ) × Bor (List X))) (index : ℕ) (x y : Bor (List ℕ) × Bor (List X)) → index < length pairs
     → new ≡ insert_entry (λ a b. slice_cmp nat_cmp a.now b.now) found (get_or pairs (length pairs - 1 - index) x).0 (get_or pairs (length pairs - 1 - index) y).1
@@ -41,7 +37,7 @@ put_step {X} pairs found new index x y lt e h =
     let m = length pairs - 1 - index in
     let z = get_or pairs (length pairs - 1 - index) x in
     ap pair_views e
-    ∙ ap (λ (w : Bor (List ℕ) × Bor (List X)). pair_views (insert_entry (λ a b. slice_cmp nat_cmp a.now b.now) found z.0 w.1)) (any_default pairs m y x (inside (length pairs) index lt))
+    ∙ ap (λ (w : Bor (List ℕ) × Bor (List X)). pair_views (insert_entry (λ a b. slice_cmp nat_cmp a.now b.now) found z.0 w.1)) (get_or_default pairs m y x (inside (length pairs) index lt))
     ∙ put_before z.0 z.1 found (pair_views (drop (length pairs - index) pairs)) h
     ∙ ap (λ (n : ℕ). in_byte_order ((z.0.now, z.1.now) ∷ pair_views (drop n pairs))) (back (length pairs) index lt)
     ∙ ap (λ (ps : List (Bor (List ℕ) × Bor (List X))). in_byte_order (pair_views ps)) (sym (drop-cons pairs m x (inside (length pairs) index lt)))
@@ -62,15 +58,11 @@ drop_len [] (suc n) e = refl
 drop_len (x ∷ xs) zero e = absurd (omega arith)
 drop_len (x ∷ xs) (suc n) e = drop_len xs n (omega arith)
 
-no_length : {X : Type 0} (es : List X) → length es ≡ 0 → es ≡ []
-no_length [] e = refl
-no_length (x ∷ es) e = absurd (omega arith)
-
 -- before the first pair is put in
 pub put_none : {X : Type 0} (pairs found : List (Bor (List ℕ) × Bor (List X))) → found ≡ [] → pair_views found ≡ in_byte_order (pair_views (drop (length pairs - 0) pairs))
 put_none {X} pairs found e =
     ap pair_views e
-    ∙ sym (no_length (in_byte_order {X = X} []) (sym (len-entries (as_texts {X = X} [])) ∙ len-empty (slice_cmp nat_cmp) (List X)))
+    ∙ sym (nil_from_length (in_byte_order {X = X} []) (sym (len-entries (as_texts {X = X} [])) ∙ len-empty (slice_cmp nat_cmp) (List X)))
     ∙ ap (λ (ps : List (Bor (List ℕ) × Bor (List X))). in_byte_order (pair_views ps)) (sym (drop_len pairs (length pairs - 0) (same (length pairs))))
   where
     same : (n : ℕ) → n - 0 ≡ n

@@ -1,5 +1,5 @@
 -- Levels without changes.
-use Rattle.std.proofs.Common.{◌≡◌, ◌∙◌, ap, sym, subst, refl, ℕ, Bool, true, false, cond, List, [], ◌∷◌, length, Option, Some, None, is_some, arith}
+use Rattle.std.proofs.Common.{◌≡◌, ◌∙◌, ap, sym, subst, ℕ, Bool, true, false, cond, List, [], ◌∷◌, length, Some, None, arith}
 use Rattle.std.specs.Ordering.{nat_cmp, eq_by_cmp}
 use Rattle.std.specs.Option.{option_and_then}
 use Rattle.std.specs.List.{slice_get}
@@ -39,10 +39,6 @@ inserted_without_change patterns key pattern before none q p found =
         let same : pattern ≡ p = cc in
         subst (λ (x : Pattern). x.change ≡ None) same none
     by false h = before q p h
-
-pub none_if : {X : Type 0} (o : Option X) → is_some o ≡ false → o ≡ None
-none_if None unset = refl
-none_if (Some x) unset = absurd cc
 
 pub empty_trail : (t : Tree Pattern) (trail : Trail) → trail.key.items ≡ [] → trail.nodes.items ≡ [] → IsTrail t trail
 empty_trail t trail key nodes = record {

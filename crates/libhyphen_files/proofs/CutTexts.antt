@@ -12,7 +12,7 @@ pub position_or_len_none : {X : Type 0} (p : X → Bool) (xs : List X) → posit
     → length xs ≤ position_or_len p xs
 position_or_len_none p xs none = grind (arith, common_steps)
 
-none_passes_from : {X : Type 0} (p : X → Bool) (xs : List X) → length xs ≤ position_or_len p xs → list_any p xs ≡ false
+pub none_passes_from : {X : Type 0} (p : X → Bool) (xs : List X) → length xs ≤ position_or_len p xs → list_any p xs ≡ false
 none_passes_from p [] h = refl
 none_passes_from p (x ∷ xs) h = by (p x) h (none_passes_from p xs)
   where
@@ -44,7 +44,7 @@ pub position_or_len_some : {X : Type 0} (p : X → Bool) (xs : List X) (at : ℕ
     → (position_or_len p xs ≡ at) × (at < length xs)
 position_or_len_some p xs at some = (grind (arith, common_steps), grind (arith, common_steps))
 
-some_passes_from : {X : Type 0} (p : X → Bool) (xs : List X) → position_or_len p xs < length xs → list_any p xs ≡ true
+pub some_passes_from : {X : Type 0} (p : X → Bool) (xs : List X) → position_or_len p xs < length xs → list_any p xs ≡ true
 some_passes_from p [] h = absurd (omega arith)
 some_passes_from p (x ∷ xs) h = by (p x) h (some_passes_from p xs)
   where

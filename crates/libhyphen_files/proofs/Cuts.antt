@@ -1,5 +1,5 @@
 -- A part of a text that grows byte by byte.
-use Rattle.std.proofs.Common.{◌≡◌, ◌∙◌, ap, refl, ℕ, ◌+◌, ◌-◌, ◌<◌, ◌≤◌, length, List, [], ◌∷◌, ◌++◌, take, drop, get_or, drop-cons, length-drop, add-one, arith}
+use Rattle.std.proofs.Common.{◌≡◌, ◌∙◌, ap, refl, ℕ, ◌+◌, ◌-◌, ◌<◌, ◌≤◌, length, List, [], ◌∷◌, ◌++◌, take, drop, get_or, length-drop, arith}
 use Rattle.std.proofs.lemmas.List.{take_more, take_all, get_or-drop}
 
 -- The bytes from one place to another one.
@@ -23,6 +23,3 @@ pub cut_all : (bytes : List ℕ) (start i : ℕ) → length bytes ≤ i → cut 
 cut_all bytes start i over =
     let all : length (drop start bytes) ≤ i - start = rw length-drop (omega arith) in
     take_all (i - start) (drop start bytes) all
-
-pub first_of_rest : (bytes : List ℕ) (i : ℕ) → i < length bytes → drop i bytes ≡ get_or bytes i 0 ∷ drop (i + 1) bytes
-first_of_rest bytes i inside = rw (add-one, drop-cons bytes i 0) refl

@@ -1,10 +1,11 @@
 -- The lines of a file, as the levels that they make.
-use Rattle.std.proofs.Common.{◌≡◌, ◌∙◌, ◌+◌, ◌-◌, ◌<◌, ◌≤◌, ◌||◌, nat_lt, ap, sym, refl, ℕ, Bool, true, false, not, cond, List, [], ◌∷◌, length, length-drop, map, take, drop, get_or, fold, arith, Bor}
+use Rattle.std.proofs.Common.{◌≡◌, ◌∙◌, ◌+◌, ◌-◌, ◌<◌, ◌≤◌, nat_lt, ap, sym, refl, ℕ, Bool, true, false, not, List, [], ◌∷◌, length, length-drop, map, take, drop, get_or, fold, arith, Bor}
 use Rattle.std.specs.List.{position_or_len, prefix_len, list_any, before_first, after_first}
 use Rattle.std.proofs.Math.ListN.{get_or-map}
 use Rattle.std.specs.List.{take-map}
 use Rattle.std.proofs.lemmas.List.{take_all, drop-map, length-map}
 use Rattle.std.proofs.lemmas.List.Sums.{fold_more, prefix_len-drop_yes, prefix_len-drop_no}
+use Rattle.libhyphen_files.proofs.CutTexts.{none_passes_from, some_passes_from}
 use Rattle.libhyphen_files.specs.Files.{Rules, rules_of, charset_of, is_utf8_name, is_next_level, level_of, dash_lines, dashes, default_minima, default_top, rules_of_lines}
 use Rattle.libhyphen_files.specs.Lines.{lines_of}
 use Rattle.libhyphen_files.specs.Levels.{Level, empty_level, with_line}
@@ -42,22 +43,6 @@ stop lines i d inside next before =
     none : (i : ℕ) → i + 0 ≡ i
     none i = omega arith
 
-pub any_none : {X : Type 0} (p : X → Bool) (xs : List X) → length xs ≤ position_or_len p xs → list_any p xs ≡ false
-any_none p [] e = refl
-any_none {X} p (x ∷ xs) e = by (p x) e (any_none p xs)
-  where
-    by : (t : Bool) → length (x ∷ xs) ≤ cond (not t) (1 + prefix_len (λ y. not (p y)) xs) 0 → (length xs ≤ prefix_len (λ y. not (p y)) xs → list_any p xs ≡ false) → (t || list_any p xs) ≡ false
-    by true e later = absurd (omega (arith, e))
-    by false e later = later (omega (arith, e))
-
-pub any_some : {X : Type 0} (p : X → Bool) (xs : List X) → position_or_len p xs < length xs → list_any p xs ≡ true
-any_some p [] e = absurd (omega (arith, e))
-any_some {X} p (x ∷ xs) e = by (p x) e (any_some p xs)
-  where
-    by : (t : Bool) → cond (not t) (1 + prefix_len (λ y. not (p y)) xs) 0 < length (x ∷ xs) → (prefix_len (λ y. not (p y)) xs < length xs → list_any p xs ≡ true) → (t || list_any p xs) ≡ true
-    by true e later = refl
-    by false e later = later (omega (arith, e))
-
 pub any_is : (lines : List (Bor (List ℕ))) (n : ℕ) → n ≡ position_or_len is_next_level (texts lines) → nat_lt n (length lines) ≡ list_any is_next_level (texts lines)
 any_is lines n at = by (nat_lt n (length lines)) refl
   where
@@ -65,11 +50,11 @@ any_is lines n at = by (nat_lt n (length lines)) refl
     by true e =
         let within : n < length lines = grind arith in
         let some : position_or_len is_next_level (texts lines) < length (texts lines) = rw (count, ← at) within in
-        sym (any_some is_next_level (texts lines) some)
+        sym (some_passes_from is_next_level (texts lines) some)
     by false e =
         let over : length lines ≤ n = grind arith in
         let none : length (texts lines) ≤ position_or_len is_next_level (texts lines) = rw (count, ← at) over in
-        sym (any_none is_next_level (texts lines) none)
+        sym (none_passes_from is_next_level (texts lines) none)
 
 pub before_is : (lines : List (Bor (List ℕ))) (n : ℕ) → n ≡ position_or_len is_next_level (texts lines) → texts (take n lines) ≡ before_first is_next_level (texts lines)
 before_is lines n at = sym (take-map (λ l. l.now) n lines) ∙ ap (λ k. take k (texts lines)) at

@@ -18,7 +18,7 @@ front (b ∷ bs) last byte next rest is =
     let same : b ∷ bs ≡ byte ∷ bs = cc in
     (bs, same, omega (arith, ap length is, length-append bs (last ∷ [])))
 
--- if the text of a node begins with a byte, a node has the text of this byte alone
+-- if the text of a node begins with a byte, a node has the text of only this byte
 pub first_node : {E : Type 0} (tree : Tree E) → IsTrie tree → (size byte : ℕ) (rest : List ℕ) (node : ℕ) → length rest ≤ size → node < length tree.texts → node_text tree node ≡ byte ∷ rest
     → (first : ℕ) × (first < length tree.texts) × (node_text tree first ≡ byte ∷ [])
 first_node tree trie size byte [] node le within is = (node, within, is)

@@ -2,7 +2,7 @@
 use Rattle.std.proofs.Common.{◌≡◌, ◌∙◌, sym, ap, refl, ◌==◌, ◌||◌, nat_le, ℕ, suc, zero, ◌+◌, ◌-◌, ◌<◌, Bool, length, true, false, cond, List, [], ◌∷◌, ◌++◌, take, drop, min, append_assoc, append-nil, arith, map, Bor, inl, inr}
 use Rattle.std.specs.Prelude.{not}
 use Rattle.std.specs.List.{position_or_len}
-use Rattle.std.proofs.lemmas.Bool.{cases_lt}
+use Rattle.std.proofs.lemmas.Bool.{cases_lt, false_from_ne_true}
 use Rattle.std.proofs.lemmas.List.{length-append, map-append, take_all}
 use Rattle.std.proofs.lemmas.List.Sums.{position_or_len_is}
 use Rattle.memchr.specs.Find.{Passes, Nowhere, NoneBefore, is_byte}
@@ -77,20 +77,16 @@ first_line line (suc room) (b ∷ bs) r some = by (is_feed b) refl room bs (firs
 
 -- ---- The size by the first line feed.
 
-false_if : (t : Bool) → ¬ (t ≡ true) → t ≡ false
-false_if true h = absurd (h refl)
-false_if false h = refl
-
 pub size_none : (window : List ℕ) → Nowhere (Passes (is_byte 10) window) 0 (length window) → min (position_or_len is_feed window + 1) (length window) ≡ length window
 size_none window none =
     let at : position_or_len is_feed window ≡ length window =
-    position_or_len_is is_feed window (length window) 0 (omega arith) (λ k lt. false_if _ (none k (omega arith) lt)) (λ lt. absurd (omega (arith, lt))) in
+    position_or_len_is is_feed window (length window) 0 (omega arith) (λ k lt. false_from_ne_true _ (none k (omega arith) lt)) (λ lt. absurd (omega (arith, lt))) in
     omega (arith, at)
 
 pub size_some : (window : List ℕ) (k : ℕ) → NoneBefore (Passes (is_byte 10) window) 0 (length window) k → Passes (is_byte 10) window k → min (position_or_len is_feed window + 1) (length window) ≡ k + 1
 size_some window k first here =
     let at : position_or_len is_feed window ≡ k =
-    position_or_len_is is_feed window k 0 (omega (arith, first.high)) (λ j lt. false_if _ (first.before j (omega arith) lt)) (λ lt. here) in
+    position_or_len_is is_feed window k 0 (omega (arith, first.high)) (λ j lt. false_from_ne_true _ (first.before j (omega arith) lt)) (λ lt. here) in
     omega (arith, at, first.high)
 
 -- A text up to its room, or to its end.

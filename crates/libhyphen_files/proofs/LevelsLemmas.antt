@@ -1,8 +1,9 @@
 -- A level with one more line, by what the line begins with.
 use Rattle.std.proofs.Common.{◌≡◌, refl, ap, arith, ℕ, ◌==◌, Bool, true, false, List, [], ◌∷◌, codes, drop, length, take, Some, None, if◌then◌else◌}
 use Rattle.std.proofs.lemmas.Grind.{common_steps}
-use Rattle.std.specs.Prelude.{◌||◌, ◌&&◌, nat_eq}
+use Rattle.std.specs.Prelude.{◌&&◌, nat_eq}
 use Rattle.std.specs.Cmp.Lexicographic.{pointwise}
+use Rattle.std.proofs.lemmas.Bool.{or_parts}
 use Rattle.hyphenation_breaks.specs.Ascii.{percent}
 use Rattle.libhyphen_files.specs.Bytes.{begins_with, before_nul}
 use Rattle.libhyphen_files.specs.Private.Settings.{may_be_setting}
@@ -63,14 +64,6 @@ pub line_read : (utf8 : Bool) (level : Level) (line : List ℕ) → begins_with 
 line_read utf8 level line e = rw e refl
 
 -- A line that begins with another byte is no setting.
-or_left : (a b : Bool) → (a || b) ≡ false → a ≡ false
-or_left true b h = h
-or_left false b h = refl
-
-or_right : (a b : Bool) → (a || b) ≡ false → b ≡ false
-or_right true b h = absurd cc
-or_right false b h = h
-
 same : (name byte : ℕ) → (byte == name) ≡ false → nat_eq name byte ≡ false
 same name byte h = grind (arith, common_steps)
 
@@ -80,11 +73,11 @@ other name byte names bytes h = ap (λ b. b && pointwise nat_eq names (take (len
 pub pattern_read : (utf8 : Bool) (level : Level) (line : List ℕ) → may_be_setting line ≡ false → with_text utf8 level line ≡ with_pattern utf8 level line
 pattern_read utf8 level [] h = refl
 pattern_read utf8 level (byte ∷ bytes) h =
-    let three = or_left _ (byte == 78) h in
-    let two = or_left _ (byte == 67) three in
-    let l = other 76 byte (codes "EFTHYPHENMIN") bytes (or_left (byte == 76) (byte == 82) two) in
-    let r = other 82 byte (codes "IGHTHYPHENMIN") bytes (or_right (byte == 76) (byte == 82) two) in
-    let c = or_right _ (byte == 67) three in
-    let n = other 78 byte (codes "OHYPHEN") bytes (or_right _ (byte == 78) h) in
+    let three = (or_parts _ (byte == 78) h).0 in
+    let two = (or_parts _ (byte == 67) three).0 in
+    let l = other 76 byte (codes "EFTHYPHENMIN") bytes (or_parts (byte == 76) (byte == 82) two).0 in
+    let r = other 82 byte (codes "IGHTHYPHENMIN") bytes (or_parts (byte == 76) (byte == 82) two).1 in
+    let c = (or_parts _ (byte == 67) three).1 in
+    let n = other 78 byte (codes "OHYPHEN") bytes (or_parts _ (byte == 78) h).1 in
     with_other utf8 level (byte ∷ bytes) l r (other 67 byte (codes "OMPOUNDLEFTHYPHENMIN") bytes c)
     (other 67 byte (codes "OMPOUNDRIGHTHYPHENMIN") bytes c) n

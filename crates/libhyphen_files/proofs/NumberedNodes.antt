@@ -23,7 +23,7 @@ root_vector tree =
       };
     }
 
--- at first the root alone has a number
+-- at first only the root has a number
 pub nodes_start : (tree : Tree Pattern) (numbers : List ℕ) (vectors : List (List ℕ)) → numbers ≡ 0 ∷ [] → vectors ≡ replicate 16 0 ∷ replicate 16 255 ∷ [] → AreNodesNumbered tree numbers vectors 1
 nodes_start tree numbers vectors first two =
     let both : List (List ℕ) = replicate 16 0 ∷ replicate 16 255 ∷ [] in

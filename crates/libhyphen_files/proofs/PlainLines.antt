@@ -109,7 +109,7 @@ plain_pattern utf8 line e = rw e refl
 with_plain : (utf8 : Bool) (level : Level) (line : List ℕ) → is_changing line ≡ false → with_pattern utf8 level line ≡ with_spelt level (spelt line)
 with_plain utf8 level line e = ap (λ (p : Pattern). with_key level (key_of line) p) (plain_pattern utf8 line e)
 
--- A line that is no comment and no setting, and spells a pattern alone.
+-- A line that is no comment and no setting, and spells only a pattern.
 pub is_plain : (line part : List ℕ) → begins_with line (percent ∷ []) ≡ false → may_be_setting line ≡ false → SpellsAlone line part → IsPlain line part
 is_plain line part comment other spelling utf8 level =
     line_read utf8 level line comment ∙ pattern_read utf8 level (before_nul line) (setting_read line other)

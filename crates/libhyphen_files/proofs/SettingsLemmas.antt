@@ -1,10 +1,10 @@
 -- Texts between commas, byte by byte.
 use Rattle.std.proofs.Common.{◌≡◌, ◌≢◌, ◌∙◌, ◌==◌, ◌++◌, ◌+◌, ◌<◌, ◌≤◌, ap, sym, refl, ℕ, Bool, true, false, cond, List, [], ◌∷◌, nat_lt, length, take, drop, get_or, filter, arith}
-use Rattle.std.proofs.lemmas.List.{drop_all}
+use Rattle.std.proofs.lemmas.List.{drop_all, drop_more}
 use Rattle.std.specs.List.{slice_split, onto_first}
 use Rattle.hyphenation_breaks.specs.Ascii.{comma}
 use Rattle.libhyphen_files.specs.Levels.{between_commas}
-use Rattle.libhyphen_files.proofs.Cuts.{cut, cut_more, cut_none, cut_all, first_of_rest}
+use Rattle.libhyphen_files.proofs.Cuts.{cut, cut_more, cut_none, cut_all}
 
 -- The texts between the commas of the bytes that are left, where the first text has begun.
 unfoldable pub parts_from : List ℕ → List ℕ → List (List ℕ)
@@ -60,12 +60,12 @@ no_comma b e = grind arith
 pub parts_end : (text : List ℕ) (start i : ℕ) → i < length text → get_or text i 0 ≡ comma
     → parts_from (cut text start i) (drop i text) ≡ cut text start i ∷ parts_from (cut text (i + 1) (i + 1)) (drop (i + 1) text)
 parts_end text start i inside e =
-    rw (first_of_rest text i inside) (at_comma _ _ _ (is_comma _ e) ∙ ap (λ part. cut text start i ∷ parts_from part (drop (i + 1) text)) (sym (cut_none text (i + 1))))
+    rw (drop_more text i 0 inside) (at_comma _ _ _ (is_comma _ e) ∙ ap (λ part. cut text start i ∷ parts_from part (drop (i + 1) text)) (sym (cut_none text (i + 1))))
 
 pub parts_go_on : (text : List ℕ) (start i : ℕ) → start ≤ i → i < length text → get_or text i 0 ≢ comma
     → parts_from (cut text start i) (drop i text) ≡ parts_from (cut text start (i + 1)) (drop (i + 1) text)
 parts_go_on text start i begun inside e =
-    rw (first_of_rest text i inside) (at_other _ _ _ (no_comma _ e) ∙ ap (λ part. parts_from part (drop (i + 1) text)) (sym (cut_more text start i begun inside)))
+    rw (drop_more text i 0 inside) (at_other _ _ _ (no_comma _ e) ∙ ap (λ part. parts_from part (drop (i + 1) text)) (sym (cut_more text start i begun inside)))
 
 -- As the loop ends.
 pub parts_at_end : (text : List ℕ) (start i : ℕ) → length text ≤ i → parts_from (cut text start i) (drop i text) ≡ cut text start (length text) ∷ []

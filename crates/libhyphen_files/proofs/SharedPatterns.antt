@@ -1,7 +1,7 @@
 -- Levels in which keys have a pattern in common.
-use Rattle.std.proofs.Common.{◌≡◌, ◌≢◌, ◌∙◌, ◌==◌, ◌≤◌, ap, sym, subst, refl, ℕ, ◌<◌, ◌&&◌, Bool, true, false, List, [], ◌∷◌, filter, length, take, get_or, None, Some, Option, nat_eq, eqb-true, arith}
+use Rattle.std.proofs.Common.{◌≡◌, ◌≢◌, ◌∙◌, ◌==◌, ◌≤◌, ap, sym, subst, refl, ℕ, ◌<◌, true, false, List, [], ◌∷◌, filter, length, take, get_or, None, Some, Option, nat_eq, arith}
 use Rattle.std.specs.Prelude.{unwrap_or, is_some}
-use Rattle.std.specs.Cmp.Lexicographic.{pointwise}
+use Rattle.std.specs.Cmp.Lexicographic.{pointwise, bytes_decides}
 use Rattle.std.proofs.lemmas.List.{length-take}
 use Rattle.hyphenation_breaks.specs.Ascii.{digit_zero}
 use Rattle.hyphenation_breaks.specs.Dictionary.{TextMap}
@@ -41,26 +41,8 @@ one_item [] x d some few is = absurd (omega (arith, some))
 one_item (y ∷ []) x d some few is = ap (λ z. z ∷ []) (sym is)
 one_item (y ∷ z ∷ zs) x d some few is = absurd (omega (arith, few))
 
--- Equal texts.
-and_left : (a b : Bool) → a && b ≡ true → a ≡ true
-and_left true b e = refl
-and_left false b e = e
-
-and_right : (a b : Bool) → a && b ≡ true → b ≡ true
-and_right true b e = e
-and_right false b e = cc
-
-pointwise_same : (xs ys : List ℕ) → pointwise nat_eq xs ys ≡ true → xs ≡ ys
-pointwise_same [] [] e = refl
-pointwise_same [] (y ∷ ys) e = cc
-pointwise_same (x ∷ xs) [] e = cc
-pointwise_same (x ∷ xs) (y ∷ ys) e =
-    let head = eqb-true x y (and_left (nat_eq x y) (pointwise nat_eq xs ys) e) in
-    let tail = pointwise_same xs ys (and_right (nat_eq x y) (pointwise nat_eq xs ys) e) in
-    ap (λ z. z ∷ xs) head ∙ ap (λ zs. y ∷ zs) tail
-
 -- A pattern by its parts.
 pub unchanging_is : (digits : List ℕ) (change : Option Change) (others : List ℕ) → is_some change ≡ false → pointwise nat_eq digits others ≡ true
     → ◌≡◌ {A = Pattern} (record { digits = digits; change = change }) (unchanging others)
-unchanging_is digits None others none same = ap (λ d. unchanging d) (pointwise_same digits others same)
+unchanging_is digits None others none same = ap (λ d. unchanging d) ((bytes_decides digits others).0 same)
 unchanging_is digits (Some c) others none same = absurd cc

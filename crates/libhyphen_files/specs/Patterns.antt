@@ -76,8 +76,8 @@ after_slash line = after_first (λ b. b == slash) line
 abbrev pub field : List (List ℕ) → ℕ → List ℕ
 field fields number = unwrap_or (slice_get fields number) []
 
--- A text without the end of its line. The end is a carriage return in the last place but one and what follows it, or else one
--- of the two in the last place.
+-- A text without the end of its line. The end is a carriage return in the last place but one, with what follows it; or else
+-- one of the two in the last place.
 abbrev pub without_line_end : List ℕ → List ℕ
 without_line_end text =
     if slice_index text (length text - 2) == carriage_return && nat_lt 1 (length text) then take (length text - 2) text

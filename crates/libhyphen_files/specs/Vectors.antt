@@ -24,7 +24,7 @@ change_of None = None
 change_of (Some pattern) = pattern.change
 
 -- The pattern of a key with this number of bytes changes no letters, and the vector has its digits, counted from 0. The last
--- lane has that of the place behind the key's end, the lane before it that of the place one byte before, and so on.
+-- lane has that of the place behind the key's end. The lane before it has that of the place one byte before, and so on.
 pub record IsVectorOf (pattern : Option Pattern) (bytes : ℕ) (vector : List ℕ) : Type 0 where
   pub no_change : change_of pattern ≡ None
   pub each : (lane place : ℕ) → lane < 16 → place + 15 ≡ lane + bytes

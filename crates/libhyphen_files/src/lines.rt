@@ -14,7 +14,7 @@ const MOST_OF_OTHER: usize = 99;
 // The most lines for which there is room in advance. A line of most files has eight bytes or more.
 const MOST_ROOM: usize = 100_000;
 
-// Returns the lines of a file, each with its line feed: of the first one at most 19 bytes, of each other one at most
+// Returns the lines of a file, each with its line feed. The first one has at most 19 bytes, and each other one at most
 // 99. The bytes that are over are the next line. The only error is out of memory.
 pub(crate) fn lines_of(alloc: Global, bytes: &[u8]) -> Result<Vec<&[u8]>, AllocError>
     ensures { IfOk result (λ lines. map (λ line. line.now) lines.items ≡ lines_of bytes.now) }

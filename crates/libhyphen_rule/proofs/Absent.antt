@@ -1,27 +1,17 @@
 -- Texts that stand nowhere, since their first byte does not occur.
-use Rattle.std.proofs.Common.{◌≡◌, ◌∙◌, ℕ, zero, suc, ◌≤◌, ◌+◌, ◌-◌, Bool, true, false, List, [], ◌∷◌, length, drop, take, refl, sym, ap, arith}
+use Rattle.std.proofs.Common.{◌≡◌, ◌∙◌, ℕ, zero, suc, ◌≤◌, ◌+◌, ◌-◌, Bool, false, List, [], ◌∷◌, length, drop, take, refl, sym, ap, arith}
 use Rattle.std.specs.Prelude.{◌==◌, ◌||◌, ◌&&◌, nat_eq, slice_index, if◌then◌else◌}
 use Rattle.std.specs.Cmp.Lexicographic.{pointwise}
 use Rattle.std.specs.List.{list_any}
 use Rattle.std.proofs.lemmas.Grind.{common_steps}
 use Rattle.std.proofs.lemmas.List.FromFn.{fill_by_all}
+use Rattle.std.proofs.lemmas.Bool.{or_parts, and_right}
 use Rattle.libhyphen_rule.specs.Words.{digits_beside, is_beside, stands_at}
-
-or_left : (a b : Bool) → (a || b) ≡ false → a ≡ false
-or_left true b h = h
-or_left false b h = refl
-
-or_right : (a b : Bool) → (a || b) ≡ false → b ≡ false
-or_right true b h = absurd-true h
-  where
-    absurd-true : true ≡ false → b ≡ false
-    absurd-true e = grind (arith, common_steps)
-or_right false b h = h
 
 any_dropped : (p : ℕ → Bool) (xs : List ℕ) (n : ℕ) → list_any p xs ≡ false → list_any p (drop n xs) ≡ false
 any_dropped p xs zero h = h
 any_dropped p [] (suc n) h = refl
-any_dropped p (x ∷ xs) (suc n) h = any_dropped p xs n (or_right (p x) (list_any p xs) h)
+any_dropped p (x ∷ xs) (suc n) h = any_dropped p xs n (or_parts (p x) (list_any p xs) h).1
 
 other : (first x : ℕ) → (x == first) ≡ false → nat_eq first x ≡ false
 other first x h = grind (arith, common_steps)
@@ -30,19 +20,15 @@ absent : (first : ℕ) (rest xs : List ℕ) → list_any (λ y. y == first) xs �
     → pointwise nat_eq (first ∷ rest) (take (length (first ∷ rest)) xs) ≡ false
 absent first rest [] h = refl
 absent first rest (x ∷ xs) h =
-    ap (λ b. b && pointwise nat_eq rest (take (length rest) xs)) (other first x (or_left (x == first) _ h))
+    ap (λ b. b && pointwise nat_eq rest (take (length rest) xs)) (other first x (or_parts (x == first) _ h).0)
 
 -- A text whose first byte does not occur stands nowhere.
 pub stands_nowhere : (text : List ℕ) (first : ℕ) (rest : List ℕ) (at : ℕ) → list_any (λ y. y == first) text ≡ false
     → stands_at text at (first ∷ rest) ≡ false
 stands_nowhere text first rest at h = absent first rest (drop at text) (any_dropped (λ y. y == first) text at h)
 
-and_false : (a : Bool) → (a && false) ≡ false
-and_false true = refl
-and_false false = refl
-
 both : (a l b : Bool) → a ≡ false → b ≡ false → (a || (l && b)) ≡ false
-both a l b ea eb = (λ i. ea i || (l && eb i)) ∙ and_false l
+both a l b ea eb = (λ i. ea i || (l && eb i)) ∙ and_right l false refl
 
 -- Such a text neither begins nor ends at a place.
 pub not_beside : (text part : List ℕ) (byte : ℕ) (occurs : Bool) → 1 ≤ length part

@@ -1,8 +1,8 @@
 -- Words of ASCII, in which each byte is a character.
 use Rattle.std.proofs.Common.{◌≡◌, ◌∙◌, ℕ, zero, suc, ◌+◌, ◌<◌, Bool, true, false, List, [], ◌∷◌, ◌++◌, length, map, refl, sym, ap, subst, arith, inl, inr, nat_lt, add-one, zero-add, get_or}
-use Rattle.std.specs.Prelude.{◌||◌, ◌&&◌, ◌==◌, filter, slice_index, slice_index_or, Option, None, is_some, option_map}
+use Rattle.std.specs.Prelude.{◌||◌, ◌==◌, filter, slice_index, slice_index_or, Option, None, is_some, option_map}
 use Rattle.std.specs.List.{list_all, list_any, range_with_len}
-use Rattle.std.proofs.lemmas.Bool.{cases_lt}
+use Rattle.std.proofs.lemmas.Bool.{cases_lt, and_parts, or_right}
 use Rattle.std.proofs.lemmas.Bool.Decides.{nat_tests}
 use Rattle.std.proofs.lemmas.List.FromFn.{fill_by_all, map-range_with_len_more}
 use Rattle.libhyphen_rule.specs.OneLevel.{ChangeAt}
@@ -13,29 +13,17 @@ use Rattle.libhyphen_rule.proofs.WordSteps.{kept_more}
 abbrev pub is_small : ℕ → Bool
 is_small b = nat_lt b 128
 
-and_left : (a b : Bool) → (a && b) ≡ true → a ≡ true
-and_left true b h = refl
-and_left false b h = h
-
-and_right : (a b : Bool) → (a && b) ≡ true → b ≡ true
-and_right true b h = h
-and_right false b h = absurd (cc)
-
 all_at : (p : ℕ → Bool) (xs : List ℕ) (k : ℕ) → list_all p xs ≡ true → k < length xs → p (get_or xs k 0) ≡ true
 all_at p [] k h l = absurd (omega arith)
-all_at p (x ∷ xs) zero h l = and_left (p x) (list_all p xs) h
-all_at p (x ∷ xs) (suc k) h l = all_at p xs k (and_right (p x) (list_all p xs) h) (omega arith)
+all_at p (x ∷ xs) zero h l = (and_parts (p x) (list_all p xs) h).0
+all_at p (x ∷ xs) (suc k) h l = all_at p xs k (and_parts (p x) (list_all p xs) h).1 (omega arith)
 
 small_begins : (b : ℕ) → is_small b ≡ true → begins b ≡ true
 small_begins b h = grind (arith, nat_tests)
 
-or_true : (a : Bool) → (a || true) ≡ true
-or_true true = refl
-or_true false = refl
-
 last : (word : List ℕ) (byte : ℕ) → list_all is_small word ≡ true → byte < length word → is_last word byte ≡ true
 last word byte all l = elim (cases_lt (byte + 1) (length word)) [
-  | inl lt ↦ ap (λ b. (byte + 1 == length word) || b) (small_begins (slice_index word (byte + 1)) (all_at is_small word (byte + 1) all lt)) ∙ or_true _
+  | inl lt ↦ ap (λ b. (byte + 1 == length word) || b) (small_begins (slice_index word (byte + 1)) (all_at is_small word (byte + 1) all lt)) ∙ or_right _ true refl
   | inr le ↦ let e : (byte + 1 == length word) ≡ true = grind (arith, nat_tests) in ap (λ b. b || begins (slice_index word (byte + 1))) e
 ]
 

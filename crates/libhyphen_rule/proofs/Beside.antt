@@ -3,7 +3,7 @@ use Rattle.std.proofs.Common.{◌≡◌, ◌≢◌, ◌∙◌, ◌<◌, ◌+◌,
 use Rattle.std.specs.Prelude.{◌||◌, ◌==◌, slice_index}
 use Rattle.std.specs.List.{list_any}
 use Rattle.std.proofs.lemmas.List.FromFn.{fill_by_all, get_or-map-range_with_len, length-map-range_with_len}
-use Rattle.std.proofs.lemmas.Bool.{eq-eqb, ne_eqb}
+use Rattle.std.proofs.lemmas.Bool.{eq-eqb, ne_eqb, or_right}
 use Rattle.std.proofs.lemmas.Grind.{common_steps}
 use Rattle.std.proofs.lemmas.List.Folds.{list_any-append, list_any_more}
 use Rattle.libhyphen_rule.specs.Words.{digits_beside, is_beside}
@@ -13,7 +13,7 @@ or_none : (b : Bool) → b ≡ (b || false)
 or_none true = refl
 or_none false = refl
 
--- One text is beside a place if some of it alone is.
+-- Some text of a list of one is beside a place where this one is.
 pub digits_beside_one : (part : List ℕ) (instead : ℕ) (text digits new : List ℕ) → length new ≡ length digits
     → ((k : ℕ) → k < length digits
     → slice_index new k ≡ (if is_beside text k part then instead else slice_index digits k))
@@ -60,10 +60,6 @@ pub digits_beside_none : {X : Type 0} (f : X → List ℕ) (parts : List X) (ins
 digits_beside_none f [] instead text digits none = digits_stay [] instead text digits (λ byte. refl)
 digits_beside_none f (part ∷ parts) instead text digits none = absurd (omega arith)
 
-or_true : (b : Bool) → (b || true) ≡ true
-or_true true = refl
-or_true false = refl
-
 at_set : (xs : List Bool) (i k : ℕ) (w : Bool) → i < length xs → (k ≡ i → true ≡ w) → (k ≢ i → get_or xs k false ≡ w)
     → get_or (set xs i true) k false ≡ w
 at_set xs i k w h same other = grind (arith, common_steps)
@@ -79,7 +75,7 @@ occurring_more occurs text i within fits b before =
     let more : list_any (λ y. y == b) (take (i + 1) text) ≡ (so_far || (byte == b))
     = list_any_more (λ y. y == b) text i 0 within in
     at_set occurs byte b _ fits
-    (λ same. sym (more ∙ ap (λ (c : Bool). so_far || c) (eq-eqb byte b (sym same)) ∙ or_true so_far))
+    (λ same. sym (more ∙ ap (λ (c : Bool). so_far || c) (eq-eqb byte b (sym same)) ∙ or_right so_far true refl))
     (λ other. before
     ∙ or_none so_far
     ∙ ap (λ (c : Bool). so_far || c) (sym (ne_eqb byte b (λ same. other (sym same))))

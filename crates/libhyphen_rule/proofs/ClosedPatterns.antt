@@ -1,15 +1,16 @@
--- Closed patterns give, by the longest beginnings alone, the digits that all of them give.
-use Rattle.std.proofs.Common.{◌≡◌, ◌⊎◌, ◌==◌, ℕ, zero, suc, inl, inr, ◌+◌, ◌-◌, ◌<◌, ◌≤◌, max, nat_cmp, nat_eq, Bool, true, false, cond, List, [], ◌∷◌, ◌++◌, length, map, take, drop, get_or, filter, fold, slice_range, Option, None, Some, is_some, refl, sym, ap, subst, ◌∙◌, arith}
+-- Closed patterns give, only by the longest beginnings, the digits that all of them give.
+use Rattle.std.proofs.Common.{◌≡◌, ◌⊎◌, ◌==◌, ℕ, zero, suc, inl, inr, ◌+◌, ◌-◌, ◌<◌, ◌≤◌, max, nat_cmp, nat_eq, Bool, true, false, cond, List, [], ◌∷◌, ◌++◌, length, map, take, drop, get_or, filter, fold, slice_range, Option, None, Some, is_some, refl, sym, ap, subst, ◌∙◌, arith, true≢false}
 use Rattle.std.specs.Prelude.{option_and_then, option_map, slice_get}
 use Rattle.std.specs.Cmp.Lexicographic.{slice_cmp, pointwise, nat_list_eq_equiv, same_text, texts_ties}
 use Rattle.std.specs.Ordering.{eq_by_cmp}
 use Rattle.std.specs.FinMap as finite
-use Rattle.std.specs.List.{cons_option, filter_map, find, flat_map, list_any, range_with_len, starts_with}
-use Rattle.std.proofs.lemmas.Bool.{cases_Bool, cases_eq, cases_lt, eq-eqb, ne_eqb, or_cases, or_left, or_right}
+use Rattle.std.specs.List.{cons_option, filter_map, find, flat_map, range_with_len, starts_with}
+use Rattle.std.proofs.lemmas.Bool.{cases_Bool, cases_eq, cases_lt, eq-eqb, ne_eqb}
 use Rattle.std.proofs.lemmas.Grind.{common_steps}
 use Rattle.std.proofs.lemmas.List.{drop-drop, drop-take, length-drop, length-take, map-append, take_all}
 use Rattle.std.proofs.lemmas.List.Elements.{filter-append}
 use Rattle.std.proofs.lemmas.List.Sums.{fold-append}
+use Rattle.libhyphen_rule.proofs.LongestStart.{any_weaker}
 use Rattle.hyphenation_breaks.specs.Dictionary.{TextMap}
 use Rattle.libhyphen_files.specs.Levels.{pattern_at}
 use Rattle.libhyphen_files.specs.Patterns.{Pattern}
@@ -166,9 +167,6 @@ record FirstFound (test : ℕ → Bool) (o : Option ℕ) (low high : ℕ) : Type
   pub to : at ≤ high
   pub passes : test at ≡ true
 
-true_not_false : (b : Bool) → b ≡ true → b ≡ false → ⊥
-true_not_false b yes' no' = cc
-
 find_within : (test : ℕ → Bool) (a n k : ℕ) → a ≤ k → k < a + n → test k ≡ true → FirstFound test (find test (range_with_len a n)) a k
 find_within test a zero k low high passes = absurd (omega arith)
 find_within test a (suc n) k low high passes = elim (cases_Bool (test a)) [
@@ -180,7 +178,7 @@ find_within test a (suc n) k low high passes = elim (cases_Bool (test a)) [
     passes = here;
   }
   | inr fails ↦ elim (cases_eq k a) [
-    | inl same ↦ absurd (true_not_false (test a) (sym (ap test same) ∙ passes) fails)
+    | inl same ↦ absurd (true≢false (sym (sym (ap test same) ∙ passes) ∙ fails))
     | inr apart ↦
         let later = find_within test (a + 1) n k (omega arith) (omega arith) passes in
         record {
@@ -232,15 +230,6 @@ slice_end frame start later end low high =
 is_key : (o : Option (List Pattern)) (p : Pattern) → option_and_then (λ found. slice_get found 0) o ≡ Some p → is_some o ≡ true
 is_key None p is = cc
 is_key (Some found) p is = refl
-
--- A weaker test passes too.
-any_weaker : {X : Type 0} (one other : X → Bool) → ((x : X) → one x ≡ true → other x ≡ true) → (xs : List X)
-    → list_any one xs ≡ true → list_any other xs ≡ true
-any_weaker one other weaker [] any = any
-any_weaker one other weaker (x ∷ xs) any = elim (or_cases (one x) (list_any one xs) any) [
-  | inl here ↦ or_left (other x) (list_any other xs) (weaker x here)
-  | inr later ↦ or_right (other x) (list_any other xs) (any_weaker one other weaker xs later)
-]
 
 -- A text begins itself.
 begins_itself : (text key : List ℕ) → text ≡ key → starts_with nat_eq key text ≡ true

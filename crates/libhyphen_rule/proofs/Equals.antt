@@ -28,10 +28,6 @@ some_equals text at is = record {
 pub none_equals : (text : List ℕ) → None ≡ position is_equals text → has_equals text ≡ false
 none_equals text is = grind (arith, common_steps, any_is is_equals text, is)
 
--- A test and another one, the first of which is known.
-pub and_none : (a b : Bool) → a ≡ false → false ≡ (a && b)
-and_none a b is = grind arith
-
 pub and_same : (r a b : Bool) → a ≡ true → r ≡ b → r ≡ (a && b)
 and_same r a b is same = grind arith
 

@@ -18,7 +18,7 @@ use Rattle.hyphenation_trie.specs.Trie.{Tree, node_text, entries_of_key, IsTrie,
 use Rattle.libhyphen_files.specs.Patterns.{Pattern}
 use Rattle.libhyphen_rule.specs.Counting.{begins_key, longest_start, Counted, counted_from, counted_if_key, counted_at, counted_up_to}
 use Rattle.libhyphen_files.specs.Vectors.{pattern_of_node}
-use Rattle.libhyphen_rule.proofs.Pass.{root_has_none, some_has_entries}
+use Rattle.libhyphen_rule.proofs.Pass.{some_has_entries}
 
 -- ---- The first number that passes.
 
@@ -41,7 +41,7 @@ find_none test a (suc n) none =
 
 -- ---- Beginnings of keys.
 
-any_weaker : {X : Type 0} (one other : X → Bool) → ((x : X) → one x ≡ true → other x ≡ true) → (xs : List X)
+pub any_weaker : {X : Type 0} (one other : X → Bool) → ((x : X) → one x ≡ true → other x ≡ true) → (xs : List X)
     → list_any one xs ≡ true → list_any other xs ≡ true
 any_weaker one other weaker [] any = any
 any_weaker one other weaker (x ∷ xs) any = elim (or_cases (one x) (list_any one xs) any) [
@@ -155,7 +155,7 @@ module _ (tree : Tree Pattern) (trie : IsTrie tree) where
             let start : longest_start (patterns_of tree) frame end ≡ None =
             find_none (λ k. begins_key (patterns_of tree) (slice_range frame k end)) 0 end (λ k lo hi. none_before k (omega arith)) in
             ap (option_and_then (counted_if_key (patterns_of tree) frame end)) start
-            ∙ ap (option_map (counted_from frame end (end - length (node_text tree node)))) (root_has_none tree node root)
+            ∙ ap (option_map (counted_from frame end (end - length (node_text tree node)))) (sym (ap (λ (k : ℕ). pattern_of_node tree k) root))
         | inr some ↦
             let up = trie.closed node (omega arith) longest.within in
             let long = length-append (node_text tree up.0) (up.1 ∷ []) in

@@ -3,7 +3,7 @@ use Rattle.std.proofs.Common.{◌≡◌, ◌∙◌, ℕ, suc, ◌+◌, ◌<◌, 
 use Rattle.std.specs.Prelude.{◌==◌, ◌||◌, ◌&&◌, not, Result, Ok, Err, IfOk, IfSome, None}
 use Rattle.std.specs.Char.{is_ascii_digit}
 use Rattle.std.specs.List.{list_all, list_any, position_or_len}
-use Rattle.std.proofs.lemmas.Bool.{ne_eqb}
+use Rattle.std.proofs.lemmas.Bool.{ne_eqb, or_parts}
 use Rattle.std.proofs.lemmas.Bool.Decides.{nat_tests}
 use Rattle.std.proofs.lemmas.List.{get_or-take, length-take-le, take_all}
 use Rattle.libhyphen_files.specs.Bytes.{before_nul}
@@ -61,14 +61,6 @@ ordinary_seen rules text all =
 other : (first x : ℕ) → (first == x) ≡ false → (x == first) ≡ false
 other first x h = grind (arith, nat_tests)
 
-left_none : (a b : Bool) → (a || b) ≡ false → a ≡ false
-left_none true b h = h
-left_none false b h = refl
-
-right_none : (a b : Bool) → (a || b) ≡ false → b ≡ false
-right_none true b h = absurd (cc)
-right_none false b h = h
-
 part_absent : (text part : List ℕ) (byte : ℕ) → 0 < length text
     → ((k : ℕ) → k < length text → may_begin_with (get_or text k 0) part ≡ false) → is_beside text byte part ≡ false
 part_absent text [] byte some none = let no : true ≡ false = none 0 some in absurd (cc)
@@ -82,9 +74,9 @@ parts_absent : (parts : List (List ℕ)) (text : List ℕ) (byte : ℕ) → 0 < 
 parts_absent [] text byte some none = refl
 parts_absent (part ∷ parts) text byte some none =
     let here : is_beside text byte part ≡ false = part_absent text part byte some
-    (λ k l. left_none (may_begin_with (get_or text k 0) part) (list_any (may_begin_with (get_or text k 0)) parts) (none k l)) in
+    (λ k l. (or_parts (may_begin_with (get_or text k 0) part) (list_any (may_begin_with (get_or text k 0)) parts) (none k l)).0) in
     let rest : list_any (is_beside text byte) parts ≡ false = parts_absent parts text byte some
-    (λ k l. right_none (may_begin_with (get_or text k 0) part) (list_any (may_begin_with (get_or text k 0)) parts) (none k l)) in
+    (λ k l. (or_parts (may_begin_with (get_or text k 0) part) (list_any (may_begin_with (get_or text k 0)) parts) (none k l)).1) in
     ap (λ b. b || list_any (is_beside text byte) parts) here ∙ rest
 
 -- No text without breaks takes a digit away.

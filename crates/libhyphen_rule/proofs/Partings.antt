@@ -1,5 +1,5 @@
 -- Texts that are parted.
-use Rattle.std.proofs.Common.{◌≡◌, ℕ, ◌+◌, ◌-◌, ◌<◌, zero, suc, Bool, true, false, List, [], ◌∷◌, ◌++◌, map, length, Option, None, Some, get_or, cond, refl, sym, ap, ◌∙◌, add-one, add-zero, zero-add, arith, nat_lt, Result, Ok, Err, IfOk}
+use Rattle.std.proofs.Common.{◌≡◌, ℕ, ◌+◌, ◌-◌, ◌<◌, zero, suc, Bool, true, false, List, [], ◌∷◌, ◌++◌, map, length, Option, None, Some, get_or, cond, refl, sym, ap, ◌∙◌, nat_lt, Result, Ok, Err, IfOk}
 use Rattle.std.specs.List.{range_with_len, list_any, filter, fold}
 use Rattle.std.proofs.lemmas.List.{length-map, get_or-map}
 use Rattle.std.proofs.lemmas.List.Elements.{filter-append}
@@ -9,6 +9,8 @@ use Rattle.libhyphen_rule.specs.OneLevel.{ChangeAt, is_odd}
 use Rattle.libhyphen_rule.specs.Found.{placed, placed_all}
 use Rattle.libhyphen_rule.specs.declared.one_level.PlacedChange.{PlacedChange}
 use Rattle.std.specs.Option.{option_map}
+use Rattle.std.proofs.lemmas.List.Sums.{fold-append}
+use Rattle.libhyphen_rule.proofs.WordSteps.{range_more}
 use Rattle.libhyphen_rule.specs.Parts.{Asked, Asking, Found, PartMinima, Parting, Texts, ask_by, ask_none, asked_of, ends_part, found_below, found_by_top, found_in, part_asked, part_text, parted_up_to, seen_after, some_change, top_found, with_part, with_part_to}
 
 -- How parts are asked at a depth.
@@ -35,15 +37,6 @@ pub asked_none_left : (rules : Rules) (minima : PartMinima) (depth parts : ℕ) 
 asked_none_left rules minima zero parts asked h = refl
 asked_none_left rules minima (suc depth) parts asked h = ap (λ d. ask_by (found_in rules minima depth) d asked) h
 
-range_suc : (a n : ℕ) → range_with_len a (suc n) ≡ range_with_len a n ++ (a + n) ∷ []
-range_suc a zero = ap (λ k. k ∷ []) (sym (add-zero a))
-range_suc a (suc n) =
-    let e : (a + 1) + n ≡ a + suc n = omega arith in
-    ap (λ xs. a ∷ xs) (range_suc (a + 1) n ∙ ap (λ k. range_with_len (a + 1) n ++ k ∷ []) e)
-
-range_more : (n : ℕ) → range_with_len 0 (n + 1) ≡ range_with_len 0 n ++ n ∷ []
-range_more n = ap (range_with_len 0) (add-one n) ∙ range_suc 0 n ∙ ap (λ k. range_with_len 0 n ++ k ∷ []) (zero-add n)
-
 filter_range_more : (p : ℕ → Bool) (n : ℕ) (b : Bool) → p n ≡ b → filter p (range_with_len 0 (n + 1)) ≡ filter p (range_with_len 0 n) ++ cond b (n ∷ []) []
 filter_range_more p n b is =
     ap (filter p) (range_more n) ∙ filter-append p (range_with_len 0 n) (n ∷ [])
@@ -52,10 +45,6 @@ filter_range_more p n b is =
 pub append_none : {A : Type 0} (xs : List A) → xs ++ [] ≡ xs
 append_none [] = refl
 append_none (x ∷ xs) = ap (λ ys. x ∷ ys) (append_none xs)
-
-fold_append : {A B : Type 0} (f : B → A → B) (b : B) (xs ys : List A) → fold f b (xs ++ ys) ≡ fold f (fold f b xs) ys
-fold_append f b [] ys = refl
-fold_append f b (x ∷ xs) ys = fold_append f (f b x) xs ys
 
 pub parted_none : (ask : Asking) (whole : Asked) (found : Found) (seen : List ℕ) → seen ≡ map shown whole.text →
     parted_up_to ask whole found 0 ≡ record { found = found; begin = 0; seen = seen }
@@ -77,7 +66,7 @@ unfolding parted_up_to
 parted_at ask whole found byte p ends before =
     let start : Parting = record { found = found; begin = 0; seen = map shown whole.text } in
     ap (fold (with_part_to ask whole) start) (filter_range_more (ends_part found.digits) byte true ends)
-    ∙ fold_append (with_part_to ask whole) start (filter (ends_part found.digits) (range_with_len 0 byte)) (byte ∷ [])
+    ∙ fold-append (with_part_to ask whole) start (filter (ends_part found.digits) (range_with_len 0 byte)) (byte ∷ [])
     ∙ ap (λ q. with_part_to ask whole q byte) before
 
 -- A part of less than 3 bytes ends behind a byte.

@@ -9,10 +9,6 @@ use Rattle.hyphenation_trie.specs.Trie.{Tree, node_text, entries_of_key, IsTrie}
 use Rattle.libhyphen_files.specs.Patterns.{Pattern, first_place}
 use Rattle.libhyphen_files.specs.Vectors.{pattern_of_node}
 
--- The root has no pattern.
-pub root_has_none : (tree : Tree Pattern) (node : ℕ) → node ≡ 0 → None ≡ pattern_of_node tree node
-root_has_none tree node is = sym (ap (λ (k : ℕ). pattern_of_node tree k) is)
-
 pub some_has_entries : (tree : Tree Pattern) (node : ℕ) → node ≢ 0
     → option_and_then (λ found. slice_get found 0) (entries_of_key tree (node_text tree node)) ≡ pattern_of_node tree node
 some_has_entries tree node some =
@@ -22,7 +18,7 @@ some_has_entries tree node some =
 pub some_has_text : (tree : Tree Pattern) → IsTrie tree → (node : ℕ) (p : Pattern) → Some p ≡ pattern_of_node tree node → node < length tree.texts
     → 0 < length (node_text tree node)
 some_has_text tree trie node p some within = elim (cases_eq node 0) [
-  | inl root ↦ let none = some ∙ sym (root_has_none tree node root) in absurd cc
+  | inl root ↦ let none = some ∙ ap (λ (k : ℕ). pattern_of_node tree k) root in absurd cc
   | inr apart ↦
       let up = trie.closed node (omega arith) within in
       omega (arith, ap length up.3, length-append (node_text tree up.0) (up.1 ∷ []))

@@ -17,7 +17,7 @@ use Rattle.libhyphen_rule.specs.declared.one_level.PlacedChange.{PlacedChange}
 within_none : (b k : ℕ) → is_within b 0 k ≡ false
 within_none b k = grind (arith, nat_tests)
 
-within_before : (b j k : ℕ) → b + j ≤ k → is_within b j k ≡ false
+pub within_before : (b j k : ℕ) → b + j ≤ k → is_within b j k ≡ false
 within_before b j k h = grind (arith, nat_tests)
 
 within_more : (b j k : ℕ) → k ≢ b + j → is_within b j k ≡ is_within b (j + 1) k

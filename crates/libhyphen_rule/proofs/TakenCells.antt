@@ -54,7 +54,7 @@ module _ (counted : List Counted) (given : List Offer) (o : Offer) (places at : 
       let less : digit_at given at < o.digit = subst (λ (k : ℕ). digit_at given k < o.digit) (sym here) raises in
       sym (digit_raised given o at (sym here) ∙ omega arith)
 
-  -- An even one that is greater raises the digit alone.
+  -- An even one that is greater raises only the digit.
   pub cell_raised : digit_at given o.place < o.digit → is_odd o.digit ≡ false
       → IsCell counted (given ++ o ∷ []) places at (with_digit o.digit (at == o.place) cell)
   cell_raised raises even =

@@ -1,9 +1,10 @@
 -- Words without changes: their minima, and their answers.
 use Rattle.std.proofs.Common.{◌≡◌, ◌∙◌, ℕ, Bool, true, false, cond, List, [], ◌∷◌, ◌++◌, length, map, take, get_or, Option, None, Some, refl, sym, ap, arith, inl, inr}
 use Rattle.std.specs.Prelude.{ℤ, ◌&&◌, replicate, slice_index, slice_index_or, option_map}
-use Rattle.std.proofs.lemmas.Bool.{cases_lt}
+use Rattle.std.proofs.lemmas.Bool.{cases_lt, and_right}
 use Rattle.std.proofs.lemmas.List.{get_or-replicate, get_or_past, length-map, length-replicate}
 use Rattle.std.proofs.lemmas.List.FromFn.{fill_by_all, length-map-range_with_len}
+use Rattle.libhyphen_rule.proofs.ForbiddenPlaces.{digits_but-length}
 use Rattle.libhyphen_files.specs.Bytes.{continues}
 use Rattle.libhyphen_files.specs.Files.{Rules}
 use Rattle.libhyphen_rule.specs.Calls.{Answer, answer_of, answer_of_found, begins_within, changes_in_characters, digits_kept, found_by_call, plain_answer}
@@ -17,7 +18,7 @@ use Rattle.libhyphen_rule.specs.declared.calls.CallAnswer.{CallAnswer}
 use Rattle.libhyphen_rule.specs.declared.calls.CallMinima.{CallMinima}
 use Rattle.libhyphen_rule.specs.declared.one_level.PlacedChange.{PlacedChange}
 
--- The changes of so many places that have none.
+-- The changes of a number of places that have none.
 abbrev no_changes : ℕ → List (Option ChangeAt)
 no_changes places = replicate places None
 
@@ -50,16 +51,13 @@ none_but goes places =
     sym (fill_by_all (λ byte. cond (goes byte) None (slice_index_or (no_changes places) byte None)) (no_changes places) (length (no_changes places)) None
     refl (λ byte below. none_at places byte ∙ either_none (goes byte) (slice_index_or (no_changes places) byte None) (none_at places byte)))
 
-digits_but_length : (goes : ℕ → Bool) (digits : List ℕ) → length (digits_but goes digits) ≡ length digits
-digits_but_length goes digits = length-map-range_with_len _ 0 (length digits)
-
 unchanged_but : (goes : List (Option ChangeAt) → ℕ → Bool) (found : Found) (digits fewer : List ℕ)
     → IsUnchanged found digits
     → ((places : ℕ) → goes [] ≡ goes (no_changes places)) → fewer ≡ digits_but (goes []) digits
     → IsUnchanged (record found { digits = digits_but (goes found.changes) found.digits; changes = changes_but (goes found.changes) found.changes }) fewer
 unchanged_but goes found digits fewer is same less =
     let at : goes found.changes ≡ goes [] = ap goes is.no_changes ∙ sym (same (length digits)) in
-    let long : length digits ≡ length fewer = sym (ap (λ xs. length xs) less ∙ digits_but_length (goes []) digits) in record {
+    let long : length digits ≡ length fewer = sym (ap (λ xs. length xs) less ∙ digits_but-length (goes []) digits) in record {
       digits_are = ap (λ (g : ℕ → Bool). digits_but g found.digits) at ∙ ap (digits_but (goes [])) is.digits_are
           ∙ sym less;
       no_changes = ap (changes_but (goes found.changes)) is.no_changes ∙ none_but (goes found.changes) (length digits)
@@ -83,7 +81,7 @@ unchanged_right utf8 least word text found digits fewer is less =
 
 -- ---- Answers.
 
--- As many changes as places are told as they are.
+-- As many changes as places are returned as they are.
 same_places : (places : ℕ) (changes : List (Option PlacedChange)) → length changes ≡ places
     → placed_or_none places changes ≡ placed_all changes
 same_places places [] long = ap no_changes (sym long)
@@ -111,7 +109,7 @@ none_of_characters word text digits places =
     (λ byte. get_or digits byte 0) (last_bytes word)
     (λ byte. ap (option_map (change_in_characters text byte)) (none_at places byte))
 
--- An answer is told with the changes of its list, or with none.
+-- An answer is returned with the changes of its list, or with none.
 view_with : (answer : CallAnswer) (digits : List ℕ) (changes : List (Option ChangeAt)) (made : Bool)
     → answer.digits.items ≡ digits
     → placed_all answer.changes.items ≡ changes → answer.made ≡ made → length changes ≡ length digits
@@ -133,13 +131,9 @@ view_none answer digits made d e m =
 pub whole_of_bytes : (rules : Rules) (text : List ℕ) → rules.utf8 ≡ false → begins_within rules text ≡ false
 whole_of_bytes rules text bytes = ap (λ b. b && continues (slice_index text 0)) bytes
 
-and_false : (a : Bool) → (a && false) ≡ false
-and_false true = refl
-and_false false = refl
-
 pub whole_of_utf8 : (rules : Rules) (text : List ℕ) → continues (slice_index text 0) ≡ false
     → begins_within rules text ≡ false
-whole_of_utf8 rules text begins = ap (λ b. rules.utf8 && b) begins ∙ and_false rules.utf8
+whole_of_utf8 rules text begins = ap (λ b. rules.utf8 && b) begins ∙ and_right rules.utf8 false refl
 
 -- A word that begins with a whole character has an answer.
 some_answer : (rules : Rules) (given : Option CallMinima) (text : List ℕ) (size : ℕ) → begins_within rules text ≡ false
@@ -186,7 +180,7 @@ unchanged_is rules given text size first digits answer whole is same tells none 
     ∙ unchanged_by rules.utf8 text size found first digits kept answer.digits.items is same_kept long tells)
     ∙ some_answer rules given text size whole
 
--- The same, by the digits alone.
+-- The same, only by the digits.
 pub plain_is : (rules : Rules) (given : Option CallMinima) (text : List ℕ) (size : ℕ) (first digits told : List ℕ)
     → begins_within rules text ≡ false → IsUnchanged (found_by_call rules given text size) first
     → digits ≡ digits_kept rules given text first

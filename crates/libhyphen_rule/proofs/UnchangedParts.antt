@@ -2,7 +2,7 @@
 use Rattle.std.proofs.Common.{◌≡◌, ℕ, zero, suc, ◌+◌, ◌-◌, ◌<◌, ◌≤◌, Bool, true, false, cond, List, [], ◌∷◌, ◌++◌, map, length, get_or, set, take, replicate, Option, None, Some, refl, sym, ap, subst, ◌∙◌, arith, drop, inl, inr, nat_lt, ◌||◌, ◌==◌, ℤ}
 use Rattle.std.specs.Char.{is_ascii_digit}
 use Rattle.std.specs.List.{range_with_len, list_any}
-use Rattle.std.proofs.lemmas.Bool.{cases_eq, cases_lt}
+use Rattle.std.proofs.lemmas.Bool.{cases_eq, cases_lt, or_parts}
 use Rattle.std.proofs.lemmas.Bool.Decides.{nat_tests}
 use Rattle.std.specs.Option.{option_or}
 use Rattle.std.proofs.lemmas.List.{drop-map, get_or-append_right, get_or-drop, get_or-set_other, get_or-set_same, get_or-take, get_or_append_left, get_or_default, length-drop, length-replicate, length-set, length-take-le, set-get_or, take-map}
@@ -18,7 +18,7 @@ use Rattle.libhyphen_rule.specs.OneLevel.{ChangeAt, is_odd, level_changes, level
 use Rattle.libhyphen_rule.specs.Parts.{Asked, Asking, Found, PartMinima, Parting, below_found, change_with, changes_with, digit_with, digits_with, ends_part, found_below, found_in, is_within, part_text, parted_up_to, seen_after, some_change, top_found, with_behind, with_part, without_left_of_part, without_right_of_part, word_found}
 use Rattle.libhyphen_rule.specs.Private.Unchanged.{HasNoDigits, IsUnchanged}
 use Rattle.libhyphen_rule.specs.Private.UnchangedParts.{found_unchanged, part_unchanged}
-use Rattle.libhyphen_rule.proofs.PlacesOfParts.{map_range_agree}
+use Rattle.libhyphen_rule.proofs.PlacesOfParts.{map_range_agree, within_before}
 use Rattle.libhyphen_rule.proofs.WordsFound.{below_alone, below_whole, left_of, put_of, right_of, seen_set, top_of}
 use Rattle.libhyphen_rule.proofs.Partings.{append_none, found_whole, parted_asked}
 
@@ -225,9 +225,6 @@ within_part b n k low lt = grind (arith, nat_tests)
 before_part : (b n k : ℕ) → k < b → is_within b n k ≡ false
 before_part b n k lt = grind (arith, nat_tests)
 
-behind_part : (b n k : ℕ) → b + n ≤ k → is_within b n k ≡ false
-behind_part b n k far = grind (arith, nat_tests)
-
 -- A part's digits are in their places, and its last two places have those of the whole again.
 abbrev pub put_back : List ℕ → List ℕ → ℕ → ℕ → List ℕ
 put_back now part begin byte =
@@ -261,18 +258,18 @@ put_back-is now part begin byte long le within =
     (λ k lt. elim (cases_eq k byte) [
       | inl same ↦
           ap (λ j. get_or (put_back now part begin byte) j 0) same ∙ get_or-set_same second byte (get_or now byte 0) 0 (omega (arith, second_long))
-          ∙ ap (λ j. get_or now j 0) (sym same) ∙ kept k (behind_part begin count k (omega arith))
+          ∙ ap (λ j. get_or now j 0) (sym same) ∙ kept k (within_before begin count k (omega arith))
       | inr other ↦ get_or-set_other second byte k (get_or now byte 0) 0 other ∙ elim (cases_eq k (byte - 1)) [
         | inl same ↦
             ap (λ j. get_or second j 0) same ∙ get_or-set_same first (byte - 1) (get_or now (byte - 1) 0) 0 (omega (arith, first_long))
-            ∙ ap (λ j. get_or now j 0) (sym same) ∙ kept k (behind_part begin count k (omega arith))
+            ∙ ap (λ j. get_or now j 0) (sym same) ∙ kept k (within_before begin count k (omega arith))
         | inr apart ↦ get_or-set_other first (byte - 1) k (get_or now (byte - 1) 0) 0 apart ∙ elim (cases_lt k begin) [
           | inl low ↦ put_before now part begin (byte + 1) k (omega arith) low ∙ kept k (before_part begin count k low)
           | inr high ↦ elim (cases_lt k byte) [
             | inl in' ↦
                 put_within now part begin (byte + 1) k 48 (omega arith) high (omega arith)
                 ∙ sym (ap (λ b. cond b (get_or part (k - begin) 48) (get_or now k 0)) (within_part begin count k high (omega arith)))
-            | inr far ↦ put_behind now part begin (byte + 1) k (omega arith) (omega arith) long (omega arith) ∙ kept k (behind_part begin count k (omega arith))
+            | inr far ↦ put_behind now part begin (byte + 1) k (omega arith) (omega arith) long (omega arith) ∙ kept k (within_before begin count k (omega arith))
           ]
         ]
       ]
@@ -280,19 +277,11 @@ put_back-is now part begin byte long le within =
 
 -- ---- Words without digits.
 
-neither_first : (a b : Bool) → (a || b) ≡ false → a ≡ false
-neither_first true b h = h
-neither_first false b h = refl
-
-neither_second : (a b : Bool) → (a || b) ≡ false → b ≡ false
-neither_second true b h = cc
-neither_second false b h = h
-
 pub no_digits : (word : List ℕ) → list_any is_ascii_digit word ≡ false → HasNoDigits word
 no_digits [] none = refl
 no_digits (b ∷ bs) none =
-    ap (λ t. cond t 46 b ∷ map shown bs) (neither_first (is_ascii_digit b) (list_any is_ascii_digit bs) none)
-    ∙ ap (λ xs. b ∷ xs) (no_digits bs (neither_second (is_ascii_digit b) (list_any is_ascii_digit bs) none))
+    ap (λ t. cond t 46 b ∷ map shown bs) (or_parts (is_ascii_digit b) (list_any is_ascii_digit bs) none).0
+    ∙ ap (λ xs. b ∷ xs) (no_digits bs (or_parts (is_ascii_digit b) (list_any is_ascii_digit bs) none).1)
 
 -- The same minima and the same digits in other words.
 pub word_unchanged_is : (rules : Rules) (left left' right right' : ℤ) (word behind digits digits' : List ℕ) → left ≡ left' → right ≡ right' → digits' ≡ digits

@@ -36,7 +36,7 @@ pub record Mark : Type 0 where
   pub behind : ℕ
   pub text : List ℕ
 
--- The mark of the place behind the byte of a number: the text of the change, or an equals sign in the place of no byte.
+-- The mark of the place behind the byte of a number: the text of the change; or an equals sign in the place of no byte.
 abbrev pub mark_of : ℕ → Option ChangeAt → Mark
 mark_of number None = record { place = number + 1; before = 0; behind = 0; text = equals_sign ∷ [] }
 mark_of number (Some change) = record {

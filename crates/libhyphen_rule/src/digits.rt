@@ -45,7 +45,7 @@ fn raise_all(digits: &mut [u8], start: usize, given: &[u8])
     }
 }
 
-// Returns the digits that a pattern gives, at most that many; none if it changes letters and such patterns are asked
+// Returns the digits that a pattern gives, at most that many; none if it changes letters and these patterns are asked
 // for none.
 #[inline(always)]
 fn digits_given(pattern: &StoredPattern, most: usize, plain: bool) -> &[u8]

@@ -17,8 +17,8 @@ pub fn no_letter_is_lost()
     ensures { NoLetterIsLost }
 {}
 
-/// No break is at a place with too few letters before it or behind it by the minima of a call, unless a change is
-/// there. None is beside a text without breaks.
+/// No break without a change has fewer letters before it or behind it than the minima of a call ask for.
+/// None is beside a text without breaks.
 pub fn forbidden_places_are_even()
     ensures { ForbiddenPlacesAreEven }
 {}

@@ -50,7 +50,7 @@ fn occurring(text: &[u8]) -> [bool; 256]
     occurs
 }
 
-// Reports whether a text may begin or end at a place of a word: its first byte is one of those that occur in the word.
+// Reports whether a text may begin or end at a place of a word. It may if its first byte occurs in the word.
 #[inline(always)]
 fn may_stand(part: &[u8], occurs: &[bool; 256]) -> bool
     ensures { result ≡ false → (text : List ℕ) → AreOccurring occurs.now text

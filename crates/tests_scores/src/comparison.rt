@@ -395,7 +395,7 @@ fn compare_words<K: Kind>(
     Ok(())
 }
 
-// Compares words by a random dictionary. Its owned values live here alone, where there are few ways out.
+// Compares words by a random dictionary. Its owned values live only here, where there are few ways out.
 fn compare_dictionary<K: Kind>(
     alloc: Global,
     random: &mut Random,
@@ -462,7 +462,7 @@ fn edit_long_word<K: Kind>(
 }
 
 // Compares words of 62 to 67 bytes, those of 64 and 65 bytes also after an edit. Words of more than 64 bytes take
-// another path than shorter ones, and so do words of more than 62 bytes where an extended dictionary has a table.
+// another path than shorter ones. So do words of more than 62 bytes where an extended dictionary has a table.
 fn compare_long_words<K: Kind>(
     alloc: Global,
     random: &mut Random,

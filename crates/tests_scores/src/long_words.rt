@@ -9,8 +9,8 @@ use test_support::{expect, repeated};
 // Ten dots and a letter: each dot of a word of dots begins this key, or continues it.
 const DOTS: &str = "p ..........1a\n";
 
-// Each row has its sentence, the lines of a text, a piece of the word with its number, and values with their number and
-// the last ones.
+// Each row has its sentence, the lines of a text, and a piece of the word with its number. Then come values with their
+// number, and the last ones.
 const LONG: &[(&str, &str, (&str, usize), (&str, usize, &str))] = &[
     // 9,999 places: 4,999 pairs and the last one.
     (

@@ -45,8 +45,8 @@ pub fn expect_look_ups(
     expect_equal_in(shows, &count.reported(), &reported)
 }
 
-// Each row has its sentence, the heads of texts, their other lines, a word, the least and the greatest number of
-// look-ups, and the number of reports. The frame has two bytes more than the word, and each takes one look-up or two.
+// Each row has its sentence, the heads of texts, their other lines, and a word. Then come the least and the greatest number
+// of look-ups, and the number of reports. The frame has two bytes more than the word, and each takes one look-up or two.
 const LOOK_UPS: &[(&str, &[&str], &str, &str, u128, u128, u128)] = &[
     (
         "six keys that occur are reported once each",

@@ -1,5 +1,5 @@
-//! Tests of words: the breaks and segments of usual, unusual and long words by dictionaries of both kinds, exceptions,
-//! changes, and dictionaries that are read from texts and files. No clause says what they show.
+//! Tests of words: the breaks and segments of usual, unusual and long words by dictionaries of both kinds. Others are of
+//! exceptions, changes, and dictionaries that are read from texts and files. No clause says what they show.
 #![tactic(auto)]
 
 #[cfg(test)]

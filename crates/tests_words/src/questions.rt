@@ -39,8 +39,7 @@ pub enum Question<'q> {
     Minima,
 }
 
-/// A row of a table: a sentence of what it shows, the minima and the lines of a dictionary, a question to it, and the
-/// answer.
+/// A row of a table: a sentence of what it shows, the minima and the lines of a dictionary, a question, and the answer.
 pub type Row = (
     &'static str,
     &'static str,

@@ -42,7 +42,7 @@ attach-append : (b : Bool) (x p : List ℕ) (ps qs : List (List ℕ)) → attach
 attach-append true x p ps qs = refl
 attach-append false x p ps qs = refl
 
--- Characters are cut at a bound, and on each side of it alone.
+-- Characters are cut at a bound, and each side by itself.
 cut-split : (rule : Rule) (before cs ds after : List ℕ) → rule (onto cs before) (ds ++ after) ≡ true
     → cut rule before (cs ++ ds) after ≡ cut rule before cs (ds ++ after) ++ cut rule (onto cs before) ds after
 unfolding cut

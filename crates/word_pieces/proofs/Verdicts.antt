@@ -1,6 +1,7 @@
 -- Where two kinds of characters have a bound between them.
 
 use Rattle.std.proofs.Common.{◌≡◌, ℕ, Bool, true, false, cond, not, ◌&&◌, ◌||◌, List, ◌∷◌, arith, Option, Some, None, unwrap_or, refl, sym, ap, ap₂, ◌∙◌}
+use Rattle.std.proofs.lemmas.Bool.{not-true}
 use Rattle.ucd_breaks.specs.WordBreak.{word_break}
 use Rattle.ucd_breaks.specs.declared.WordBreak.{WordBreak}
 use Rattle.ucd_emoji.specs.Binary.{is_extended_pictographic}
@@ -18,10 +19,6 @@ if_near v test = cond (is_near (kind_of_value v)) test true
 
 near-ok : (v : WordBreak) (test : Bool) → if_near v test ≡ true → is_near (kind_of_value v) ≡ true → test ≡ true
 near-ok v test ok near = sym (ap (λ b. cond b test true) near) ∙ ok
-
-not-true : (x : Bool) → not x ≡ true → x ≡ false
-not-true true e = sym e
-not-true false e = refl
 
 pub near-kept : (v : WordBreak) → is_near (kind_of_value v) ≡ true → is_ignored v ≡ false
 unfolding every
@@ -92,8 +89,8 @@ pub verdict-near : (last next : Kind) (answer : Bool) → verdict last next ≡ 
 verdict-near last Beyond answer decided = let none = verdict-Beyond last in cc
 verdict-near last _ answer decided = refl
 
--- The value is that of a letter, a number or the underscore, and the second that of a character which joins only between
--- two of these.
+-- The first value is that of a letter, a number or the underscore. The second is that of a character which joins only
+-- between two of these.
 abbrev is_letter_and_middle : Kind → Kind → Bool
 is_letter_and_middle Letter Middle = true
 is_letter_and_middle _ _ = false

@@ -60,7 +60,7 @@ const BOUND: Option<bool> = Some(true);
 
 const JOINT: Option<bool> = Some(false);
 
-// Whether there is a bound between characters of two kinds, or `None` where these alone don't decide it.
+// Whether there is a bound between characters of two kinds, or `None` where these don't decide it.
 #[inline(always)]
 pub(crate) fn verdict(last: Kind, next: Kind) -> Option<bool>
     ensures { result ≡ verdict last next }

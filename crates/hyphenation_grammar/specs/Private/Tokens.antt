@@ -19,7 +19,7 @@ abbrev pub IsSplit : ℕ → List ℕ → List ℕ → List ℕ → Type 0
 IsSplit commas text before after =
     (0 < commas) × (parts_within commas text ≡ before ∷ parts_within (commas - 1) after)
 
--- Each part can be read; `\e` may be after the fourth comma alone.
+-- Each part can be read; `\e` may be only after the fourth comma.
 abbrev pub are_readable : List (List ℕ) → Bool
 are_readable parts =
     list_all (λ written. is_some (escaped_bytes_of Plain written)) (take 4 parts)

@@ -17,7 +17,7 @@ is_common_pair first second =
     || (first == 0xC3 && (nat_le 0x9F second && nat_le second 0xBF)))
     || (first == 0xC5 && (second == 0x91 || second == 0xB1))
 
--- The bytes encode common lowercase letters alone.
+-- The bytes encode only common lowercase letters.
 abbrev pub are_common_lowercase : List ℕ → Bool
 are_common_lowercase [] = true
 are_common_lowercase (first ∷ []) = is_ascii_lowercase first

@@ -23,7 +23,7 @@ fn are_letters(firsts: u8x16, seconds: u8x16) -> bool
     (!(early | late)).to_bitmask() == 0
 }
 
-// Whether a word of 16 to 32 bytes has such letters alone. The word may have others where the result is false.
+// Whether a word of 16 to 32 bytes has only these letters. The word may have others where the result is false.
 #[inline(always)]
 fn has_letters_alone_by_16(word: &[u8]) -> bool
     requires even { length word.now % 2 ≡ 0 }
@@ -45,7 +45,7 @@ fn has_letters_alone_by_16(word: &[u8]) -> bool
     )
 }
 
-// Whether a word of 8 to 16 bytes has such letters alone. Each pair is put into two lanes.
+// Whether a word of 8 to 16 bytes has only these letters. Each pair is put into two lanes.
 #[inline(always)]
 fn has_letters_alone_by_8(word: &[u8]) -> bool
     requires even { length word.now % 2 ≡ 0 }
@@ -61,7 +61,7 @@ fn has_letters_alone_by_8(word: &[u8]) -> bool
     )
 }
 
-// Whether a word is known to have such letters alone. Most such words have 8 to 32 bytes. Most other words begin with a
+// Whether a word is known to have only these letters. Most of these words have 8 to 32 bytes. Most other words begin with a
 // lesser byte, so that the vectors cost them nothing.
 #[inline(always)]
 pub(super) fn has_cyrillic_letters_alone(word: &[u8]) -> bool

@@ -374,7 +374,7 @@ fn breaks_of_short<'h, F: BreakKind<'h>>(
     F::keep_fitting(folded, &[], list)
 }
 
-// Whether a word is one byte of ASCII, which the minima leave whole. Half of the pieces of a text are such: spaces, commas
+// Whether a word is one byte of ASCII, which the minima leave whole. Half of the pieces of a text are: spaces, commas
 // and other marks.
 #[inline(always)]
 fn is_whole_byte<'h, F: BreakKind<'h>>(
@@ -393,7 +393,7 @@ fn is_whole_byte<'h, F: BreakKind<'h>>(
 
 // Puts the breaks of a word as written into an empty list, by the fastest path for its letters.
 //
-// Most words have lowercase letters alone, which fold to themselves, or are ASCII. Such words have no soft hyphens, and
+// Most words have only lowercase letters, which fold to themselves, or are ASCII. Such words have no soft hyphens, and
 // their folding moves no place.
 #[inline(always)]
 fn breaks_by_path<'h, F: BreakKind<'h>>(

@@ -46,7 +46,7 @@ abbrev pub item_cause : Form → List ℕ → Option Cause
 item_cause form line =
     find (fails form 4 line) (Token ∷ BadValue ∷ TwoValues ∷ NoLetters ∷ Number ∷ Place ∷ Change ∷ [])
 
--- The result of reading a `p` or `e` line: the item that it spells, with a pattern's key and entries, or the first of these
+-- The result of reading a `p` or `e` line: the item that it spells, with a pattern's key and entries; or the first of these
 -- tests that it fails.
 abbrev pub ReturnsItem : {C B : Type 0} → Form → (Option Changed → C) → (Break → B) → List ℕ → List (Entry C) → List ℕ
     → Result (Item B) Cause → Type 0
@@ -88,7 +88,7 @@ places_cause text later =
 abbrev pub suits_form : Form → List ℕ → ℕ → Changed → Bool
 suits_form form text place change = is_extended form.kind && keeps_within text place change
 
--- A `p` line lists changes alone, each at the place of a value.
+-- A `p` line lists only changes, each at the place of a value.
 abbrev pub suits_key : Form → List ℕ → List (ℕ × ℕ) → ℕ × Option Changed → Bool
 suits_key form key values (place, None) = false
 suits_key form key values (place, Some change) = suits_form form key place change && list_any (λ v. v.0 == place) values

@@ -1,5 +1,5 @@
 -- The facts that are known of the nodes of a trie while a table is made of it.
-use Rattle.std.specs.Prelude.{◌≡◌, ℕ, ◌+◌, ◌*◌, ◌/◌, ◌%◌, ◌<◌, ◌≤◌, ◌==◌, max, List, [], ◌∷◌, ◌++◌, length, filter, slice_index, slice_index_or, Some}
+use Rattle.std.specs.Prelude.{◌≡◌, ℕ, ◌+◌, ◌*◌, ◌<◌, ◌≤◌, ◌==◌, max, List, [], ◌∷◌, ◌++◌, length, filter, slice_index, slice_index_or, Some}
 use Rattle.hyphenation_breaks.specs.Dictionary.{Patterns}
 use Rattle.hyphenation_breaks.specs.Ranks.{greatest_rank}
 use Rattle.hyphenation_breaks.specs.declared.entry.Entry.{Entry}

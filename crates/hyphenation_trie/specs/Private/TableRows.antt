@@ -2,6 +2,7 @@
 use Rattle.std.specs.Prelude.{◌≡◌, ◌≢◌, ◌==◌, ℕ, zero, suc, ◌+◌, ◌*◌, ◌-◌, ◌^◌, ◌<◌, ◌≤◌, ◌⊎◌, if◌then◌else◌, Bool, true, false, List, [], ◌∷◌, ◌++◌, length, slice_index, slice_index_or}
 use Rattle.hyphenation_trie.specs.Trie.{Tree, node_text}
 use Rattle.hyphenation_trie.specs.Steps.{HasChild, IsLongestInner}
+use Rattle.hyphenation_trie.specs.declared.table.split.Split.{Split}
 use Rattle.hyphenation_trie.specs.Private.States.{LinkedTree, links_of}
 
 -- Each node with children is marked.
@@ -31,8 +32,8 @@ pub record AreRowsOf {E : Type 0} (tree : Tree E) (nodes of : List ℕ) : Type 0
   pub each : (j : ℕ) → j < length tree.texts → HasRowOf tree nodes of j
 
 -- The cell that leads to a node: the place of its row, and its number.
-abbrev pub cell_of : List ℕ → List ℕ → ℕ → ℕ → ℕ
-cell_of of numbers quarter node = slice_index of node * quarter * 4096 + slice_index numbers node
+abbrev pub cell_of : List ℕ → List ℕ → ℕ → Split → ℕ → ℕ
+cell_of of numbers quarter split node = slice_index numbers node * 2 ^ split.place_bits + slice_index of node * quarter
 
 -- A cell of a row without a child there, before it is filled. Those of the root need not be filled.
 abbrev pub free_cell : ℕ → ℕ
@@ -40,17 +41,17 @@ free_cell zero = 0
 free_cell (suc row) = 2 ^ 32 - 1
 
 -- The cell of a node at a byte leads to the child there. It is free if no node before a bound is one.
-abbrev pub IsChildCell : {E : Type 0} → Tree E → List ℕ → List ℕ → ℕ → ℕ → ℕ → ℕ → ℕ → ℕ → Type 0
-IsChildCell tree of numbers quarter bound node byte free cell =
+abbrev pub IsChildCell : {E : Type 0} → Tree E → List ℕ → List ℕ → ℕ → Split → ℕ → ℕ → ℕ → ℕ → ℕ → Type 0
+IsChildCell tree of numbers quarter split bound node byte free cell =
     ((child : ℕ) × (child < length tree.texts) × (node_text tree child ≡ node_text tree node ++ byte ∷ [])
-    × (cell ≡ cell_of of numbers quarter child))
+    × (cell ≡ cell_of of numbers quarter split child))
     ⊎ ((cell ≡ free) × ((j : ℕ) → j < bound → node_text tree j ≢ node_text tree node ++ byte ∷ []))
 
 -- The cells lead to the children before a bound.
-abbrev pub AreChildCells : {E : Type 0} → Tree E → List ℕ → List ℕ → List ℕ → List ℕ → ℕ → ℕ → List ℕ → Type 0
-AreChildCells tree nodes of numbers classes quarter bound cells =
+abbrev pub AreLinked : {E : Type 0} → Tree E → List ℕ → List ℕ → List ℕ → List ℕ → ℕ → Split → ℕ → List ℕ → Type 0
+AreLinked tree nodes of numbers classes quarter split bound cells =
     (row byte : ℕ) → row < length nodes → byte < 256
-    → IsChildCell tree of numbers quarter bound (slice_index nodes row) byte (free_cell row)
+    → IsChildCell tree of numbers quarter split bound (slice_index nodes row) byte (free_cell row)
     (slice_index cells (row * quarter * 4 + slice_index classes byte))
 
 -- The row of the link of a row's node.

@@ -6,18 +6,17 @@
 //! complete by then.
 
 ghost use Rattle.std.specs.Prelude.{◌≡◌, ◌+◌, ◌*◌, ◌-◌, ◌^◌, ◌<◌, ◌≤◌, ℕ, List, length, slice_index, IfOk, IfSome, OnOk};
+ghost use Rattle.hyphenation_trie.specs.Cells.{numbers_of, IsSplit};
 ghost use Rattle.hyphenation_trie.specs.Private.Known.{AreByDepth, AreClasses};
 ghost use Rattle.hyphenation_trie.specs.Steps.{AreRows};
 ghost use Rattle.hyphenation_trie.specs.Private.States.{IsLinked};
-ghost use Rattle.hyphenation_trie.specs.Private.TableRows.{filled, free_cell, link_row, AreChildCells, AreFilled, AreInner, AreRowsOf};
+ghost use Rattle.hyphenation_trie.specs.Private.TableRows.{filled, free_cell, link_row, AreLinked, AreFilled, AreInner, AreRowsOf};
 
 use crate::frozen::Frozen;
 use crate::lists::list_of_first;
+use crate::table::split::Split;
 use crate::{Automaton, to_u32};
 use std::alloc::{AllocError, Global};
-
-// A place is below this, so that a cell holds it in 20 bits beside a number in 12.
-const MAX_PLACES: usize = 1 << 20;
 
 // A cell without a child, before it is filled. No cell of a child is so great, as its place is less than the last one.
 const FREE: u32 = u32::MAX;
@@ -75,7 +74,7 @@ fn rows_of<E: Drop>(
 // Returns free cells, after the root's row, whose cells are 0. The only error is out of memory.
 fn free_cells(alloc: Global, places: usize, quarter: usize) -> Result<Vec<u32>, AllocError>
     requires root { quarter ≤ places }
-    requires places { places < 2 ^ 20 }
+    requires places { places < 2 ^ 32 }
     ensures count { IfOk result (λ cells. length cells.items ≡ places * 4) }
     ensures root { IfOk result (λ cells. (i : ℕ) → i < quarter * 4 → slice_index cells.items i ≡ 0) }
     ensures free { IfOk result (λ cells. (i : ℕ) → quarter * 4 ≤ i → i < places * 4
@@ -87,15 +86,6 @@ fn free_cells(alloc: Global, places: usize, quarter: usize) -> Result<Vec<u32>, 
     Ok(cells)
 }
 
-// Returns the cell of a place and a number.
-fn cell_with(place: usize, number: u32) -> u32
-    requires place { place < 2 ^ 20 }
-    requires number { number < 4096 }
-    ensures { result ≡ place * 4096 + number }
-{
-    place as u32 * 4096 + number
-}
-
 // Sets the cells of all children.
 fn set_children<E: Drop>(
     cells: &mut [u32],
@@ -104,25 +94,27 @@ fn set_children<E: Drop>(
     numbers: &[u32],
     classes: &[u8],
     quarter: usize,
+    split: Split,
 )
     requires rows { AreRowsOf trie.now.tree rows.now.nodes.items rows.now.of.items }
     requires nodes { length numbers.now ≡ length trie.now.tree.texts }
-    requires few { (j : ℕ) → j < length trie.now.tree.texts → slice_index numbers.now j < 4096 }
+    requires split { IsSplit split }
+    requires few { (j : ℕ) → j < length trie.now.tree.texts → slice_index numbers.now j < numbers_of split }
     requires classes { AreClasses trie.now.tree.texts classes.now quarter }
-    requires places { length rows.now.nodes.items * quarter < 2 ^ 20 }
+    requires places { length rows.now.nodes.items * quarter ≤ split.last_place }
     requires count { length cells.old ≡ length rows.now.nodes.items * quarter * 4 }
     requires free { (row class : ℕ) → row < length rows.now.nodes.items → class < quarter * 4
         → slice_index cells.old (row * quarter * 4 + class) ≡ free_cell row }
     ensures count { length cells.new ≡ length cells.old }
-    ensures children { AreChildCells trie.now.tree rows.now.nodes.items rows.now.of.items numbers.now classes.now quarter
-        (length trie.now.tree.texts) cells.new }
+    ensures children { AreLinked trie.now.tree rows.now.nodes.items rows.now.of.items numbers.now classes.now quarter
+        split (length trie.now.tree.texts) cells.new }
 {
     trie.invariant();
     for node in 1..trie.count() {
         let (parent, byte) = trie.from(node);
         let start = rows.of[parent] as usize * quarter * 4;
         let place = rows.of[node] as usize * quarter;
-        cells[start + classes[byte as usize] as usize] = cell_with(place, numbers[node]);
+        cells[start + classes[byte as usize] as usize] = split.cell(place, numbers[node]);
     }
 }
 
@@ -153,7 +145,7 @@ fn fill_row(cells: &mut [u32], start: usize, from: usize, width: usize)
 fn fill_rows<E: Drop>(cells: &mut [u32], trie: &Frozen<E>, rows: &Rows, quarter: usize)
     requires linked { IsLinked trie.now }
     requires rows { AreRowsOf trie.now.tree rows.now.nodes.items rows.now.of.items }
-    requires places { length rows.now.nodes.items * quarter < 2 ^ 20 }
+    requires places { length rows.now.nodes.items * quarter < 2 ^ 32 }
     requires count { length cells.old ≡ length rows.now.nodes.items * quarter * 4 }
     ensures count { length cells.new ≡ length cells.old }
     ensures filled { AreFilled (link_row trie.now rows.now.nodes.items rows.now.of.items) (length rows.now.nodes.items)
@@ -168,7 +160,7 @@ fn fill_rows<E: Drop>(cells: &mut [u32], trie: &Frozen<E>, rows: &Rows, quarter:
 }
 
 // Returns the cells of all rows, given the nodes by their depths, the number of each node, and the class of each byte. `None`
-// if there are 4,194,304 cells or more. The only error is out of memory.
+// if a place in the cells might be above the last one. The only error is out of memory.
 pub(super) fn cells_of<E: Drop>(
     alloc: Global,
     automaton: &Automaton<E>,
@@ -176,25 +168,27 @@ pub(super) fn cells_of<E: Drop>(
     numbers: &[u32],
     classes: &[u8],
     quarter: usize,
+    split: Split,
 ) -> Result<Option<Vec<u32>>, AllocError>
     requires order { AreByDepth automaton.now.texts order.now }
     requires nodes { length numbers.now ≡ length automaton.now.texts }
-    requires few { (j : ℕ) → j < length automaton.now.texts → slice_index numbers.now j < 4096 }
+    requires split { IsSplit split }
+    requires few { (j : ℕ) → j < length automaton.now.texts → slice_index numbers.now j < numbers_of split }
     requires root { slice_index numbers.now 0 ≡ 0 }
     requires classes { AreClasses automaton.now.texts classes.now quarter }
     ensures { IfOk result (λ made. IfSome made
-        (λ cells. (rows : List ℕ) × AreRows automaton.now numbers.now classes.now quarter cells.items rows)) }
+        (λ cells. (rows : List ℕ) × AreRows automaton.now numbers.now classes.now quarter split cells.items rows)) }
 {
     let trie = &automaton.trie;
     trie.invariant();
     let inner = inner_nodes(alloc, trie)?;
     let rows = rows_of(alloc, trie, order, &inner)?;
     let places = rows.nodes.len().saturating_mul(quarter);
-    if MAX_PLACES <= places {
+    if places > split.last_place as usize {
         return Ok(None);
     }
     let mut cells = free_cells(alloc, places, quarter)?;
-    set_children(&mut cells, trie, &rows, numbers, classes, quarter);
+    set_children(&mut cells, trie, &rows, numbers, classes, quarter, split);
     fill_rows(&mut cells, trie, &rows, quarter);
     Ok(Some(cells))
 }

@@ -10,16 +10,19 @@ ghost use Rattle.hyphenation_trie.specs.Steps.{AreSteps, StandsFor, StepsBy};
 use super::classes::classes_of;
 use super::order::nodes_by_depth;
 use super::rows::cells_of;
+use super::split::{Split, split_of};
 use crate::Automaton;
 use std::alloc::{AllocError, Global};
 
 /// A table of steps with a number for each node.
 #[derive(Drop)]
 pub struct Steps {
-    /// The cells of all rows. A cell holds where the next row begins, in units of four cells, times 4096, plus a number.
+    /// The cells of all rows. A cell holds where the next row begins, in units of four cells, and a number.
     pub cells: Vec<u32>,
+    /// How a cell holds these two.
+    pub split: Split,
     /// The class of each byte.
-    pub classes: Vec<u8>,
+    pub classes: [u8; 256],
 }
 
 impl Steps {
@@ -42,14 +45,15 @@ impl Steps {
     {
         automaton.invariant();
         let cell = self.cells[start * 4 + self.classes[byte as usize] as usize];
-        ((cell >> 12) as usize, (cell % 4096) as usize)
+        self.split.parts(cell)
     }
 }
 
 /// Makes a table of the steps of an automaton, with a number for each node. `None` if there can be none of this form.
 ///
-/// There is none if the rows would have 4,194,304 cells or more, or if all 256 bytes are in keys. The numbers are below 4096, and that of
-/// the root is 0. The only error is out of memory.
+/// There is none if all 256 bytes are in keys. If all numbers are below 1,024, the rows have fewer than 16,777,216 cells,
+/// and there is no table if they would have more. Otherwise they have fewer than 4,194,304. The numbers are below 4,096,
+/// and that of the root is 0. The only error is out of memory.
 pub fn make_steps<E: Drop>(
     alloc: Global,
     automaton: &Automaton<E>,
@@ -61,12 +65,19 @@ pub fn make_steps<E: Drop>(
     ensures { IfOk result (λ made. IfSome made (λ steps. AreSteps automaton.now numbers.now steps)) }
 {
     automaton.invariant();
-    let Some((classes, quarter)) = classes_of(alloc, automaton)? else {
+    let Some(found) = classes_of(automaton) else {
         return Ok(None);
     };
+    let classes = found.0;
+    let quarter = found.1;
     let order = nodes_by_depth(alloc, automaton)?;
-    let Some(cells) = cells_of(alloc, automaton, &order, numbers, &classes, quarter)? else {
+    let split = split_of(numbers);
+    let Some(cells) = cells_of(alloc, automaton, &order, numbers, &classes, quarter, split)? else {
         return Ok(None);
     };
-    Ok(Some(Steps { cells, classes }))
+    Ok(Some(Steps {
+        cells,
+        split,
+        classes,
+    }))
 }

@@ -27,7 +27,7 @@ pub record IsGrowing (l : GrowingLevel) : Type 0 where
 abbrev pub unchanging : List ℕ → Pattern
 unchanging digits = record { digits = digits; change = None }
 
--- The node has this pattern alone.
+-- The node has only this pattern.
 abbrev pub HasDigits : Tree Pattern → ℕ → List ℕ → Type 0
 HasDigits t node digits = slice_index_or t.entries node None ≡ Some (unchanging digits ∷ [])
 

@@ -5,7 +5,7 @@ use Rattle.hyphenation_trie.specs.Trie.{Tree}
 use Rattle.libhyphen_files.specs.Patterns.{Pattern}
 use Rattle.libhyphen_files.specs.Vectors.{IsNumberOf}
 
--- The vector has the digits of a key with that many bytes, counted from 0, and no other place of the key has one but '0'.
+-- The vector has the digits of a key with that many bytes, counted from 0. Any other place of the key has '0'.
 pub record HasDigitsOf (digits : List ℕ) (bytes : ℕ) (vector : List ℕ) : Type 0 where
   pub lanes : length vector ≡ 16
   pub each : (lane place : ℕ) → lane < 16 → place + 15 ≡ lane + bytes

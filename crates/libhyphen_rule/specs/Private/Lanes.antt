@@ -22,7 +22,7 @@ AllPlain [] = Unit {0}
 AllPlain (c ∷ cs) = (c.change ≡ None) × AllPlain cs
 
 -- The digits by the patterns that end in the first bytes of a frame. The last lane is that of the place behind these
--- bytes. In the list 14 other items stand before that of the first place.
+-- bytes. In the list 14 other items are before that of the first place.
 pub record IsFound (counted : List Counted) (bytes : ℕ) (last list : List ℕ) : Type 0 where
   pub plain : AllPlain counted
   pub each : (lane place : ℕ) → lane < 16 → place + 15 ≡ bytes + lane
@@ -37,7 +37,7 @@ pub record IsFound (counted : List Counted) (bytes : ℕ) (last list : List ℕ)
 abbrev pub AtNode : Tree Pattern → List ℕ → ℕ → Type 0
 AtNode tree text place = IsLongest tree.texts text place
 
--- A pass is at the row that stands for the text, in a table of steps.
+-- A pass is at the row of the text, in a table of steps.
 abbrev pub AtRow : Tree Pattern → NodeVectors → Steps → List ℕ → ℕ → Type 0
 AtRow tree vectors steps text place = StandsFor tree vectors.numbers.items steps place text
 

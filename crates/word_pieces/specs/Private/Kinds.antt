@@ -33,7 +33,7 @@ abbrev pub is_near : Kind → Bool
 is_near Beyond = false
 is_near _ = true
 
--- Whether there is a bound between characters of two kinds, where these alone decide it.
+-- Whether there is a bound between characters of two kinds, where only these decide it.
 abbrev pub verdict : Kind → Kind → Option Bool
 verdict Beyond _ = None
 verdict _ Beyond = None

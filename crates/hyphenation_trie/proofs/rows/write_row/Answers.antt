@@ -2,13 +2,11 @@ use Rattle.std.proofs.lemmas.Grind.{common_steps}
 use Rattle.std.proofs.Common.{◌≡◌, ℕ, ◌+◌, ◌<◌, slice_index, Some, None, sym, ap, subst, ◌∙◌, arith, inl, inr, refl}
 use Rattle.std.proofs.lemmas.Bool.{cases_eq, cases_lt}
 use Rattle.std.proofs.lemmas.List.{get_or_default}
+use Rattle.hyphenation_trie.proofs.RowsPlaced.{same_some}
 use Rattle.hyphenation_trie.specs.Private.Chains.{IsLastBelow}
 use Rattle.hyphenation_trie.specs.Private.Rows.{child_in}
 use Rattle.hyphenation_trie.proofs.ChainsGrow.{next_less, last_read}
 use Rattle.hyphenation_trie.proofs.rows.write_row.Goals as goal
-
-same_some : (a b : ℕ) → Some a ≡ Some b → a ≡ b
-same_some a b e = cc
 
 pub loop-child-preserved : goal.loop-child-preserved
 loop-child-preserved c =

@@ -1,10 +1,11 @@
-use Rattle.std.proofs.Common.{◌≡◌, ℕ, ◌+◌, ◌-◌, take, Some, None, ap, ◌∙◌, arith}
+use Rattle.std.proofs.Common.{◌≡◌, ℕ, ◌+◌, ◌-◌, take, Some, None, ap, ◌∙◌, arith, sym}
 use mir.Syntax.{w32}
 use Rattle.std.proofs.lemmas.Int.{to_z-of_z}
 use Rattle.std.specs.List.{before_first, position}
+use Rattle.std.proofs.lemmas.Bool.{and_left}
 use Rattle.libhyphen_rule.specs.Letters.{letters, letters_in_first}
 use Rattle.libhyphen_rule.specs.Minima.{has_equals, is_below, is_equals}
-use Rattle.libhyphen_rule.proofs.Equals.{FirstEquals, some_equals, none_equals, and_none, and_same}
+use Rattle.libhyphen_rule.proofs.Equals.{FirstEquals, some_equals, none_equals, and_same}
 use Rattle.libhyphen_rule.proofs.minima.is_short_before.Goals as goal
 
 pub returns-in-Some : goal.returns-in-Some
@@ -25,4 +26,4 @@ pub returns-in-None : goal.returns-in-None
 returns-in-None c =
     let text = c.args.change.now.text.now in
     let is : None ≡ position is_equals text = cc in
-    and_none (has_equals text) _ (none_equals text is)
+    sym (and_left (has_equals text) _ (none_equals text is))

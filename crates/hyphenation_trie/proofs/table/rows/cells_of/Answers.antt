@@ -1,4 +1,4 @@
-use Rattle.std.proofs.Common.{◌≡◌, ◌+◌, ◌*◌, ◌^◌, ◌<◌, ◌++◌, ℕ, List, length, take, drop, slice_index, sym, ap, subst, ◌∙◌, arith}
+use Rattle.std.proofs.Common.{◌≡◌, ◌+◌, ◌*◌, ◌≤◌, ◌++◌, ℕ, List, length, take, drop, slice_index, sym, ap, subst, ◌∙◌, arith}
 use Rattle.hyphenation_trie.specs.Private.Known.{AreClasses}
 use Rattle.hyphenation_trie.specs.Steps.{AreRows}
 use Rattle.hyphenation_trie.specs.Private.TableRows.{AreFilled, link_row}
@@ -28,15 +28,15 @@ returns g c =
     let new = c.fill_rows.new.cells in
     let len : ℕ = c.in_ok-cells.cells.len in
     let count : c.len.result * quarter ≡ length nodes * quarter = ap (λ (n : ℕ). n * quarter) (c.len.ensures ∙ c.in_ok-rows.rows.nodes.ok.0) in
-    let places : length nodes * quarter < 2 ^ 20 = omega (arith, count, c.saturating_mul-places.ensures) in
+    let split = c.args.split in
+    let places : length nodes * quarter ≤ split.last_place = omega (arith, count, c.saturating_mul-places.ensures) in
     let room : length cells ≡ length nodes * quarter * 4 = omega (arith, count, c.saturating_mul-places.ensures, c.in_ok-cells.ensures.count) in
     let held : length cells ≡ len = sym c.in_ok-cells.cells.ok.0 in
     let first : length children ≡ length cells = c.set_children.ensures.count ∙ ap length c.deref_mut.ensures.value in
     let back : c.deref_mut-2.result.now ≡ children = c.deref_mut-2.ensures.value ∙ lent_back children cells len (first ∙ held) in
     let second : length new ≡ len = c.fill_rows.ensures.count ∙ ap length back ∙ first ∙ held in
     let done = subst (λ (xs : List ℕ). AreFilled (link_row trie nodes of) (length nodes) quarter xs new) back c.fill_rows.ensures.filled in
-    let few = subst (λ t. (j : ℕ) → j < length t.texts → slice_index numbers j < 4096) (sym view) c.requires.few in
     let class = subst (λ t. AreClasses t.texts classes quarter) (sym view) c.requires.classes in
-    let right = rows_right trie c.invariant.ensures c.automaton.invariant.0 nodes of numbers classes quarter children new c.in_ok-rows.ensures few c.requires.root class places c.set_children.ensures.children done (omega (arith, second, held, room)) in
+    let right = rows_right trie c.invariant.ensures c.automaton.invariant.0 nodes of numbers classes quarter split children new c.in_ok-rows.ensures c.requires.split c.requires.root class places c.set_children.ensures.children done (omega (arith, second, held, room)) in
     let whole = lent_back new (take len (children ++ drop (length children) cells)) len second in
-    (nodes, subst (λ (xs : List ℕ). AreRows c.args.automaton.now numbers classes quarter xs nodes) (sym whole) (subst (λ t. AreRows t numbers classes quarter new nodes) view right))
+    (nodes, subst (λ (xs : List ℕ). AreRows c.args.automaton.now numbers classes quarter split xs nodes) (sym whole) (subst (λ t. AreRows t numbers classes quarter split new nodes) view right))

@@ -1,9 +1,10 @@
 use Rattle.std.proofs.Common.{◌≡◌, ◌∙◌, [], ◌∷◌, ap, arith, sym, subst, take, None}
 use Rattle.std.proofs.lemmas.Grind.{common_steps}
+use Rattle.std.proofs.option.Match.{None-if_not_some}
 use Rattle.hyphenation_dictionary.specs.Maker.{with_pair}
 use Rattle.hyphenation_dictionary.specs.Parts.{patterns_of}
 use Rattle.libhyphen_files.specs.Levels.{HasNoChanges}
-use Rattle.libhyphen_files.proofs.ChangesLemmas.{inserted_without_change, none_if}
+use Rattle.libhyphen_files.proofs.ChangesLemmas.{inserted_without_change}
 use Rattle.libhyphen_files.proofs.level.GrowingLevel.add_pattern.Goals as goal
 use Rattle.libhyphen_files.proofs.level.GrowingLevel.add_pattern.Goals.{then-self, else-self}
 
@@ -14,7 +15,7 @@ returns-clause-growing c = record {
       elim c.if-self.branch [
         | then-self w ↦ absurd cc
         | else-self w ↦
-            let none : c.pattern.inside.change ≡ None = none_if c.pattern.inside.change (sym w.is_some-has_changes.ensures ∙ sym w.has_changes-is ∙ unset) in
+            let none : c.pattern.inside.change ≡ None = None-if_not_some c.pattern.inside.change (sym w.is_some-has_changes.ensures ∙ sym w.has_changes-is ∙ unset) in
             let unchanging : c.args.pattern.change ≡ None = cc in
             let before = patterns_of c.args.self.now.patterns in
             let one : c.push.new.self.items ≡ c.args.pattern ∷ [] = grind (arith, common_steps, c.requires.growing.spare) in
