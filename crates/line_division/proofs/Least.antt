@@ -1,17 +1,19 @@
 -- The line that is best to begin at a place, and the best ones after it.
 use Rattle.std.specs.Bool.{MatchBool}
-use Rattle.std.proofs.Common.{◌≡◌, ℕ, ◌+◌, ◌-◌, ◌*◌, ◌/◌, ◌%◌, ◌<◌, ◌≤◌, ◌⊎◌, Bool, true, false, Option, List, [], ◌∷◌, ◌++◌, length, set, length-set, append_assoc, append-nil, slice_index_or, sym, ap, subst, refl, ◌∙◌, arith, inl, inr}
-use Rattle.std.proofs.lemmas.Bool.{cases_eq}
-use Rattle.std.proofs.lemmas.Nat.{div-add-mod', div_below, le-div, mod_below}
-use Rattle.std.proofs.lemmas.List.{get_or-set_same, get_or-set_other, get_or_default}
+use Rattle.std.proofs.Common.{◌≡◌, ◌≢◌, ℕ, ◌+◌, ◌-◌, ◌<◌, ◌≤◌, ◌⊎◌, nat_lt, Bool, true, false, Option, Some, None, List, [], ◌∷◌, ◌++◌, length, drop, append_assoc, append-nil, slice_index_or, sym, ap, subst, refl, ◌∙◌, arith, inl, inr}
+use Rattle.std.proofs.lemmas.Bool.{cases_lt, cases_eq, cases_Bool, cond-true, cond-false}
 use Rattle.line_division.specs.declared.stretch.Stretch.{Stretch}
 use Rattle.line_division.specs.declared.cost.Cost.{Cost}
-use Rattle.line_division.specs.declared.even.Choice.{Choice}
+use Rattle.line_division.specs.declared.table.Choice.{Choice}
+use Rattle.line_division.specs.declared.table.Kept.{Kept}
+use Rattle.line_division.specs.declared.table.Choices.{Choices}
 use Rattle.line_division.specs.Cost.{nothing, together, CostsNoMore}
-use Rattle.line_division.specs.Lines.{hyphens_to, line_cost}
+use Rattle.line_division.specs.Lines.{stretch_at, line_width, raggedness, hyphens_to, line_over, line_cost}
 use Rattle.line_division.specs.Division.{Divides, EachFits, CostsLeast, FitsIfAny, KeepsLadderIfAny, cost_of}
-use Rattle.line_division.specs.Private.Best.{no_choice, choice_at, runs, run_of, IsLeast, IsSmall, IsMade, IsKnown, AreBest}
-use Rattle.line_division.proofs.Runs.{runs_some, run_within, run_same, place_apart, place_within, keeps_none_over, none_over_keeps, over_least}
+use Rattle.line_division.specs.Private.Best.{runs, run_of, IsLeast, IsSmall, IsMade, IsKnown, AreBest}
+use Rattle.line_division.specs.Private.Table.{none_kept, kept_for, HasRun, row_at, kept_at, choice_at, IsKept}
+use Rattle.line_division.proofs.Runs.{runs_some, run_within, run_same, keeps_none_over, none_over_keeps, over_least}
+use Rattle.line_division.proofs.Rows.{kept_first, kept_alike}
 
 pub no_more_here : (one : Cost) → CostsNoMore one one
 no_more_here one = inr (refl, inr (refl, omega arith))
@@ -47,20 +49,8 @@ known_after ladder low known run place after within = (within, inl after)
 pub known_all : (ladder : Option ℕ) (run place : ℕ) → run < runs ladder → IsKnown ladder 0 (runs ladder) run place
 known_all ladder run place within = (within, elim (cases_eq 0 place) [ inl first ↦ inr (first, within) | inr later ↦ inl (omega (arith, later)) ])
 
--- A choice that is kept between two places is known, where all are known from the first place on.
-pub known_between : (ladder : Option ℕ) (start last at : ℕ) → start * runs ladder ≤ at → at < (last + 1) * runs ladder
-    → IsKnown ladder start (runs ladder) (at % runs ladder) (at / runs ladder) × (at / runs ladder ≤ last) × (at ≡ at / runs ladder * runs ladder + at % runs ladder)
-known_between ladder start last at from upto =
-    let run = mod_below at (runs ladder) (runs_some ladder) in
-    let low = le-div start at (runs ladder) (runs_some ladder) from in
-    let high = div_below at (runs ladder) (last + 1) (runs_some ladder) upto in (
-      (run, elim (cases_eq start (at / runs ladder)) [ inl same ↦ inr (same, run) | inr other ↦ inl (omega (arith, low, other)) ]),
-      omega (arith, high),
-      sym (div-add-mod' at (runs ladder)),
-    )
-
 -- A line that is followed by the best ones costs no more than with any others.
-pub made_least : (stretches : List Stretch) (columns last_columns : ℕ) (ladder : Option ℕ) (choices : List Choice) (known run start : ℕ) (choice : Choice) (row : List ℕ)
+pub made_least : (stretches : List Stretch) (columns last_columns : ℕ) (ladder : Option ℕ) (choices : Choices) (known run start : ℕ) (choice : Choice) (row : List ℕ)
     → IsMade stretches columns last_columns ladder choices run start choice → AreBest stretches columns last_columns ladder choices start known → Divides stretches columns choice.end row
     → CostsNoMore choice.cost (cost_of stretches columns last_columns ladder run start (choice.end ∷ row))
 made_least stretches columns last_columns ladder choices known run start choice row made best divides =
@@ -69,10 +59,10 @@ made_least stretches columns last_columns ladder choices known run start choice 
     let line = line_cost stretches columns last_columns ladder hyphens start choice.end in
     let then = best.least later choice.end (known_after ladder start known later choice.end made.after (run_within ladder hyphens)) made.within row divides in
     let same = run_same stretches columns last_columns ladder hyphens choice.end row in
-    let then_exact : CostsNoMore (choice_at ladder choices later choice.end).cost (cost_of stretches columns last_columns ladder hyphens choice.end row) =
-    subst (λ c. CostsNoMore (choice_at ladder choices later choice.end).cost c) same then in
+    let then_exact : CostsNoMore (choice_at choices later choice.end).cost (cost_of stretches columns last_columns ladder hyphens choice.end row) =
+    subst (λ c. CostsNoMore (choice_at choices later choice.end).cost c) same then in
     subst (λ c. CostsNoMore c (cost_of stretches columns last_columns ladder run start (choice.end ∷ row))) (sym made.sum)
-    (no_more_together line (choice_at ladder choices later choice.end).cost (cost_of stretches columns last_columns ladder hyphens choice.end row) then_exact)
+    (no_more_together line (choice_at choices later choice.end).cost (cost_of stretches columns last_columns ladder hyphens choice.end row) then_exact)
 
 -- A cost that is no dearer up to the last end is least.
 pub least_at_last : (stretches : List Stretch) (columns last_columns : ℕ) (ladder : Option ℕ) (run start : ℕ) (least : Cost) → start < length stretches → ((end : ℕ) (row : List ℕ) → Divides stretches columns start (end ∷ row) → CostsNoMore least (cost_of stretches columns last_columns ladder run start (end ∷ row))) → IsLeast stretches columns last_columns ladder run start least
@@ -99,35 +89,31 @@ nothing_least one =
       | inr some ↦ inl (omega (arith, some))
     ]
 
--- All that are kept between two places are small.
-pub small_between : (stretches : List Stretch) (columns last_columns : ℕ) (ladder : Option ℕ) (choices : List Choice) (start last at : ℕ) → AreBest stretches columns last_columns ladder choices start (runs ladder)
-    → last ≤ length stretches → start * runs ladder ≤ at → at < (last + 1) * runs ladder → IsSmall (slice_index_or choices at no_choice).cost (length stretches)
-small_between stretches columns last_columns ladder choices start last at best within from upto =
-    let place = at / runs ladder in
-    let run = at % runs ladder in
-    let known = known_between ladder start last at from upto in
-    let small = best.small run place known.0 (omega (arith, known.1, within)) in
-    subst (λ i. IsSmall (slice_index_or choices i no_choice).cost (length stretches)) (sym known.2)
-    (omega (arith, small.0), omega (arith, small.1), omega (arith, small.2))
-
 -- Where no line is left to begin.
-pub best_at_end : (stretches : List Stretch) (columns last_columns : ℕ) (ladder : Option ℕ) (choices : List Choice) (known : ℕ) → length choices ≡ (length stretches + 1) * runs ladder
-    → ((r : ℕ) → r < runs ladder → (choice_at ladder choices r (length stretches)).cost ≡ nothing)
+pub best_at_end : (stretches : List Stretch) (columns last_columns : ℕ) (ladder : Option ℕ) (choices : Choices) (known : ℕ) → length choices.firsts.items ≡ length stretches + 1
+    → (1 < runs ladder → length choices.begins.items ≡ length stretches + 1)
+    → slice_index_or choices.firsts.items (length stretches) none_kept ≡ record { cost = nothing; end = 0; last_run = runs ladder - 1 }
     → AreBest stretches columns last_columns ladder choices (length stretches) known
-best_at_end stretches columns last_columns ladder choices known many last = record {
-  many = many;
-  least = λ r e low high row divides.
-      let same : length stretches ≡ e = elim low.1 [ inl after ↦ absurd (omega (arith, after, high)) | inr here ↦ here.0 ] in
-      subst (λ p. CostsNoMore (choice_at ladder choices r p).cost (cost_of stretches columns last_columns ladder r e row)) same (subst (λ k. CostsNoMore k (cost_of stretches columns last_columns ladder r e row)) (sym (last r low.0)) (nothing_least (cost_of stretches columns last_columns ladder r e row)));
-  small = λ r e low high.
-      let same : length stretches ≡ e = elim low.1 [ inl after ↦ absurd (omega (arith, after, high)) | inr here ↦ here.0 ] in
-      subst (λ p. IsSmall (choice_at ladder choices r p).cost (length stretches - e)) same (subst (λ k. IsSmall k (length stretches - e)) (sym (last r low.0)) (omega arith, omega arith, omega arith));
-  made = λ r e low high. elim low.1 [ inl after ↦ absurd (omega (arith, after, high)) | inr here ↦ absurd (omega (arith, here.0, high)) ];
-  last = last;
-}
+best_at_end stretches columns last_columns ladder choices known many begun none =
+    let final : Kept = record { cost = nothing; end = 0; last_run = runs ladder - 1 } in
+    let same : (r e : ℕ) → IsKnown ladder (length stretches) known r e → e ≤ length stretches → length stretches ≡ e = λ r e is high. elim is.1 [ inl after ↦ absurd (omega (arith, after, high)) | inr here ↦ here.0 ] in
+    let rest = drop (slice_index_or choices.begins.items (length stretches) 0) choices.others.items in
+    let read : (r : ℕ) → r < runs ladder → kept_at choices r (length stretches) ≡ final = λ r few.
+    ap (λ k. kept_for (k ∷ rest) r) none ∙ kept_first final rest r (omega (arith, few)) in
+    record {
+      many = many;
+      begun = begun;
+      kept = λ r e is high. subst (λ p. HasRun (row_at choices p) r) (same r e is high) (inl (omega (arith, is.0, ap (λ k. k.last_run) none)));
+      short = λ r e is high. subst (λ p. (kept_at choices r p).last_run < runs ladder) (same r e is high) (subst (λ k. k.last_run < runs ladder) (sym (read r is.0)) (omega (arith, runs_some ladder)));
+      least = λ r e is high row divides. subst (λ p. CostsNoMore (kept_at choices r p).cost (cost_of stretches columns last_columns ladder r e row)) (same r e is high)
+          (subst (λ k. CostsNoMore k.cost (cost_of stretches columns last_columns ladder r e row)) (sym (read r is.0)) (nothing_least (cost_of stretches columns last_columns ladder r e row)));
+      small = λ r e is high. subst (λ p. IsSmall (kept_at choices r p).cost (length stretches - e)) (same r e is high) (subst (λ k. IsSmall k.cost (length stretches - e)) (sym (read r is.0)) (omega arith, omega arith, omega arith));
+      made = λ r e is high. absurd (omega (arith, high, same r e is (omega (arith, high))));
+      last = λ r few. ap (λ k. k.cost) (read r few);
+    }
 
 -- Lines that are the best for all runs at a place are so after the place before it.
-pub best_earlier : (stretches : List Stretch) (columns last_columns : ℕ) (ladder : Option ℕ) (choices : List Choice) (low : ℕ) → AreBest stretches columns last_columns ladder choices (low + 1) (runs ladder)
+pub best_earlier : (stretches : List Stretch) (columns last_columns : ℕ) (ladder : Option ℕ) (choices : Choices) (low : ℕ) → AreBest stretches columns last_columns ladder choices (low + 1) (runs ladder)
     → AreBest stretches columns last_columns ladder choices low 0
 best_earlier stretches columns last_columns ladder choices low best =
     let known : (r e : ℕ) → IsKnown ladder low 0 r e → IsKnown ladder (low + 1) (runs ladder) r e = λ r e k. (
@@ -139,65 +125,248 @@ best_earlier stretches columns last_columns ladder choices low best =
     ) in
     record {
       many = best.many;
+      begun = best.begun;
+      kept = λ r e k. best.kept r e (known r e k);
+      short = λ r e k. best.short r e (known r e k);
       least = λ r e k. best.least r e (known r e k);
       small = λ r e k. best.small r e (known r e k);
       made = λ r e k. best.made r e (known r e k);
       last = best.last;
     }
 
--- One more run at a place has its best line.
-pub best_before : (stretches : List Stretch) (columns last_columns : ℕ) (ladder : Option ℕ) (choices : List Choice) (run start : ℕ) (choice : Choice) → start < length stretches → run < runs ladder
-    → AreBest stretches columns last_columns ladder choices start run
-    → IsLeast stretches columns last_columns ladder run start choice.cost → IsMade stretches columns last_columns ladder choices run start choice → IsSmall choice.cost (length stretches - start)
-    → AreBest stretches columns last_columns ladder (set choices (start * runs ladder + run) choice) start (run + 1)
-best_before stretches columns last_columns ladder choices run start choice lt within best least made small =
-    let place = start * runs ladder + run in
-    let new = set choices place choice in
-    let here : choice_at ladder new run start ≡ choice = get_or-set_same choices place choice no_choice (omega (arith, best.many, place_within (length stretches) start run (runs ladder) (omega (arith, lt)) within)) in
-    let there : (r e : ℕ) → r < runs ladder → (start < e) ⊎ ((start ≡ e) × (r < run)) → choice_at ladder choices r e ≡ choice_at ladder new r e =
-    λ r e small_run apart. sym (get_or-set_other choices place (e * runs ladder + r) choice no_choice (place_apart start run e r (runs ladder) within apart)) in
-    let still_made : (r e : ℕ) (c : Choice) → start ≤ e → IsMade stretches columns last_columns ladder choices r e c → IsMade stretches columns last_columns ladder new r e c =
-    λ r e c low old.
-    let hyphens = hyphens_to stretches r c.end in
-    record { after = old.after; within = old.within; stands = old.stands; sum = subst (λ k. c.cost ≡ together (line_cost stretches columns last_columns ladder hyphens e c.end) k.cost) (there (run_of ladder hyphens) c.end (run_within ladder hyphens) (inl (omega (arith, old.after)))) old.sum } in
-    let cases : (r e : ℕ) → IsKnown ladder start (run + 1) r e → ((start ≡ e) × (run ≡ r)) ⊎ ((start < e) ⊎ ((start ≡ e) × (r < run))) = λ r e k. elim k.1 [
-      | inl after ↦ inr (inl after)
-      | inr same ↦ elim (cases_eq run r) [ inl one ↦ inl (same.0, one) | inr other ↦ inr (inr (same.0, omega (arith, same.1, other))) ]
-    ] in
+-- ---- hyphens before a line
+
+over_more : (ladder : Option ℕ) (fewer more : ℕ) → fewer ≤ more → line_over ladder fewer ≤ line_over ladder more
+over_more None fewer more le = omega arith
+over_more (Some most) fewer more le =
+    elim (cases_lt most fewer) [
+      | inl over ↦
+          let told : nat_lt most more ≡ true = grind (arith, over, le) in
+          let first : nat_lt most fewer ≡ true = grind (arith, over) in
+          let one : line_over (Some most) fewer ≡ 1 = cond-true _ _ _ first in
+          let other : line_over (Some most) more ≡ 1 = cond-true _ _ _ told in
+          omega (arith, one, other)
+      | inr within ↦
+          let told : nat_lt most fewer ≡ false = grind (arith, within) in
+          let none : line_over (Some most) fewer ≡ 0 = cond-false _ _ _ told in
+          omega (arith, none)
+    ]
+
+hyphens_more : (stretches : List Stretch) (fewer more end : ℕ) → fewer ≤ more → hyphens_to stretches fewer end ≤ hyphens_to stretches more end
+hyphens_more stretches fewer more end le =
+    elim (cases_Bool (stretch_at stretches (end - 1)).hyphenated) [
+      | inl so ↦
+          let first : hyphens_to stretches fewer end ≡ fewer + 1 = cond-true _ _ _ so in
+          let second : hyphens_to stretches more end ≡ more + 1 = cond-true _ _ _ so in
+          omega (arith, first, second, le)
+      | inr not_so ↦
+          let first : hyphens_to stretches fewer end ≡ 0 = cond-false _ _ _ not_so in
+          omega (arith, first)
+    ]
+
+-- Where no hyphen is at a line's end after no hyphens, none is after any.
+hyphens_none : (stretches : List Stretch) (run end : ℕ) → hyphens_to stretches 0 end ≡ 0 → hyphens_to stretches run end ≡ 0
+hyphens_none stretches run end none =
+    elim (cases_Bool (stretch_at stretches (end - 1)).hyphenated) [
+      | inl so ↦ let first : hyphens_to stretches 0 end ≡ 1 = cond-true _ _ _ so in absurd (omega (arith, first, none))
+      | inr not_so ↦ cond-false _ _ _ not_so
+    ]
+
+no_more_both : (first second one other : Cost) → first.excess ≡ second.excess → first.over ≤ second.over → first.spent ≡ second.spent → CostsNoMore one other → CostsNoMore (together first one) (together second other)
+no_more_both first second one other excess over spent h =
+    elim h [
+      | inl less ↦ inl (omega (arith, excess, less))
+      | inr same ↦ inr (
+        omega (arith, excess, same.0),
+        elim same.1 [
+          | inl fewer ↦ inl (omega (arith, over, fewer))
+          | inr as_many ↦ elim (cases_eq first.over second.over) [
+            | inl equal ↦ inr (omega (arith, equal, as_many.0), omega (arith, spent, as_many.1))
+            | inr unequal ↦ inl (omega (arith, over, unequal, as_many.0))
+          ]
+        ],
+      )
+    ]
+
+-- A row of ends costs no less after more hyphens in a row.
+pub costs_more : (stretches : List Stretch) (columns last_columns : ℕ) (ladder : Option ℕ) (fewer more start : ℕ) (row : List ℕ) → fewer ≤ more
+    → CostsNoMore (cost_of stretches columns last_columns ladder fewer start row) (cost_of stretches columns last_columns ladder more start row)
+costs_more stretches columns last_columns ladder fewer more start [] le = no_more_here nothing
+costs_more stretches columns last_columns ladder fewer more start (end ∷ row) le =
+    let one = hyphens_to stretches fewer end in
+    let other = hyphens_to stretches more end in
+    let up = hyphens_more stretches fewer more end le in
+    no_more_both (line_cost stretches columns last_columns ladder one start end) (line_cost stretches columns last_columns ladder other start end)
+    (cost_of stretches columns last_columns ladder one end row) (cost_of stretches columns last_columns ladder other end row)
+    refl (over_more ladder one other up) refl (costs_more stretches columns last_columns ladder one other end row up)
+
+-- A cost that is least after fewer hyphens in a row is so after more.
+pub least_more : (stretches : List Stretch) (columns last_columns : ℕ) (ladder : Option ℕ) (fewer more start : ℕ) (least : Cost) → fewer ≤ more
+    → IsLeast stretches columns last_columns ladder fewer start least → IsLeast stretches columns last_columns ladder more start least
+least_more stretches columns last_columns ladder fewer more start least le is row divides =
+    no_more_along least (cost_of stretches columns last_columns ladder fewer start row) (cost_of stretches columns last_columns ladder more start row) (is row divides)
+    (costs_more stretches columns last_columns ladder fewer more start row le)
+
+-- A line that ends in no hyphen is made alike after all runs.
+pub made_alike : (stretches : List Stretch) (columns last_columns : ℕ) (ladder : Option ℕ) (choices : Choices) (run other start : ℕ) (choice : Choice) → hyphens_to stretches 0 choice.end ≡ 0
+    → IsMade stretches columns last_columns ladder choices run start choice → IsMade stretches columns last_columns ladder choices other start choice
+made_alike stretches columns last_columns ladder choices run other start choice none made =
+    let same : hyphens_to stretches run choice.end ≡ hyphens_to stretches other choice.end = hyphens_none stretches run choice.end none ∙ sym (hyphens_none stretches other choice.end none) in
     record {
-      many = length-set choices place choice ∙ best.many;
-      least = λ r e k high. elim (cases r e k) [
-        | inl same ↦ subst (λ p. IsLeast stretches columns last_columns ladder r p (choice_at ladder new r p).cost) same.0 (subst (λ q. IsLeast stretches columns last_columns ladder q start (choice_at ladder new q start).cost) same.1 (subst (λ c. IsLeast stretches columns last_columns ladder run start c.cost) (sym here) least))
-        | inr other ↦ subst (λ c. IsLeast stretches columns last_columns ladder r e c.cost) (there r e k.0 other) (best.least r e (k.0, other) high)
-      ];
-      small = λ r e k high. elim (cases r e k) [
-        | inl same ↦ subst (λ p. IsSmall (choice_at ladder new r p).cost (length stretches - p)) same.0 (subst (λ q. IsSmall (choice_at ladder new q start).cost (length stretches - start)) same.1 (subst (λ c. IsSmall c.cost (length stretches - start)) (sym here) small))
-        | inr other ↦ subst (λ c. IsSmall c.cost (length stretches - e)) (there r e k.0 other) (best.small r e (k.0, other) high)
-      ];
-      made = λ r e k high. elim (cases r e k) [
-        | inl same ↦ subst (λ p. IsMade stretches columns last_columns ladder new r p (choice_at ladder new r p)) same.0 (subst (λ q. IsMade stretches columns last_columns ladder new q start (choice_at ladder new q start)) same.1 (subst (λ c. IsMade stretches columns last_columns ladder new run start c) (sym here) (still_made run start choice (omega arith) made)))
-        | inr other ↦ subst (λ c. IsMade stretches columns last_columns ladder new r e c) (there r e k.0 other) (still_made r e (choice_at ladder choices r e) (elim other [ inl after ↦ omega (arith, after) | inr same ↦ omega (arith, same.0) ]) (best.made r e (k.0, other) high))
-      ];
-      last = λ r few. subst (λ c. c.cost ≡ nothing) (there r (length stretches) few (inl lt)) (best.last r few);
+      after = made.after;
+      within = made.within;
+      stands = made.stands;
+      sum = subst (λ h. choice.cost ≡ together (line_cost stretches columns last_columns ladder h start choice.end) (choice_at choices (run_of ladder h) choice.end).cost) same made.sum;
     }
 
--- The choice that is read at a place.
-pub choice_read : (ladder : Option ℕ) (choices : List Choice) (run place count : ℕ) (choice : Choice) (at : ℕ) → at ≡ place * runs ladder + run → choice ≡ slice_index_or choices at choice
-    → length choices ≡ (count + 1) * runs ladder → place < count → run < runs ladder → choice_at ladder choices run place ≡ choice
-choice_read ladder choices run place count choice at is read many before within =
-    let inside : at < length choices = omega (arith, is, many, place_within count place run (runs ladder) (omega (arith, before)) within) in
-    ap (λ i. slice_index_or choices i no_choice) (sym is) ∙ get_or_default choices at no_choice choice inside ∙ sym read
+-- Where a hyphen is at a line's end after no hyphens, one more than before is after any.
+hyphens_some : (stretches : List Stretch) (run end : ℕ) → hyphens_to stretches 0 end ≢ 0 → hyphens_to stretches run end ≡ run + 1
+hyphens_some stretches run end some =
+    elim (cases_Bool (stretch_at stretches (end - 1)).hyphenated) [
+      | inl so ↦ cond-true _ _ _ so
+      | inr not_so ↦ absurd (some (cond-false _ _ _ not_so))
+    ]
+
+none_over : (ladder : Option ℕ) (hyphens : ℕ) → hyphens < runs ladder → line_over ladder hyphens ≡ 0
+none_over None hyphens few = refl
+none_over (Some most) hyphens few =
+    let told : nat_lt most hyphens ≡ false = grind (arith, few) in
+    cond-false _ _ _ told
+
+run_few : (ladder : Option ℕ) (hyphens : ℕ) → hyphens < runs ladder → run_of ladder hyphens ≡ hyphens
+run_few ladder hyphens few =
+    let told : nat_lt hyphens (runs ladder) ≡ true = grind (arith, few) in
+    cond-true _ _ _ told
+
+-- A line that ends in a hyphen is made alike after longer runs, as long as the line after it is kept for them.
+pub made_longer : (stretches : List Stretch) (columns last_columns : ℕ) (ladder : Option ℕ) (choices : Choices) (run other start : ℕ) (choice : Choice) → hyphens_to stretches 0 choice.end ≢ 0
+    → (kept_at choices (run + 1) choice.end).last_run < runs ladder → run ≤ other → other + 1 ≤ (kept_at choices (run + 1) choice.end).last_run
+    → IsMade stretches columns last_columns ladder choices run start choice → IsMade stretches columns last_columns ladder choices other start choice
+made_longer stretches columns last_columns ladder choices run other start choice some short le upto made =
+    let line : ℕ → Cost = λ over. record { excess = line_width stretches start choice.end - columns; over = over; spent = raggedness stretches columns last_columns start choice.end + (stretch_at stretches (choice.end - 1)).price } in
+    let first = hyphens_some stretches run choice.end some in
+    let second = hyphens_some stretches other choice.end some in
+    let kept : kept_at choices (other + 1) choice.end ≡ kept_at choices (run + 1) choice.end = kept_alike (row_at choices choice.end) (run + 1) (other + 1) (omega (arith, le)) upto in
+    let over : line_over ladder (run + 1) ≡ line_over ladder (other + 1) = none_over ladder (run + 1) (omega (arith, short, upto, le)) ∙ sym (none_over ladder (other + 1) (omega (arith, short, upto))) in
+    let one : choice.cost ≡ together (line_cost stretches columns last_columns ladder (run + 1) start choice.end) (choice_at choices (run_of ladder (run + 1)) choice.end).cost =
+    subst (λ h. choice.cost ≡ together (line_cost stretches columns last_columns ladder h start choice.end) (choice_at choices (run_of ladder h) choice.end).cost) first made.sum in
+    let two : choice.cost ≡ together (line (line_over ladder (run + 1))) (kept_at choices (run + 1) choice.end).cost =
+    subst (λ r. choice.cost ≡ together (line (line_over ladder (run + 1))) (kept_at choices r choice.end).cost) (run_few ladder (run + 1) (omega (arith, short, upto, le))) one in
+    let three : choice.cost ≡ together (line (line_over ladder (other + 1))) (kept_at choices (other + 1) choice.end).cost =
+    subst (λ o. choice.cost ≡ together (line o) (kept_at choices (other + 1) choice.end).cost) over
+    (subst (λ k. choice.cost ≡ together (line (line_over ladder (run + 1))) k.cost) (sym kept) two) in
+    let four : choice.cost ≡ together (line (line_over ladder (other + 1))) (kept_at choices (run_of ladder (other + 1)) choice.end).cost =
+    subst (λ r. choice.cost ≡ together (line (line_over ladder (other + 1))) (kept_at choices r choice.end).cost) (sym (run_few ladder (other + 1) (omega (arith, short, upto)))) three in
+    record {
+      after = made.after;
+      within = made.within;
+      stands = made.stands;
+      sum = subst (λ h. choice.cost ≡ together (line_cost stretches columns last_columns ladder h start choice.end) (choice_at choices (run_of ladder h) choice.end).cost) (sym second) four;
+    }
+
+-- Lines that are the best from a place on are so from a later one.
+pub best_later : (stretches : List Stretch) (columns last_columns : ℕ) (ladder : Option ℕ) (choices : Choices) (low later : ℕ) → low ≤ later → AreBest stretches columns last_columns ladder choices low (runs ladder)
+    → AreBest stretches columns last_columns ladder choices later (runs ladder)
+best_later stretches columns last_columns ladder choices low later le best =
+    let known : (r e : ℕ) → IsKnown ladder later (runs ladder) r e → IsKnown ladder low (runs ladder) r e = λ r e k. (
+      k.0,
+      elim (cases_eq low e) [
+        | inl same ↦ inr (same, k.0)
+        | inr other ↦ inl (elim k.1 [ inl after ↦ omega (arith, after, le) | inr here ↦ omega (arith, here.0, le, other) ])
+      ],
+    ) in
+    record {
+      many = best.many;
+      begun = best.begun;
+      kept = λ r e k. best.kept r e (known r e k);
+      short = λ r e k. best.short r e (known r e k);
+      least = λ r e k. best.least r e (known r e k);
+      small = λ r e k. best.small r e (known r e k);
+      made = λ r e k. best.made r e (known r e k);
+      last = best.last;
+    }
+
+-- Lines are read for each run that is known.
+pub kept_known : (stretches : List Stretch) (columns last_columns : ℕ) (ladder : Option ℕ) (choices : Choices) (low known run place : ℕ) → AreBest stretches columns last_columns ladder choices low known
+    → IsKnown ladder low known run place → place ≤ length stretches → IsKept choices run place
+kept_known stretches columns last_columns ladder choices low known run place best is within = (
+  omega (arith, best.many, within),
+  best.kept run place is within,
+  λ some. omega (arith, best.begun (omega (arith, some, is.0)), within),
+)
+
+-- A line is made alike where the lines after it are kept alike.
+still_made : (stretches : List Stretch) (columns last_columns : ℕ) (ladder : Option ℕ) (choices new : Choices) (known start run place : ℕ) (choice : Choice)
+    → ((r e : ℕ) → IsKnown ladder start known r e → e ≤ length stretches → kept_at new r e ≡ kept_at choices r e) → start ≤ place
+    → IsMade stretches columns last_columns ladder choices run place choice → IsMade stretches columns last_columns ladder new run place choice
+still_made stretches columns last_columns ladder choices new known start run place choice there low old =
+    let hyphens = hyphens_to stretches run choice.end in
+    let later = run_of ladder hyphens in
+    let same = there later choice.end (known_after ladder start known later choice.end (omega (arith, low, old.after)) (run_within ladder hyphens)) old.within in
+    record {
+      after = old.after;
+      within = old.within;
+      stands = old.stands;
+      sum = subst (λ k. choice.cost ≡ together (line_cost stretches columns last_columns ladder hyphens place choice.end) k.cost) (sym same) old.sum;
+    }
+
+-- Some more runs at a place have their best line.
+pub best_before : (stretches : List Stretch) (columns last_columns : ℕ) (ladder : Option ℕ) (choices new : Choices) (known upto start : ℕ) (choice : Choice) → start < length stretches → known ≤ upto → upto < runs ladder
+    → AreBest stretches columns last_columns ladder choices start known
+    → length new.firsts.items ≡ length choices.firsts.items → length new.begins.items ≡ length choices.begins.items
+    → ((r e : ℕ) → IsKnown ladder start known r e → e ≤ length stretches → kept_at new r e ≡ kept_at choices r e)
+    → ((r e : ℕ) → IsKnown ladder start known r e → e ≤ length stretches → HasRun (row_at new e) r)
+    → ((r : ℕ) → known ≤ r → r ≤ upto → kept_at new r start ≡ record { cost = choice.cost; end = choice.end; last_run = upto })
+    → ((r : ℕ) → known ≤ r → r ≤ upto → HasRun (row_at new start) r)
+    → IsLeast stretches columns last_columns ladder known start choice.cost
+    → ((r : ℕ) → known ≤ r → r ≤ upto → IsMade stretches columns last_columns ladder choices r start choice) → IsSmall choice.cost (length stretches - start)
+    → AreBest stretches columns last_columns ladder new start (upto + 1)
+best_before stretches columns last_columns ladder choices new known upto start choice lt order within best many begun there there_has here here_has least made small =
+    let cases : (r e : ℕ) → IsKnown ladder start (upto + 1) r e → ((start ≡ e) × ((known ≤ r) × (r ≤ upto))) ⊎ IsKnown ladder start known r e = λ r e k. elim k.1 [
+      | inl after ↦ inr (k.0, inl after)
+      | inr same ↦ elim (cases_lt r known) [ inl less ↦ inr (k.0, inr (same.0, less)) | inr more ↦ inl (same.0, (more, omega (arith, same.1))) ]
+    ] in
+    record {
+      many = many ∙ best.many;
+      begun = λ some. begun ∙ best.begun some;
+      kept = λ r e k high. elim (cases r e k) [
+        | inl same ↦ subst (λ p. HasRun (row_at new p) r) same.0 (here_has r same.1.0 same.1.1)
+        | inr other ↦ there_has r e other high
+      ];
+      short = λ r e k high. elim (cases r e k) [
+        | inl same ↦ subst (λ p. (kept_at new r p).last_run < runs ladder) same.0 (subst (λ q. q.last_run < runs ladder) (sym (here r same.1.0 same.1.1)) within)
+        | inr other ↦ subst (λ q. q.last_run < runs ladder) (sym (there r e other high)) (best.short r e other high)
+      ];
+      least = λ r e k high. elim (cases r e k) [
+        | inl same ↦ subst (λ p. IsLeast stretches columns last_columns ladder r p (kept_at new r p).cost) same.0
+            (subst (λ q. IsLeast stretches columns last_columns ladder r start q.cost) (sym (here r same.1.0 same.1.1))
+            (least_more stretches columns last_columns ladder known r start choice.cost same.1.0 least))
+        | inr other ↦ subst (λ q. IsLeast stretches columns last_columns ladder r e q.cost) (sym (there r e other high)) (best.least r e other high)
+      ];
+      small = λ r e k high. elim (cases r e k) [
+        | inl same ↦ subst (λ p. IsSmall (kept_at new r p).cost (length stretches - p)) same.0 (subst (λ q. IsSmall q.cost (length stretches - start)) (sym (here r same.1.0 same.1.1)) small)
+        | inr other ↦ subst (λ q. IsSmall q.cost (length stretches - e)) (sym (there r e other high)) (best.small r e other high)
+      ];
+      made = λ r e k high. elim (cases r e k) [
+        | inl same ↦ subst (λ p. IsMade stretches columns last_columns ladder new r p (choice_at new r p)) same.0
+            (subst (λ q. IsMade stretches columns last_columns ladder new r start (record { cost = q.cost; end = q.end })) (sym (here r same.1.0 same.1.1))
+            (still_made stretches columns last_columns ladder choices new known start r start choice there (omega arith) (made r same.1.0 same.1.1)))
+        | inr other ↦ subst (λ q. IsMade stretches columns last_columns ladder new r e (record { cost = q.cost; end = q.end })) (sym (there r e other (omega (arith, high))))
+            (still_made stretches columns last_columns ladder choices new known start r e (choice_at choices r e) there (elim other.1 [ inl after ↦ omega (arith, after) | inr same ↦ omega (arith, same.0) ]) (best.made r e other high))
+      ];
+      last = λ r few. subst (λ q. q.cost ≡ nothing) (sym (there r (length stretches) (few, inl lt) (omega arith))) (best.last r few);
+    }
 
 -- ---- the row of the best lines
 
 -- Followed by any ends that cost what is said from a place on, these cost what is said from the beginning.
-abbrev pub GoesOn : List Stretch → ℕ → ℕ → Option ℕ → List Choice → ℕ → ℕ → List ℕ → Type 0
+abbrev pub GoesOn : List Stretch → ℕ → ℕ → Option ℕ → Choices → ℕ → ℕ → List ℕ → Type 0
 GoesOn stretches columns last_columns ladder choices run place ends =
-    (rest : List ℕ) → Divides stretches columns place rest → cost_of stretches columns last_columns ladder run place rest ≡ (choice_at ladder choices run place).cost
-    → Divides stretches columns 0 (ends ++ rest) × (cost_of stretches columns last_columns ladder 0 0 (ends ++ rest) ≡ (choice_at ladder choices 0 0).cost)
+    (rest : List ℕ) → Divides stretches columns place rest → cost_of stretches columns last_columns ladder run place rest ≡ (choice_at choices run place).cost
+    → Divides stretches columns 0 (ends ++ rest) × (cost_of stretches columns last_columns ladder 0 0 (ends ++ rest) ≡ (choice_at choices 0 0).cost)
 
-pub goes_further : (stretches : List Stretch) (columns last_columns : ℕ) (ladder : Option ℕ) (choices : List Choice) (run place : ℕ) (ends : List ℕ) (choice : Choice) → GoesOn stretches columns last_columns ladder choices run place ends
-    → choice_at ladder choices run place ≡ choice → IsMade stretches columns last_columns ladder choices run place choice
+pub goes_further : (stretches : List Stretch) (columns last_columns : ℕ) (ladder : Option ℕ) (choices : Choices) (run place : ℕ) (ends : List ℕ) (choice : Choice) → GoesOn stretches columns last_columns ladder choices run place ends
+    → choice_at choices run place ≡ choice → IsMade stretches columns last_columns ladder choices run place choice
     → GoesOn stretches columns last_columns ladder choices (run_of ladder (hyphens_to stretches run choice.end)) choice.end (ends ++ choice.end ∷ [])
 goes_further stretches columns last_columns ladder choices run place ends choice before read made rest divides same =
     let end = choice.end in
@@ -205,14 +374,14 @@ goes_further stretches columns last_columns ladder choices run place ends choice
     let line = line_cost stretches columns last_columns ladder hyphens place end in
     let exact = sym (run_same stretches columns last_columns ladder hyphens end rest) ∙ same in
     let all = before (end ∷ rest) (made.after, made.stands, divides) (ap (together line) exact ∙ sym made.sum ∙ ap (λ c. c.cost) (sym read)) in
-    subst (λ row. Divides stretches columns 0 row × (cost_of stretches columns last_columns ladder 0 0 row ≡ (choice_at ladder choices 0 0).cost)) (sym (append_assoc ends (end ∷ []) rest)) all
+    subst (λ row. Divides stretches columns 0 row × (cost_of stretches columns last_columns ladder 0 0 row ≡ (choice_at choices 0 0).cost)) (sym (append_assoc ends (end ∷ []) rest)) all
 
-pub goes_to_end : (stretches : List Stretch) (columns last_columns : ℕ) (ladder : Option ℕ) (choices : List Choice) (run place : ℕ) (ends : List ℕ) → GoesOn stretches columns last_columns ladder choices run place ends
+pub goes_to_end : (stretches : List Stretch) (columns last_columns : ℕ) (ladder : Option ℕ) (choices : Choices) (run place : ℕ) (ends : List ℕ) → GoesOn stretches columns last_columns ladder choices run place ends
     → AreBest stretches columns last_columns ladder choices 0 (runs ladder) → run < runs ladder → length stretches ≡ place
-    → Divides stretches columns 0 ends × (cost_of stretches columns last_columns ladder 0 0 ends ≡ (choice_at ladder choices 0 0).cost)
+    → Divides stretches columns 0 ends × (cost_of stretches columns last_columns ladder 0 0 ends ≡ (choice_at choices 0 0).cost)
 goes_to_end stretches columns last_columns ladder choices run place ends before best few same =
-    let all = before [] (sym same) (sym (ap (λ p. (choice_at ladder choices run p).cost) (sym same) ∙ best.last run few)) in
-    subst (λ row. Divides stretches columns 0 row × (cost_of stretches columns last_columns ladder 0 0 row ≡ (choice_at ladder choices 0 0).cost)) (append-nil ends) all
+    let all = before [] (sym same) (sym (ap (λ p. (choice_at choices run p).cost) (sym same) ∙ best.last run few)) in
+    subst (λ row. Divides stretches columns 0 row × (cost_of stretches columns last_columns ladder 0 0 row ≡ (choice_at choices 0 0).cost)) (append-nil ends) all
 
 -- ---- lines that fit have no excess
 
@@ -229,7 +398,7 @@ excess_least one other h none = elim h [ inl less ↦ absurd (omega (arith, less
 
 -- ---- what lines that cost the least keep to
 
-pub ends_least : (stretches : List Stretch) (columns last_columns : ℕ) (ladder : Option ℕ) (choices : List Choice) (run place : ℕ) (ends : List ℕ) → GoesOn stretches columns last_columns ladder choices run place ends
+pub ends_least : (stretches : List Stretch) (columns last_columns : ℕ) (ladder : Option ℕ) (choices : Choices) (run place : ℕ) (ends : List ℕ) → GoesOn stretches columns last_columns ladder choices run place ends
     → AreBest stretches columns last_columns ladder choices 0 (runs ladder) → run < runs ladder → length stretches ≡ place
     → Divides stretches columns 0 ends × CostsLeast stretches columns last_columns ladder ends
 ends_least stretches columns last_columns ladder choices run place ends before best few same =

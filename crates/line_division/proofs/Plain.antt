@@ -1,15 +1,16 @@
 -- Paragraphs in which nothing but what is spent counts.
-use Rattle.std.proofs.Common.{◌≡◌, ℕ, ◌+◌, ◌-◌, ◌*◌, ◌/◌, ◌%◌, ◌<◌, ◌≤◌, zero, suc, Option, None, List, [], ◌∷◌, length, slice_index_or, sym, ap, subst, refl, arith, inl, inr}
+use Rattle.std.proofs.Common.{◌≡◌, ℕ, ◌+◌, ◌-◌, ◌≤◌, zero, suc, Option, None, List, [], ◌∷◌, length, sym, ap, subst, refl, arith, inl, inr}
 use Rattle.line_division.specs.declared.stretch.Stretch.{Stretch}
 use Rattle.line_division.specs.declared.cost.Cost.{Cost}
-use Rattle.line_division.specs.declared.even.Choice.{Choice}
+use Rattle.line_division.specs.declared.table.Choices.{Choices}
 use Rattle.line_division.specs.Lines.{line_width, hyphens_to, line_over}
 use Rattle.line_division.specs.Division.{MayStand, Divides, EachFits, KeepsLadder, cost_of}
-use Rattle.line_division.specs.Private.Best.{no_choice, choice_at, runs, IsLeast, IsKnown, AreBest}
+use Rattle.line_division.specs.Private.Best.{IsLeast, IsKnown, AreBest}
+use Rattle.line_division.specs.Private.Table.{choice_at}
 use Rattle.line_division.specs.Private.Plain.{IsPlain, IsSpentAlone}
 use Rattle.line_division.proofs.Widths.{width_to}
 use Rattle.line_division.proofs.Reaching.{joined_none}
-use Rattle.line_division.proofs.Least.{known_between, fits_no_excess, excess_least}
+use Rattle.line_division.proofs.Least.{fits_no_excess, excess_least}
 use Rattle.line_division.proofs.Runs.{keeps_none_over, over_least}
 
 -- A line of one stretch fits.
@@ -61,17 +62,8 @@ plain_least stretches columns last_columns ladder run start least within plain i
 
 -- ---- choices that are known
 
-pub plain_known : (stretches : List Stretch) (columns last_columns : ℕ) (ladder : Option ℕ) (choices : List Choice) (low known run place at : ℕ) → IsPlain stretches columns ladder
-    → AreBest stretches columns last_columns ladder choices low known → IsKnown ladder low known run place → place ≤ length stretches → at ≡ place * runs ladder + run
-    → IsSpentAlone (slice_index_or choices at no_choice).cost
-plain_known stretches columns last_columns ladder choices low known run place at plain best is_known within is =
-    subst (λ i. IsSpentAlone (slice_index_or choices i no_choice).cost) (sym is)
-    (plain_least stretches columns last_columns ladder run place (choice_at ladder choices run place).cost within plain (best.least run place is_known within))
-
--- All that are kept between two places.
-pub plain_between : (stretches : List Stretch) (columns last_columns : ℕ) (ladder : Option ℕ) (choices : List Choice) (start last at : ℕ) → IsPlain stretches columns ladder
-    → AreBest stretches columns last_columns ladder choices start (runs ladder) → last ≤ length stretches → start * runs ladder ≤ at → at < (last + 1) * runs ladder
-    → IsSpentAlone (slice_index_or choices at no_choice).cost
-plain_between stretches columns last_columns ladder choices start last at plain best within low high =
-    let known = known_between ladder start last at low high in
-    plain_known stretches columns last_columns ladder choices start (runs ladder) (at % runs ladder) (at / runs ladder) at plain best known.0 (omega (arith, known.1, within)) known.2
+pub plain_known : (stretches : List Stretch) (columns last_columns : ℕ) (ladder : Option ℕ) (choices : Choices) (low known run place : ℕ) → IsPlain stretches columns ladder
+    → AreBest stretches columns last_columns ladder choices low known → IsKnown ladder low known run place → place ≤ length stretches
+    → IsSpentAlone (choice_at choices run place).cost
+plain_known stretches columns last_columns ladder choices low known run place plain best is_known within =
+    plain_least stretches columns last_columns ladder run place (choice_at choices run place).cost within plain (best.least run place is_known within)

@@ -1,23 +1,24 @@
 -- How far lines reach, and which of them need not be tried.
-use Rattle.std.proofs.Common.{◌≡◌, ℕ, ◌+◌, ◌-◌, ◌*◌, ◌<◌, ◌≤◌, ◌==◌, if◌then◌else◌, Bool, true, false, Option, List, ◌∷◌, length, take, drop, sym, ap, slice_index_or, subst, refl, arith, inl, inr}
+use Rattle.std.proofs.Common.{◌≡◌, ℕ, ◌+◌, ◌-◌, ◌*◌, ◌<◌, ◌≤◌, ◌==◌, if◌then◌else◌, Bool, true, false, Option, List, ◌∷◌, length, take, drop, sym, ap, slice_index_or, subst, refl, ◌∙◌, arith, inl, inr}
 use Rattle.std.specs.Bool.{MatchBool}
 use Rattle.std.specs.List.{sum_by, slice_range}
 use Rattle.std.proofs.lemmas.Bool.{cases_lt, cases_eq}
-use Rattle.std.proofs.lemmas.List.{get_or_past}
+use Rattle.std.proofs.lemmas.List.{get_or_past, get_or_default}
 use Rattle.std.proofs.lemmas.Nat.{mul-le}
 use Rattle.line_division.specs.declared.stretch.Stretch.{Stretch}
 use Rattle.line_division.specs.declared.cost.Cost.{Cost}
-use Rattle.line_division.specs.declared.even.Choice.{Choice}
-use Rattle.line_division.specs.declared.reach.Reach.{Reach}
+use Rattle.line_division.specs.declared.table.Choice.{Choice}
+use Rattle.line_division.specs.declared.table.Choices.{Choices}
 use Rattle.line_division.specs.Cost.{nothing, together, CostsNoMore}
 use Rattle.line_division.specs.Lines.{no_stretch, stretch_at, joined_width, line_width, wanted_columns, hyphens_to, line_cost}
-use Rattle.line_division.specs.Division.{MayStand, Divides, cost_of}
+use Rattle.line_division.specs.Division.{Divides, cost_of}
 use Rattle.line_division.specs.Greedy.{IsFurthest}
-use Rattle.line_division.specs.Private.Best.{no_choice, choice_at, runs, run_of, IsLeast, IsMade, IsKnown, AreBest, IsFloor}
-use Rattle.line_division.specs.Private.Reaches.{IsMostClosing, IsReach}
+use Rattle.line_division.specs.Private.Best.{runs, run_of, over_cost, floor_after, IsLeast, IsMade, AreBest, IsFloor}
+use Rattle.line_division.specs.Private.Table.{choice_at}
+use Rattle.line_division.specs.Private.Reaches.{IsMostClosing}
 use Rattle.line_division.proofs.Widths.{joined_more, joined_parts, joined_up}
-use Rattle.line_division.proofs.Least.{no_more_here, nothing_least, no_more_along, made_least, least_at_last, divides_within}
-use Rattle.line_division.proofs.Runs.{run_within, run_same, place_within}
+use Rattle.line_division.proofs.Least.{nothing_least, no_more_along, no_more_together, made_least, least_at_last, divides_within}
+use Rattle.line_division.proofs.Runs.{run_within, run_same}
 
 -- The sum over no stretch.
 pub joined_none : (stretches : List Stretch) (start : ℕ) → sum_by joined_width (slice_range stretches start start) ≡ 0
@@ -87,7 +88,7 @@ IsLeastAfter stretches columns last_columns ladder run start place least =
     (end : ℕ) (row : List ℕ) → place < end → Divides stretches columns start (end ∷ row) → CostsNoMore least (cost_of stretches columns last_columns ladder run start (end ∷ row))
 
 -- One more end is tried, and the better one kept.
-pub least_tried : (stretches : List Stretch) (columns last_columns : ℕ) (ladder : Option ℕ) (choices : List Choice) (run start last : ℕ) (old : Cost) (other : Choice)
+pub least_tried : (stretches : List Stretch) (columns last_columns : ℕ) (ladder : Option ℕ) (choices : Choices) (run start last : ℕ) (old : Cost) (other : Choice)
     → IsLeastAfter stretches columns last_columns ladder run start (last + 1) old → IsMade stretches columns last_columns ladder choices run start other → other.end ≡ last + 1 → AreBest stretches columns last_columns ladder choices start run
     → (kept : Cost) → CostsNoMore kept old → CostsNoMore kept other.cost → IsLeastAfter stretches columns last_columns ladder run start last kept
 least_tried stretches columns last_columns ladder choices run start last old other before made ends best kept no_more no_more_either end row after divides =
@@ -133,8 +134,8 @@ no_wider stretches most start last end closing lt le within =
     ]
 
 -- A line and what comes after it cost no less than the floor and a part of what the line spends.
-pub no_more_above : (best floor line rest : Cost) (part : ℕ) → best.excess ≡ floor.excess → best.over ≡ floor.over → best.spent ≤ floor.spent + part → part ≤ line.spent → CostsNoMore floor rest
-    → CostsNoMore best (together line rest)
+pub no_more_above : (best floor line rest : Cost) (part : ℕ) → best.excess ≡ floor.excess → best.over ≡ floor.over → best.spent ≤ floor.spent + part → part ≤ line.spent
+    → CostsNoMore floor (together (record { excess = 0; over = line.over; spent = 0 }) rest) → CostsNoMore best (together line rest)
 no_more_above best floor line rest part excess over spent up h =
     elim h [
       | inl less ↦ inl (omega (arith, less, excess))
@@ -144,10 +145,7 @@ no_more_above best floor line rest part excess over spent up h =
           omega (arith, excess, same.0, none),
           elim same.1 [
             | inl fewer ↦ inl (omega (arith, over, fewer))
-            | inr as_many ↦ elim (cases_eq line.over 0) [
-              | inr more ↦ inl (omega (arith, over, as_many.0, more))
-              | inl no_more ↦ inr (omega (arith, over, as_many.0, no_more), omega (arith, spent, up, as_many.1))
-            ]
+            | inr as_many ↦ inr (omega (arith, over, as_many.0), omega (arith, spent, up, as_many.1))
           ],
         )
       ]
@@ -156,7 +154,7 @@ no_more_above best floor line rest part excess over spent up h =
 -- The columns that they lack, and the floor, cost as much as the best line.
 pub least_enough : (stretches : List Stretch) (columns last_columns : ℕ) (ladder : Option ℕ) (run most start last lacked upto : ℕ) (floor least : Cost) → IsMostClosing stretches most → start < length stretches → last + 1 < length stretches
     → lacked ≤ columns - ((stretch_at stretches start).opening + sum_by joined_width (slice_range stretches start last) + (stretch_at stretches last).width + most)
-    → IsFloor stretches columns last_columns ladder (start + 1) upto floor → last + 1 ≤ upto
+    → IsFloor stretches columns last_columns ladder run (start + 1) upto floor → last + 1 ≤ upto
     → least.excess ≡ floor.excess → least.over ≡ floor.over → least.spent ≤ floor.spent + lacked * lacked → IsLeastAfter stretches columns last_columns ladder run start (last + 1) least → IsLeast stretches columns last_columns ladder run start least
 least_enough stretches columns last_columns ladder run most start last lacked upto floor least closing within inner is below high same_excess same_over enough after =
     least_at_last stretches columns last_columns ladder run start least within (λ end row divides. elim (cases_lt (last + 1) end) [
@@ -169,15 +167,13 @@ least_enough stretches columns last_columns ladder run most start last lacked up
           let hyphens = hyphens_to stretches run end in
           let line = line_cost stretches columns last_columns ladder hyphens start end in
           let rest = cost_of stretches columns last_columns ladder hyphens end row in
-          let all = below (run_of ladder hyphens) end (run_within ladder hyphens) (omega (arith, divides.0)) (omega (arith, here, high)) row divides.2 in
-          let then_exact : CostsNoMore floor rest = subst (λ c. CostsNoMore floor c) (run_same stretches columns last_columns ladder hyphens end row) all in
-          no_more_above least floor line rest (lacked * lacked) same_excess same_over enough (omega (arith, square)) then_exact
+          no_more_above least floor line rest (lacked * lacked) same_excess same_over enough (omega (arith, square)) (below end row (omega (arith, divides.0)) (omega (arith, here, high)) divides.2)
     ])
 
 -- ---- the longest line
 
 -- No line ends after the longest one.
-pub least_longest : (stretches : List Stretch) (columns last_columns : ℕ) (ladder : Option ℕ) (choices : List Choice) (run start last : ℕ) (choice : Choice)
+pub least_longest : (stretches : List Stretch) (columns last_columns : ℕ) (ladder : Option ℕ) (choices : Choices) (run start last : ℕ) (choice : Choice)
     → IsMade stretches columns last_columns ladder choices run start choice → choice.end ≡ last + 1 → AreBest stretches columns last_columns ladder choices start run → IsFurthest stretches columns start (last + 1)
     → IsLeastAfter stretches columns last_columns ladder run start last choice.cost
 least_longest stretches columns last_columns ladder choices run start last choice made ends best longest end row after divides =
@@ -195,71 +191,47 @@ least_longest stretches columns last_columns ladder choices run start last choic
 -- ---- floors
 
 -- Nothing costs less than no lines.
-pub floor_none : (stretches : List Stretch) (columns last_columns : ℕ) (ladder : Option ℕ) (first last : ℕ) → IsFloor stretches columns last_columns ladder first last nothing
-floor_none stretches columns last_columns ladder first last r e few low high row divides = nothing_least (cost_of stretches columns last_columns ladder r e row)
+pub floor_none : (stretches : List Stretch) (columns last_columns : ℕ) (ladder : Option ℕ) (run first last : ℕ) → IsFloor stretches columns last_columns ladder run first last nothing
+floor_none stretches columns last_columns ladder run first last e row low high divides =
+    let hyphens = hyphens_to stretches run e in
+    nothing_least (together (over_cost ladder hyphens) (cost_of stretches columns last_columns ladder hyphens e row))
 
-no_more_after : (floor line rest : Cost) → CostsNoMore floor rest → CostsNoMore floor (together line rest)
-no_more_after floor line rest h = no_more_above floor floor line rest 0 refl refl (omega arith) (omega arith) h
+-- A floor of some places is one of fewer of them.
+pub floor_within : (stretches : List Stretch) (columns last_columns : ℕ) (ladder : Option ℕ) (run first last upto : ℕ) (floor : Cost) → last ≤ upto
+    → IsFloor stretches columns last_columns ladder run first upto floor → IsFloor stretches columns last_columns ladder run first last floor
+floor_within stretches columns last_columns ladder run first last upto floor fewer below e row low high divides = below e row low (omega (arith, high, fewer)) divides
 
--- A line ends no later than after the last stretch that it reaches.
-ends_within : (stretches : List Stretch) (columns start last end : ℕ) → start ≤ last → IsBeyond stretches columns start last → start < end → end ≤ length stretches → MayStand stretches columns start end → end ≤ last + 1
-ends_within stretches columns start last end from beyond after within stands =
-    elim (cases_lt (last + 1) end) [
-      | inr here ↦ here
-      | inl later ↦ elim stands [
-        | inl fit ↦ absurd (omega (arith, fit, beyond (end - 1) (omega (arith, later)) (omega (arith, within, after))))
-        | inr alone ↦ absurd (omega (arith, alone, later, from))
-      ]
+-- A cost that is no more than two floors is one of the places of both.
+pub floor_joined : (stretches : List Stretch) (columns last_columns : ℕ) (ladder : Option ℕ) (run first middle last : ℕ) (one other new : Cost) → IsFloor stretches columns last_columns ladder run first middle one
+    → IsFloor stretches columns last_columns ladder run (middle + 1) last other → CostsNoMore new one → CostsNoMore new other → IsFloor stretches columns last_columns ladder run first last new
+floor_joined stretches columns last_columns ladder run first middle last one other new below above no_more no_more_either e row low high divides =
+    let hyphens = hyphens_to stretches run e in
+    let all = together (over_cost ladder hyphens) (cost_of stretches columns last_columns ladder hyphens e row) in
+    elim (cases_lt middle e) [
+      | inl later ↦ no_more_along new other all no_more_either (above e row (omega (arith, later)) high divides)
+      | inr here ↦ no_more_along new one all no_more (below e row low (omega (arith, here)) divides)
     ]
 
--- A floor of all places that a line reaches is one of the place where it begins.
-pub floor_earlier : (stretches : List Stretch) (columns last_columns : ℕ) (ladder : Option ℕ) (start upto : ℕ) (reach : Reach) (floor : Cost) → start < length stretches → IsReach stretches columns start reach → reach.last + 1 ≤ upto
-    → IsFloor stretches columns last_columns ladder (start + 1) upto floor → IsFloor stretches columns last_columns ladder start (reach.last + 1) floor
-floor_earlier stretches columns last_columns ladder start upto reach floor within reaches down below r e few low high =
-    elim (cases_lt start e) [
-      | inl later ↦ below r e few (omega (arith, later)) (omega (arith, high, down))
-      | inr here ↦
-          let same : start ≡ e = omega (arith, low, here) in
-          subst (λ p. IsLeast stretches columns last_columns ladder r p floor) same
-          (least_at_last stretches columns last_columns ladder r start floor within (λ end row divides.
-          let hyphens = hyphens_to stretches r end in
-          let line = line_cost stretches columns last_columns ladder hyphens start end in
-          let rest = cost_of stretches columns last_columns ladder hyphens end row in
-          let high_end = ends_within stretches columns start reach.last end reaches.from reaches.beyond divides.0 (divides_within stretches columns end row divides.2) divides.1 in
-          let all = below (run_of ladder hyphens) end (run_within ladder hyphens) (omega (arith, divides.0)) (omega (arith, high_end, down)) row divides.2 in
-          let exact : CostsNoMore floor rest = subst (λ c. CostsNoMore floor c) (run_same stretches columns last_columns ladder hyphens end row) all in
-          no_more_after floor line rest exact))
-    ]
+-- The cost of an end after a run, with the best lines after it, is a floor of that place.
+pub floor_here : (stretches : List Stretch) (columns last_columns : ℕ) (ladder : Option ℕ) (choices : Choices) (run end : ℕ) (floor : Cost) → end ≤ length stretches
+    → AreBest stretches columns last_columns ladder choices end (runs ladder)
+    → floor ≡ together (over_cost ladder (hyphens_to stretches run end)) (choice_at choices (run_of ladder (hyphens_to stretches run end)) end).cost
+    → IsFloor stretches columns last_columns ladder run end end floor
+floor_here stretches columns last_columns ladder choices run end floor within best is e row low high divides =
+    let same : end ≡ e = omega (arith, low, high) in
+    let hyphens = hyphens_to stretches run end in
+    let later = run_of ladder hyphens in
+    let few = run_within ladder hyphens in
+    let choice = choice_at choices later end in
+    let here : Divides stretches columns end row → CostsNoMore floor (together (over_cost ladder hyphens) (cost_of stretches columns last_columns ladder hyphens end row)) = λ d.
+    let own : CostsNoMore choice.cost (cost_of stretches columns last_columns ladder hyphens end row) = subst (λ c. CostsNoMore choice.cost c) (run_same stretches columns last_columns ladder hyphens end row) (best.least later end (few, inr (refl, few)) within row d) in
+    subst (λ f. CostsNoMore f (together (over_cost ladder hyphens) (cost_of stretches columns last_columns ladder hyphens end row))) (sym is)
+    (no_more_together (over_cost ladder hyphens) choice.cost (cost_of stretches columns last_columns ladder hyphens end row) own) in
+    subst (λ p. Divides stretches columns p row → CostsNoMore floor (together (over_cost ladder (hyphens_to stretches run p)) (cost_of stretches columns last_columns ladder (hyphens_to stretches run p) p row))) same here divides
 
--- The least cost of all choices from a place on, up to those after another, is a floor.
-pub floor_all : (stretches : List Stretch) (columns last_columns : ℕ) (ladder : Option ℕ) (choices : List Choice) (start last : ℕ) (floor : Cost) → last ≤ length stretches
-    → AreBest stretches columns last_columns ladder choices start (runs ladder)
-    → ((k : ℕ) → start * runs ladder ≤ k → k < (last + 1) * runs ladder → CostsNoMore floor (slice_index_or choices k no_choice).cost)
-    → IsFloor stretches columns last_columns ladder start last floor
-floor_all stretches columns last_columns ladder choices start last floor within best below r e few low high row divides =
-    let known : IsKnown ladder start (runs ladder) r e = (few, elim (cases_eq start e) [ inl same ↦ inr (same, few) | inr other ↦ inl (omega (arith, low, other)) ]) in
-    let rows = mul-le start (runs ladder) e (runs ladder) low (omega arith) in
-    let own = below (e * runs ladder + r) (omega (arith, rows)) (place_within last e r (runs ladder) high few) in
-    no_more_along floor (choice_at ladder choices r e).cost (cost_of stretches columns last_columns ladder r e row) own (best.least r e known (omega (arith, high, within)) row divides)
-
--- The first choice is no cheaper than its own cost.
-pub floor_first : (choices : List Choice) (from first : ℕ) (floor : Cost) → first ≡ from → floor ≡ (slice_index_or choices first no_choice).cost
-    → (j : ℕ) → from ≤ j → j < first + 1 → CostsNoMore floor (slice_index_or choices j no_choice).cost
-floor_first choices from first floor same is j low less =
-    let here : first ≡ j = omega (arith, same, low, less) in
-    subst (λ p. CostsNoMore floor (slice_index_or choices p no_choice).cost) here (subst (CostsNoMore floor) is (no_more_here floor))
-
--- One more choice is no cheaper than a floor.
-pub floor_more : (choices : List Choice) (first k : ℕ) (choice old new : Cost) → choice ≡ (slice_index_or choices k no_choice).cost → CostsNoMore new old → CostsNoMore new choice
-    → ((j : ℕ) → first ≤ j → j < k → CostsNoMore old (slice_index_or choices j no_choice).cost)
-    → (j : ℕ) → first ≤ j → j < k + 1 → CostsNoMore new (slice_index_or choices j no_choice).cost
-floor_more choices first k choice old new is no_more here before j low less =
-    elim (cases_lt j k) [
-      | inl earlier ↦ no_more_along new old (slice_index_or choices j no_choice).cost no_more (before j low earlier)
-      | inr later ↦
-          let same : k ≡ j = omega (arith, later, less) in
-          subst (λ p. CostsNoMore new (slice_index_or choices p no_choice).cost) same (subst (CostsNoMore new) is here)
-    ]
+-- A floor that is read.
+pub floor_read : (floors : List Cost) (run : ℕ) (floor : Cost) → run - 1 < length floors → floor ≡ slice_index_or floors (run - 1) floor → floor_after floors run ≡ floor
+floor_read floors run floor inside is = get_or_default floors (run - 1) nothing floor inside ∙ sym is
 
 -- The facts that a test tells.
 pub told_true : (A B : Type 0) (b : Bool) → MatchBool b A B → b ≡ true → A

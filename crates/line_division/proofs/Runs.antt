@@ -1,7 +1,6 @@
 -- Runs of hyphens, and the places where choices are kept.
-use Rattle.std.proofs.Common.{◌≡◌, ℕ, ◌+◌, ◌-◌, ◌*◌, ◌<◌, ◌≤◌, ◌⊎◌, ◌≢◌, nat_lt, true, false, Option, Some, None, List, [], ◌∷◌, sym, ap, refl, ◌∙◌, arith, inl, inr}
+use Rattle.std.proofs.Common.{◌≡◌, ℕ, ◌+◌, ◌-◌, ◌<◌, ◌≤◌, nat_lt, true, false, Option, Some, None, List, [], ◌∷◌, sym, ap, refl, ◌∙◌, arith, inl, inr}
 use Rattle.std.proofs.lemmas.Bool.{cases_lt, cases_Bool, cond-true, cond-false}
-use Rattle.std.proofs.lemmas.Nat.{mul-le}
 use Rattle.line_division.specs.declared.stretch.Stretch.{Stretch}
 use Rattle.line_division.specs.declared.cost.Cost.{Cost}
 use Rattle.line_division.specs.Cost.{together}
@@ -62,26 +61,6 @@ run_same stretches columns last_columns ladder hyphens start row =
           ap (λ r. cost_of stretches columns last_columns ladder r start row) (cond-false _ _ _ told)
           ∙ full_same stretches columns last_columns ladder (runs ladder - 1) hyphens start row (omega (arith, runs_some ladder)) (omega (arith, full))
     ]
-
--- ---- the places of choices
-
--- The place for a later place of a paragraph is past all of an earlier one.
-pub place_later : (start run place r width : ℕ) → run < width → start < place → start * width + run < place * width + r
-place_later start run place r width within after =
-    let rows = mul-le (start + 1) width place width (omega (arith, after)) (omega arith) in
-    omega (arith, rows, within)
-
-pub place_apart : (start run place r width : ℕ) → run < width → (start < place) ⊎ ((start ≡ place) × (r < run)) → place * width + r ≢ start * width + run
-place_apart start run place r width within apart same =
-    elim apart [
-      | inl after ↦ absurd (omega (arith, same, place_later start run place r width within after))
-      | inr here ↦ absurd (omega (arith, same, here.1, ap (λ p. p * width) here.0))
-    ]
-
-pub place_within : (count place run width : ℕ) → place ≤ count → run < width → place * width + run < (count + 1) * width
-place_within count place run width le within =
-    let rows = mul-le (place + 1) width (count + 1) width (omega (arith, le)) (omega arith) in
-    omega (arith, rows, within)
 
 -- ---- lines that keep to a ladder
 

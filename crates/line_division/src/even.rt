@@ -3,36 +3,31 @@
 //! From the last stretch to the first, the best line to begin with it is sought, and kept with what it and all lines
 //! after it cost. Only lines that fit are tried, the longest first, and the one that holds only this stretch. All lines
 //! after an end that is in reach cost at least a floor. Shorter lines are not tried once the columns that they are
-//! short of, added to the floor, cost as much as the best line. A floor of all places in reach is one of the places
-//! before them too. So it is sought anew only once in the length of a line.
+//! short of, added to the floor, cost as much as the best line. The floor of a place is the lesser of that of the next one
+//! and of what the place costs itself. It is sought anew only once in the length of a line.
 //!
 //! The division that costs the least without a ladder costs the least with one that it keeps to, too. So it is sought first.
-//! Else the cost of lines depends on the hyphens that stand in a row before them. So with a ladder of n lines the best line
-//! is sought n + 1 times: after a run of 0 to n hyphens. After a longer run it is that after n.
+//! Else the cost of lines depends on the hyphens in a row before them. So with a ladder of n lines the best line is sought
+//! after each run of 0 to n hyphens. After a longer run it is that after n. A line that is known to be the best after
+//! longer runs, too, is sought and kept once for all of them. So at most places there are few. Each run has its own floor.
 
-ghost use Rattle.std.specs.Prelude.{◌≡◌, ◌+◌, ◌-◌, ◌*◌, ◌^◌, ◌<◌, ◌≤◌, ◌⊎◌, true, IfOk, MatchBool, length};
+ghost use Rattle.std.specs.Prelude.{◌≡◌, ℕ, ◌+◌, ◌-◌, ◌*◌, ◌^◌, ◌<◌, ◌≤◌, ◌⊎◌, true, IfOk, MatchBool, length};
 ghost use Rattle.line_division.specs.Lines.{line_width, wanted_columns, line_over, line_cost};
 ghost use Rattle.line_division.specs.Division.{MayStand, Divides, CostsLeast, FitsIfAny, KeepsLadderIfAny};
 ghost use Rattle.line_division.specs.Cost.{CostsNoMore};
-ghost use Rattle.line_division.specs.Private.Best.{runs, run_of, IsLeast, IsSmall, IsMade, AreBest, IsFloor};
+ghost use Rattle.line_division.specs.Private.Begin.{AreBestOf, IsMadeFrom};
+ghost use Rattle.line_division.specs.Private.Best.{runs, run_of, IsLeast, IsSmall, IsMade, AreBest, IsFloor, EachIsFloor, EachIsLow, floor_after};
 ghost use Rattle.line_division.specs.Private.Plain.{IsSpentAlone};
 ghost use Rattle.line_division.specs.Private.Reaches.{IsReach};
+ghost use Rattle.line_division.specs.Private.Table.{IsOpen};
 
 use crate::cost::Cost;
 use crate::ladder::{hyphens_to, keeps_ladder};
-use crate::problem::{Problem, each_fits, widest_of};
+use crate::problem::{Begin, Paragraph, Problem, each_fits, widest_of};
 use crate::reach::{Reach, longest_line, reach_from};
 use crate::stretch::{Stretch, widened};
+use crate::table::{Choice, Choices, Kept, begin_others, choice_at, kept_at};
 use std::alloc::{AllocError, Global};
-
-// The line that is best to begin at a place.
-#[derive(Clone, Copy)]
-struct Choice {
-    // The cost of it and of the best lines after it.
-    cost: Cost,
-    // Where it ends.
-    end: usize,
-}
 
 // Returns the columns that a line should have at least.
 #[inline(always)]
@@ -56,7 +51,7 @@ fn square_lacked(wanted: u16, wide: u64) -> u64
     free * free
 }
 
-// Returns how many runs of hyphens are told apart.
+// Returns how many runs of hyphens are distinguished.
 #[inline(always)]
 fn runs(ladder: Option<u8>) -> usize
     ensures value { result ≡ runs ladder }
@@ -79,7 +74,7 @@ fn run_of(ladder: Option<u8>, hyphens: usize) -> usize
     if hyphens < runs { hyphens } else { runs - 1 }
 }
 
-// Returns 1 for a line at whose end more hyphens stand in a row than the ladder may have, and else 0.
+// Returns 1 for a line at whose end more hyphens are in a row than the ladder may have, and else 0.
 #[inline(always)]
 fn line_over(ladder: Option<u8>, hyphens: usize) -> u64
     ensures value { result ≡ line_over ladder hyphens }
@@ -115,16 +110,6 @@ fn line_cost(problem: Problem, hyphens: usize, start: usize, end: usize, wide: u
     }
 }
 
-// Returns where the choice for a place after a run is kept.
-#[inline(always)]
-fn choice_place(ladder: Option<u8>, run: usize, place: usize) -> usize
-    requires run { run < runs ladder }
-    requires place { place ≤ 2 ^ 30 }
-    ensures value { result ≡ place * runs ladder + run }
-{
-    place * runs(ladder) + run
-}
-
 // Returns a cost as it is. Where it is plain, the compiler learns that nothing but what is spent counts.
 #[inline(always)]
 fn as_known(plain: bool, cost: Cost) -> Cost
@@ -144,29 +129,26 @@ fn as_known(plain: bool, cost: Cost) -> Cost
 
 // Returns the line of this width, followed by the best lines after it.
 #[inline(always)]
-fn choose(
-    problem: Problem,
-    choices: &[Choice],
-    run: usize,
-    start: usize,
-    end: usize,
-    wide: u64,
-) -> Choice
-    requires run { run < runs problem.ladder }
-    requires order { start < end }
-    requires within { end ≤ length problem.stretches.now }
-    requires wide { wide ≡ line_width problem.stretches.now start end }
+fn choose(begin: Begin, choices: &Choices, end: usize, wide: u64) -> Choice
+    requires order { begin.start < end }
+    requires within { end ≤ length begin.problem.stretches.now }
+    requires wide { wide ≡ line_width begin.problem.stretches.now begin.start end }
     requires narrow { wide < 2 ^ 34 }
-    requires stands { MayStand problem.stretches.now problem.columns start end }
-    requires best { AreBest problem.stretches.now problem.columns problem.last_columns problem.ladder choices.now start run }
-    ensures made { IsMade problem.entry.stretches.now problem.entry.columns problem.entry.last_columns problem.entry.ladder choices.now run start result }
-    ensures small { IsSmall result.cost (length problem.entry.stretches.now - start) }
+    requires stands { MayStand begin.problem.stretches.now begin.problem.columns begin.start end }
+    requires best { AreBest begin.problem.stretches.now begin.problem.columns begin.problem.last_columns begin.problem.ladder choices.now begin.start begin.run }
+    ensures made { IsMade begin.entry.problem.stretches.now begin.entry.problem.columns begin.entry.problem.last_columns begin.entry.problem.ladder choices.now begin.entry.run begin.entry.start result }
+    ensures small { IsSmall result.cost (length begin.entry.problem.stretches.now - begin.entry.start) }
     ensures end { result.end ≡ end }
 {
+    let Begin {
+        problem,
+        start,
+        run,
+    } = begin;
     let hyphens = hyphens_to(problem.stretches, run, end);
     let line = line_cost(problem, hyphens, start, end, wide);
-    let after = choice_place(problem.ladder, run_of(problem.ladder, hyphens), end);
-    let cost = as_known(problem.plain, line.plus(choices[after].cost));
+    let after = choice_at(choices, run_of(problem.ladder, hyphens), end);
+    let cost = as_known(problem.plain, line.plus(after.cost));
     Choice { cost, end }
 }
 
@@ -180,24 +162,114 @@ fn lesser(one: Cost, other: Cost) -> Cost
     if other.is_less(one) { other } else { one }
 }
 
-// Returns a cost that no lines from a place fall below, nor from any after it up to another.
-fn floor_of(problem: Problem, choices: &[Choice], start: usize, last: usize) -> Cost
+// Returns what an end costs after a run of hyphens, with the best lines after it. It is all but what its own line spends
+// and has too many.
+#[inline(always)]
+fn cost_after(problem: Problem, choices: &Choices, run: usize, end: usize) -> Cost
+    requires run { run < runs problem.ladder }
+    requires some { 1 ≤ end }
+    requires within { end ≤ length problem.stretches.now }
+    requires best { AreBest problem.stretches.now problem.columns problem.last_columns problem.ladder choices.now end
+        (runs problem.ladder) }
+    ensures floor { IsFloor problem.entry.stretches.now problem.entry.columns problem.entry.last_columns problem.entry.ladder run end end result }
+    ensures low { result.spent ≤ 2 ^ 63 }
+{
+    let hyphens = hyphens_to(problem.stretches, run, end);
+    let after = choice_at(choices, run_of(problem.ladder, hyphens), end);
+    let over = Cost {
+        excess: 0,
+        over: line_over(problem.ladder, hyphens),
+        spent: 0,
+    };
+    as_known(problem.plain, over.plus(after.cost))
+}
+
+// Returns a floor of the lines after a run of hyphens that end at a place, or at one after it up to another.
+#[inline(always)]
+fn floor_of(problem: Problem, choices: &Choices, run: usize, start: usize, last: usize) -> Cost
+    requires run { run < runs problem.ladder }
+    requires some { 1 ≤ start }
     requires order { start ≤ last }
     requires within { last ≤ length problem.stretches.now }
     requires best { AreBest problem.stretches.now problem.columns problem.last_columns problem.ladder choices.now start
         (runs problem.ladder) }
-    ensures floor { IsFloor problem.entry.stretches.now problem.entry.columns problem.entry.last_columns problem.entry.ladder start last result }
+    ensures floor { IsFloor problem.entry.stretches.now problem.entry.columns problem.entry.last_columns problem.entry.ladder run start last result }
     ensures low { result.spent ≤ 2 ^ 63 }
 {
-    let first = choice_place(problem.ladder, 0, start);
-    let mut floor = as_known(problem.plain, choices[first].cost);
-    for place in first + 1..choice_place(problem.ladder, 0, last + 1) {
-        floor = lesser(floor, as_known(problem.plain, choices[place].cost));
+    let mut floor = cost_after(problem, choices, run, start);
+    for place in start + 1..last + 1 {
+        floor = lesser(floor, cost_after(problem, choices, run, place));
     }
     floor
 }
 
-// Reports whether a line of such a width may stand.
+// The places at which lines end, from one to another, and whether the floor of these lines is sought anew.
+#[derive(Clone, Copy)]
+struct Span {
+    start: usize,
+    last: usize,
+    renewed: bool,
+}
+
+// Returns a floor of the lines that end in a span. One is known for those that end a stretch later.
+#[inline(always)]
+fn next_floor(problem: Problem, choices: &Choices, run: usize, span: Span, floor: Cost) -> Cost
+    requires run { run < runs problem.ladder }
+    requires order { span.start ≤ span.last }
+    requires within { span.last ≤ length problem.stretches.now }
+    requires best { AreBest problem.stretches.now problem.columns problem.last_columns problem.ladder choices.now span.start
+        (runs problem.ladder) }
+    ensures floor { 0 < span.start → (upto : ℕ) → span.last ≤ upto
+        → IsFloor problem.entry.stretches.now problem.entry.columns problem.entry.last_columns problem.entry.ladder run (span.start + 1) upto floor
+        → IsFloor problem.entry.stretches.now problem.entry.columns problem.entry.last_columns problem.entry.ladder run span.start span.last result }
+    ensures low { floor.spent ≤ 2 ^ 63 → result.spent ≤ 2 ^ 63 }
+{
+    if span.start == 0 {
+        return floor;
+    }
+    if span.renewed {
+        return floor_of(problem, choices, run, span.start, span.last);
+    }
+    lesser(floor, cost_after(problem, choices, run, span.start))
+}
+
+// Makes the floors of lines that end a stretch later those of lines that end in a span. There is one for each run that is
+// not empty.
+#[inline(always)]
+fn next_floors(problem: Problem, choices: &Choices, span: Span, floors: &mut Vec<Cost>)
+    requires order { span.start ≤ span.last }
+    requires within { span.last ≤ length problem.stretches.now }
+    requires best { AreBest problem.stretches.now problem.columns problem.last_columns problem.ladder choices.now span.start
+        (runs problem.ladder) }
+    requires many { length floors.old.items + 1 ≡ runs problem.ladder }
+    ensures many { length floors.new.items + 1 ≡ runs problem.entry.ladder }
+    ensures floors { 0 < span.start → (upto : ℕ) → span.last ≤ upto
+        → EachIsFloor problem.entry.stretches.now problem.entry.columns problem.entry.last_columns problem.entry.ladder (span.start + 1) upto floors.old.items
+        → EachIsFloor problem.entry.stretches.now problem.entry.columns problem.entry.last_columns problem.entry.ladder span.start span.last floors.new.items }
+    ensures low { EachIsLow floors.old.items → EachIsLow floors.new.items }
+{
+    for run in 1..runs(problem.ladder) {
+        floors[run - 1] = next_floor(problem, choices, run, span, floors[run - 1]);
+    }
+}
+
+// Returns the place at which floors were sought anew the last time.
+#[inline(always)]
+fn renewed_at(span: Span, before: usize) -> usize {
+    if span.renewed { span.start } else { before }
+}
+
+// Returns the floor after a run that is not empty.
+#[inline(always)]
+fn floor_after(floors: &[Cost], run: usize) -> Cost
+    requires some { 1 ≤ run }
+    requires known { run < length floors.now + 1 }
+    ensures { result ≡ floor_after floors.now run }
+{
+    floors[run - 1]
+}
+
+// Reports whether a line of this width is allowed.
 #[inline(always)]
 fn may_stand(columns: u16, plain: bool, start: usize, last: usize, wide: u64) -> bool
     requires order { start ≤ last }
@@ -221,71 +293,39 @@ fn is_enough(best: Cost, floor: Cost, lacked: u64) -> bool
         && best.over == floor.over
 }
 
-// A place at which a line is to begin.
-#[derive(Clone, Copy)]
-struct Step<'s> {
-    problem: Problem<'s>,
-    // The stretches before it.
-    start: usize,
-    // How far the lines from there reach.
-    reach: Reach,
-    ghost before: { start < length problem.stretches.now },
-    ghost reaches: { IsReach problem.stretches.now problem.columns start reach },
-    ghost within: { reach.last < length problem.stretches.now },
-}
-
 // Returns the line that is best to begin at a place after a run of hyphens, where the best ones after it are known.
 //
 // The lines that are allowed are tried from the longest one on. A line is not tried once the columns that it is short
 // of, added to the floor, cost as much as the best line so far.
 #[inline(always)]
-fn best_line(step: Step, floor: Cost, choices: &[Choice], run: usize) -> Choice
-    requires run { run < runs step.problem.ladder }
-    requires best { AreBest step.problem.stretches.now step.problem.columns step.problem.last_columns
-        step.problem.ladder choices.now step.start run }
-    requires floor { IsFloor step.problem.stretches.now step.problem.columns step.problem.last_columns
-        step.problem.ladder (step.start + 1) (step.reach.last + 1) floor }
+fn best_line(begin: Begin, floor: Cost, choices: &Choices, reach: Reach) -> Choice
+    requires best { AreBest begin.problem.stretches.now begin.problem.columns begin.problem.last_columns begin.problem.ladder choices.now begin.start begin.run }
+    requires reach { IsReach begin.problem.stretches.now begin.problem.columns begin.start reach }
+    requires within { reach.last < length begin.problem.stretches.now }
+    requires floor { IsFloor begin.problem.stretches.now begin.problem.columns begin.problem.last_columns begin.problem.ladder
+        begin.run (begin.start + 1) (reach.last + 1) floor }
     requires low { floor.spent ≤ 2 ^ 63 }
-    ensures least { IsLeast step.entry.problem.stretches.now step.entry.problem.columns step.entry.problem.last_columns
-        step.entry.problem.ladder run step.entry.start result.cost }
-    ensures made { IsMade step.entry.problem.stretches.now step.entry.problem.columns step.entry.problem.last_columns
-        step.entry.problem.ladder choices.now run step.entry.start result }
-    ensures small { IsSmall result.cost (length step.entry.problem.stretches.now - step.entry.start) }
+    ensures least { IsLeast begin.entry.problem.stretches.now begin.entry.problem.columns begin.entry.problem.last_columns begin.entry.problem.ladder begin.entry.run begin.entry.start result.cost }
+    ensures made { IsMade begin.entry.problem.stretches.now begin.entry.problem.columns begin.entry.problem.last_columns begin.entry.problem.ladder choices.now begin.entry.run begin.entry.start result }
+    ensures small { IsSmall result.cost (length begin.entry.problem.stretches.now - begin.entry.start) }
 {
-    let room = u64::from(step.problem.columns).saturating_sub(step.problem.closing);
-    let longest = longest_line(
-        step.problem.stretches,
-        step.problem.columns,
-        step.start,
-        step.reach,
-    );
+    let Begin { problem, start, .. } = begin;
+    let most = u64::from(problem.columns).saturating_sub(problem.closing);
+    let longest = longest_line(problem.stretches, problem.columns, start, reach);
     let mut last = longest.last;
     let mut joined = longest.joined;
-    let mut best = choose(
-        step.problem,
-        choices,
-        run,
-        step.start,
-        last + 1,
-        longest.wide,
-    );
-    while step.start < last {
+    let mut best = choose(begin, choices, last + 1, longest.wide);
+    while start < last {
         last -= 1;
-        let stretch = &step.problem.stretches[last];
+        let stretch = &problem.stretches[last];
         let reached = joined - widened(stretch.joint);
-        if is_enough(best.cost, floor, room.saturating_sub(reached)) {
+        if is_enough(best.cost, floor, most.saturating_sub(reached)) {
             return best;
         }
         let wide = reached + widened(stretch.closing);
         joined = reached - widened(stretch.width);
-        if may_stand(
-            step.problem.columns,
-            step.problem.plain,
-            step.start,
-            last,
-            wide,
-        ) {
-            let other = choose(step.problem, choices, run, step.start, last + 1, wide);
+        if may_stand(problem.columns, problem.plain, start, last, wide) {
+            let other = choose(begin, choices, last + 1, wide);
             if other.cost.is_less(best.cost) {
                 best = other;
             }
@@ -294,83 +334,205 @@ fn best_line(step: Step, floor: Cost, choices: &[Choice], run: usize) -> Choice
     best
 }
 
-// Puts in the lines that are best to begin at a place, one after each run of hyphens.
+// Returns the longest run that is distinguished.
 #[inline(always)]
-fn put_best_lines(step: Step, floor: Cost, choices: &mut Vec<Choice>)
-    requires best { AreBest step.problem.stretches.now step.problem.columns step.problem.last_columns
-        step.problem.ladder choices.old.items step.start 0 }
-    requires floor { IsFloor step.problem.stretches.now step.problem.columns step.problem.last_columns
-        step.problem.ladder (step.start + 1) (step.reach.last + 1) floor }
-    requires low { floor.spent ≤ 2 ^ 63 }
-    ensures { AreBest step.entry.problem.stretches.now step.entry.problem.columns step.entry.problem.last_columns
-        step.entry.problem.ladder choices.new.items step.entry.start (runs step.entry.problem.ladder) }
+fn longest_run(ladder: Option<u8>) -> u8
+    ensures { result + 1 ≡ runs ladder }
 {
-    match step.problem.ladder {
-        // no loop here, in which the compiler would keep more addresses
-        None => {
-            let best = best_line(step, floor, choices, 0);
-            let place = choice_place(step.problem.ladder, 0, step.start);
-            choices[place] = best;
-        }
-        Some(_) => {
-            for run in 0..runs(step.problem.ladder) {
-                let best = best_line(step, floor, choices, run);
-                let place = choice_place(step.problem.ladder, run, step.start);
-                choices[place] = best;
-            }
-        }
+    match ladder {
+        Some(most) => most,
+        None => 0,
     }
+}
+
+// Returns the longest run of hyphens after which a line is known to be the best, where it is so after a run.
+//
+// A line that ends in no hyphen is so after all longer runs. One that ends in a hyphen is so, as long as the best line
+// after it stays the same, and as neither is over the ladder.
+#[inline(always)]
+fn last_run(begin: Begin, choices: &Choices, best: Choice) -> u8
+    requires best { AreBest begin.problem.stretches.now begin.problem.columns begin.problem.last_columns begin.problem.ladder choices.now begin.start begin.run }
+    requires made { IsMadeFrom begin choices.now begin.run best }
+    ensures from { begin.entry.run ≤ result }
+    ensures known { result < runs begin.entry.problem.ladder }
+    ensures made { (r : ℕ) → begin.entry.run ≤ r → r ≤ result → IsMadeFrom begin.entry choices.now r best }
+{
+    let Begin { problem, run, .. } = begin;
+    let longest = longest_run(problem.ladder);
+    if run == usize::from(longest) || hyphens_to(problem.stretches, 0, best.end) == 0 {
+        return longest;
+    }
+    kept_at(choices, run + 1, best.end).last_run - 1
+}
+
+// Keeps the line that is best to begin at a place after no hyphens. Returns the shortest run after which it is not known
+// to be the best.
+#[inline(always)]
+fn put_first(problem: Problem, choices: &mut Choices, start: usize, best: Choice) -> usize
+    requires start { start < length problem.stretches.now }
+    requires best { AreBest problem.stretches.now problem.columns problem.last_columns problem.ladder choices.old start 0 }
+    requires least { IsLeast problem.stretches.now problem.columns problem.last_columns problem.ladder 0 start best.cost }
+    requires made { IsMade problem.stretches.now problem.columns problem.last_columns problem.ladder choices.old 0 start best }
+    requires small { IsSmall best.cost (length problem.stretches.now - start) }
+    ensures known { result ≤ runs problem.entry.ladder }
+    ensures best { AreBest problem.entry.stretches.now problem.entry.columns problem.entry.last_columns problem.entry.ladder choices.new start result }
+    ensures shorter { result < runs problem.entry.ladder → IsOpen choices.new result start }
+    ensures some { 1 ≤ result }
+{
+    let begin = Begin {
+        problem,
+        start,
+        run: 0,
+    };
+    let last_run = last_run(begin, choices, best);
+    begin_others(choices, runs(problem.ladder), start);
+    choices.firsts[start] = Kept {
+        cost: best.cost,
+        end: best.end as u32,
+        last_run,
+    };
+    usize::from(last_run) + 1
+}
+
+// Keeps the line that is best to begin at a place after a run of hyphens, where those after all shorter ones are kept.
+// Returns the next longer run after which it is not known to be the best.
+#[inline(always)]
+fn put_next(begin: Begin, choices: &mut Choices, best: Choice) -> Result<usize, AllocError>
+    requires best { AreBest begin.problem.stretches.now begin.problem.columns begin.problem.last_columns begin.problem.ladder choices.old begin.start begin.run }
+    requires shorter { IsOpen choices.old begin.run begin.start }
+    requires least { IsLeast begin.problem.stretches.now begin.problem.columns begin.problem.last_columns begin.problem.ladder begin.run begin.start best.cost }
+    requires made { IsMadeFrom begin choices.old begin.run best }
+    requires small { IsSmall best.cost (length begin.problem.stretches.now - begin.start) }
+    ensures known { IfOk result (λ next. next ≤ runs begin.entry.problem.ladder) }
+    ensures best { IfOk result (λ next. AreBestOf begin.entry.problem choices.new begin.entry.start next) }
+    ensures shorter { IfOk result (λ next. IsOpen choices.new next begin.entry.start) }
+    ensures further { IfOk result (λ next. begin.entry.run < next) }
+{
+    let last_run = last_run(begin, choices, best);
+    choices.others.push(Kept {
+        cost: best.cost,
+        end: best.end as u32,
+        last_run,
+    })?;
+    Ok(usize::from(last_run) + 1)
+}
+
+// Puts in the lines that are best to begin at a place, after each run of hyphens. The first floor is that after none.
+#[inline(always)]
+fn put_best_lines(
+    problem: Problem,
+    first: Cost,
+    floors: &[Cost],
+    choices: &mut Choices,
+    start: usize,
+    reach: Reach,
+) -> Result<(), AllocError>
+    requires start { start < length problem.stretches.now }
+    requires best { AreBest problem.stretches.now problem.columns problem.last_columns problem.ladder choices.old start 0 }
+    requires reach { IsReach problem.stretches.now problem.columns start reach }
+    requires within { reach.last < length problem.stretches.now }
+    requires first { IsFloor problem.stretches.now problem.columns problem.last_columns problem.ladder
+        0 (start + 1) (reach.last + 1) first }
+    requires first_low { first.spent ≤ 2 ^ 63 }
+    requires many { length floors.now + 1 ≡ runs problem.ladder }
+    requires floors { EachIsFloor problem.stretches.now problem.columns problem.last_columns problem.ladder
+        (start + 1) (reach.last + 1) floors.now }
+    requires low { EachIsLow floors.now }
+    ensures { IfOk result (λ done. AreBestOf problem.entry choices.new start (runs problem.entry.ladder)) }
+{
+    let begin = Begin {
+        problem,
+        start,
+        run: 0,
+    };
+    let best = best_line(begin, first, choices, reach);
+    let mut run = put_first(problem, choices, start, best);
+    while run < runs(problem.ladder) {
+        let floor = floor_after(floors, run);
+        let begin = Begin {
+            problem,
+            start,
+            run,
+        };
+        let best = best_line(begin, floor, choices, reach);
+        run = put_next(begin, choices, best)?;
+    }
+    Ok(())
+}
+
+// Returns for how many of some places it is kept where the lines after longer runs begin.
+#[inline(always)]
+fn begin_count(ladder: Option<u8>, places: usize) -> usize
+    ensures { 1 < runs ladder → result ≡ places }
+{
+    if 1 < runs(ladder) { places } else { 0 }
+}
+
+// Returns a table for lines in which only that at the end is kept.
+#[inline(always)]
+fn no_lines(alloc: Global, problem: Problem) -> Result<Choices, AllocError>
+    ensures { IfOk result (λ choices. AreBestOf problem.entry choices (length problem.entry.stretches.now) (runs problem.entry.ladder)) }
+{
+    let many = problem.stretches.len() + 1;
+    let none = Kept {
+        cost: Cost::NONE,
+        end: 0,
+        last_run: longest_run(problem.ladder),
+    };
+    let begins = begin_count(problem.ladder, many);
+    Ok(Choices {
+        firsts: vec![in alloc; none; many]?,
+        others: Vec::new(alloc),
+        begins: vec![in alloc; 0; begins]?,
+    })
 }
 
 // Returns the best line to begin at each place, after each run of hyphens.
 #[inline(always)]
-fn best_lines(alloc: Global, problem: Problem) -> Result<Vec<Choice>, AllocError>
-    ensures { IfOk result (λ choices. AreBest problem.entry.stretches.now problem.entry.columns problem.entry.last_columns
-        problem.entry.ladder choices.items 0 (runs problem.entry.ladder)) }
+fn best_lines(alloc: Global, problem: Problem) -> Result<Choices, AllocError>
+    ensures { IfOk result (λ choices. AreBestOf problem.entry choices 0 (runs problem.entry.ladder)) }
 {
     let count = problem.stretches.len();
-    let none = Choice {
-        cost: Cost::NONE,
-        end: count,
-    };
-    let mut choices = vec![in alloc; none; (count + 1) * runs(problem.ladder)]?;
+    let mut choices = no_lines(alloc, problem)?;
     let mut reach = Reach {
         last: count,
         joined: 0,
     };
-    let mut floor = Cost::NONE;
+    let mut first = Cost::NONE;
+    let mut floors = vec![in alloc; Cost::NONE; runs(problem.ladder) - 1]?;
     let mut renewed = count;
     for start in (0..count).rev() {
         reach = reach_from(problem.stretches, problem.columns, start, reach);
-        let step = Step {
-            problem,
+        put_best_lines(problem, first, &floors, &mut choices, start, reach)?;
+        let span = Span {
             start,
-            reach,
+            last: reach.last + 1,
+            renewed: reach.last < renewed,
         };
-        put_best_lines(step, floor, &mut choices);
-        if reach.last < renewed {
-            floor = floor_of(problem, &choices, start, reach.last + 1);
-            renewed = start;
-        }
+        first = next_floor(problem, &choices, 0, span, first);
+        next_floors(problem, &choices, span, &mut floors);
+        renewed = renewed_at(span, renewed);
     }
     Ok(choices)
 }
 
 // Returns the best line to begin at each place, after each run of hyphens.
 //
-// Most often there is no ladder, and no stretch alone is too wide for a line. Then no line has excess or is over the ladder.
-// The code is compiled for that alone too, and for other paragraphs without a ladder.
+// Most often there is no ladder, and no single stretch is too wide for a line. Then no line has excess or is over the ladder.
+// The code is compiled once for these paragraphs, once for others without a ladder, and once for those with one.
 fn best_lines_for(
     alloc: Global,
-    stretches: &[Stretch],
-    columns: u16,
-    last_columns: u16,
+    paragraph: Paragraph,
     ladder: Option<u8>,
-) -> Result<Vec<Choice>, AllocError>
-    requires count { length stretches.now < 2 ^ 30 }
-    ensures { IfOk result (λ choices.
-        AreBest stretches.now columns last_columns ladder choices.items 0 (runs ladder)) }
+) -> Result<Choices, AllocError>
+    ensures { IfOk result (λ choices. AreBest paragraph.entry.stretches.now paragraph.entry.columns paragraph.entry.last_columns
+        ladder choices 0 (runs ladder)) }
 {
+    let Paragraph {
+        stretches,
+        columns,
+        last_columns,
+    } = paragraph;
     let widest = widest_of(stretches);
     let closing = widened(widest.closing);
     match ladder {
@@ -414,23 +576,22 @@ fn best_lines_for(
 // Returns the ends of the lines of a paragraph, divided so that it costs the least.
 fn best_ends(
     alloc: Global,
-    stretches: &[Stretch],
-    columns: u16,
-    last_columns: u16,
+    paragraph: Paragraph,
     ladder: Option<u8>,
 ) -> Result<Vec<usize>, AllocError>
-    requires count { length stretches.now < 2 ^ 30 }
-    ensures divides { IfOk result (λ ends. Divides stretches.now columns 0 ends.items) }
-    ensures least { IfOk result (λ ends. CostsLeast stretches.now columns last_columns ladder ends.items) }
-    ensures fits { IfOk result (λ ends. FitsIfAny stretches.now columns ends.items) }
-    ensures ladder { IfOk result (λ ends. KeepsLadderIfAny stretches.now columns ladder ends.items) }
+    ensures divides { IfOk result (λ ends. Divides paragraph.entry.stretches.now paragraph.entry.columns 0 ends.items) }
+    ensures least { IfOk result (λ ends. CostsLeast paragraph.entry.stretches.now paragraph.entry.columns
+        paragraph.entry.last_columns ladder ends.items) }
+    ensures fits { IfOk result (λ ends. FitsIfAny paragraph.entry.stretches.now paragraph.entry.columns ends.items) }
+    ensures ladder { IfOk result (λ ends. KeepsLadderIfAny paragraph.entry.stretches.now paragraph.entry.columns ladder ends.items) }
 {
-    let choices = best_lines_for(alloc, stretches, columns, last_columns, ladder)?;
+    let choices = best_lines_for(alloc, paragraph, ladder)?;
+    let stretches = paragraph.stretches;
     let mut ends = Vec::new(alloc);
     let mut start = 0;
     let mut run = 0;
     while start < stretches.len() {
-        start = choices[choice_place(ladder, run, start)].end;
+        start = choice_at(&choices, run, start).end;
         run = run_of(ladder, hyphens_to(stretches, run, start));
         ends.push(start)?;
     }
@@ -460,7 +621,12 @@ pub fn even_ends(
     ensures fits { IfOk result (λ ends. FitsIfAny stretches.now columns ends.items) }
     ensures ladder { IfOk result (λ ends. KeepsLadderIfAny stretches.now columns ladder ends.items) }
 {
-    let ends = best_ends(alloc, stretches, columns, last_columns, None)?;
+    let paragraph = Paragraph {
+        stretches,
+        columns,
+        last_columns,
+    };
+    let ends = best_ends(alloc, paragraph, None)?;
     let Some(most) = ladder else {
         return Ok(ends);
     };
@@ -468,5 +634,5 @@ pub fn even_ends(
     if keeps_ladder(stretches, most, &ends) {
         return Ok(ends);
     }
-    best_ends(alloc, stretches, columns, last_columns, ladder)
+    best_ends(alloc, paragraph, ladder)
 }

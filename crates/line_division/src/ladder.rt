@@ -1,4 +1,4 @@
-//! The hyphens that stand in a row at the ends of lines.
+//! The hyphens in a row at the ends of lines.
 
 ghost use Rattle.std.specs.Prelude.{◌≡◌, ◌^◌, ◌<◌, ◌≤◌, true, Some, length};
 ghost use Rattle.line_division.specs.Lines.{hyphens_to};
@@ -7,7 +7,7 @@ ghost use Rattle.line_division.specs.Private.Ladder.{AreEnds};
 
 use crate::stretch::Stretch;
 
-// Returns the hyphens in a row at a line's end, after such a run.
+// Returns the hyphens in a row at a line's end, after a run of them.
 #[inline(always)]
 pub(crate) fn hyphens_to(stretches: &[Stretch], run: usize, end: usize) -> usize
     requires small { run < 2 ^ 8 }

@@ -14,6 +14,7 @@ pub mod laws;
 mod problem;
 mod reach;
 mod stretch;
+mod table;
 
 pub use cost::Cost;
 pub use even::even_ends;

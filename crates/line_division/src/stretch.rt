@@ -5,7 +5,7 @@ ghost use Rattle.std.specs.Prelude.{◌≡◌, ◌^◌, ◌<◌};
 /// The columns of a text between two neighbouring places at which a line may end.
 ///
 /// ```text
-///     opening | width | closing        where a line holds it alone
+///     opening | width | closing        where a line holds only it
 ///               width | joint | ..     where the line goes on after it
 /// ```
 ///
@@ -27,7 +27,7 @@ pub struct Stretch {
     pub hyphenated: bool,
 }
 
-// Returns columns or a price as a number that leaves room for sums.
+// Returns columns or a price as a number whose sums fit.
 pub(crate) fn widened(number: u32) -> u64
     ensures value { result ≡ number }
     ensures small { result < 2 ^ 32 }

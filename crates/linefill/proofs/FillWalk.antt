@@ -1,8 +1,8 @@
 -- Passing all cuts in order fills the lines of the text.
-use Rattle.std.proofs.Common.{◌≡◌, ℕ, ◌-◌, ◌<◌, ◌≤◌, ◌||◌, ◌==◌, Bool, true, false, cond, List, [], ◌∷◌, ◌++◌, length, refl, sym, ap, subst, ◌∙◌, arith, inl, inr, append_assoc, slice_index}
+use Rattle.std.proofs.Common.{◌≡◌, ℕ, ◌-◌, ◌<◌, ◌≤◌, ◌||◌, ◌==◌, true, false, cond, List, [], ◌∷◌, ◌++◌, length, refl, sym, ap, subst, ◌∙◌, arith, inl, inr, append_assoc, slice_index}
 use Rattle.std.specs.List.{list_any}
 use Rattle.std.specs.Str.{IsUtf8, IsCharBoundary}
-use Rattle.std.proofs.lemmas.Bool.{cases_lt, cases_eq, cases_Bool, or_cases, or_left, or_right, eqb-true, eq-eqb, ne_eqb, cond-true, cond-false}
+use Rattle.std.proofs.lemmas.Bool.{cases_lt, cases_eq, cases_Bool, or_cases, or_left, or_right, eqb-true, eq-eqb, ne_eqb, cond-true, cond-false, or_from}
 use Rattle.std.proofs.lemmas.List.{get_or_past}
 use Rattle.std.proofs.lemmas.Str.{IsCharBoundary-end, IsCharBoundary-after_ascii}
 use Rattle.linefill.specs.Cuts.{is_one_of, is_plain, is_cut, cuts_after}
@@ -11,9 +11,6 @@ use Rattle.linefill.specs.Private.Filling.{FillState, state_after_cut, remaining
 use Rattle.linefill.proofs.CutPassing.{coming_skip, coming_ends, coming_first, none_fits}
 use Rattle.linefill.proofs.CutRows.{row, row_to, row_next, row_is}
 use Rattle.linefill.proofs.Widths.{wider}
-
-pub or_from_false : (x y : Bool) → x ≡ false → y ≡ false → (x || y) ≡ false
-or_from_false x y e f = ap (λ b. b || y) e ∙ f
 
 index_within : (s : List ℕ) (i : ℕ) → 0 < slice_index s i → i < length s
 index_within s i some = elim (cases_lt i (length s)) [ inl lt ↦ lt | inr past ↦ absurd (omega (arith, get_or_past s i 0 past)) ]
@@ -80,7 +77,7 @@ module _ (text : List ℕ) (columns : ℕ) (breaks : List ℕ) where
               ap (all_lines text columns breaks) (cond-true (line_fits s.start place || s.start == s.end) _ _ goes)
               ∙ ap (λ es. s.done ++ lines_to text s.start es) (sym (coming_first line_fits s.start place cs (omega arith)) ∙ ap (λ e. remaining_ends line_fits s.start e (place ∷ cs)) same) ∙ sym before
           | inr other ↦
-              let goes : (line_fits s.start place || s.start == s.end) ≡ false = or_from_false (line_fits s.start place) (s.start == s.end) f (ne_eqb s.start s.end other) in
+              let goes : (line_fits s.start place || s.start == s.end) ≡ false = or_from (line_fits s.start place) (s.start == s.end) f (ne_eqb s.start s.end other) in
               let order = is.order in
               let less : s.start < s.end = omega arith in
               let wide : list_any (line_fits s.start) (place ∷ cs) ≡ false =

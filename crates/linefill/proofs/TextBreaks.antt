@@ -116,7 +116,7 @@ after_later breaks_of text from later b le h = record { order = h.order; stay = 
 pub plain_boundary : (text : List ℕ) (place : ℕ) → IsUtf8 text → 0 < place → is_plain text place ≡ true → IsCharBoundary text place
 plain_boundary text place u some plain_break = cut_boundary text 0 [] place (record { utf8 = u; boundary = λ p i. absurd (false≢true i) }) some (or_left (is_plain text place) (is_one_of place []) plain_break)
 
--- A place after bytes that are no spaces is not plain, but for the text's end.
+-- A place after bytes that are no spaces is not plain, except at the text's end.
 pub not_plain : (text : List ℕ) (from n : ℕ) → ((k : ℕ) → k < n → get_or (drop from text) k 0 ≡ 32 → ⊥) → (p : ℕ) → from < p → p < from + n + 1 → p < length text → is_plain text p ≡ false
 not_plain text from n none p l u v =
     let k = p - 1 - from in

@@ -12,7 +12,7 @@ use Rattle.command_line.specs.declared.options.ReadError.TheVariants.{Bad, Memor
 use Rattle.lines_command.specs.declared.request.Options.{Options}
 use Rattle.lines_command.specs.declared.request.Request.{Request}
 use Rattle.lines_command.specs.Private.Requests.{AreAsWanted, AreRefused, parsed_request}
-use Rattle.lines_command.specs.Arguments.{IsParsed, ParsedArgs, ParsedOptions, args_as_read, if_limit_serves, inputs_of, limit_of, names_of, option_names, options_of}
+use Rattle.lines_command.specs.Arguments.{IsParsed, ParsedArgs, ParsedOptions, args_as_read, if_limit_serves, limit_of, names_of, option_names, options_of}
 
 chained : {A B C D E : Type 0} (f : A → B → C → D → Result E RefusedArgument) (a : Result A RefusedArgument) (b : Result B RefusedArgument)
     (c : Result C RefusedArgument) (d : Result D RefusedArgument) (x : A) (y : B) (z : C) (w : D) → a ≡ Ok x → b ≡ Ok y → c ≡ Ok z → d ≡ Ok w
@@ -71,11 +71,6 @@ wanted result given columns last_columns ladder price plain even limit first ind
       indent = unwrap_or (last_value (codes "--indent") given) [];
     }) = cc in
     subst (λ w. AreAsWanted result w) (same ∙ sym (options_as given columns last_columns ladder price ew el ea ep)) wanted_so
-
--- Inputs that are named are those.
-pub some_inputs : (names : List (Bor (List ℕ))) → 0 < length names → inputs_of (texts_now names) ≡ texts_now names
-some_inputs [] some = absurd (omega (arith, some))
-some_inputs (name ∷ names) some = refl
 
 -- ---- the arguments of the program
 

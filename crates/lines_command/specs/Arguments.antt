@@ -8,6 +8,7 @@ use Rattle.command_line.specs.declared.options.OptionForm.{OptionForm}
 use Rattle.paragraphs.specs.Parts.{Style}
 use Rattle.paragraphs.specs.declared.setting.Aim.{Aim}
 use Rattle.paragraphs.specs.declared.setting.Aim.TheVariants.{Full, Even}
+use Rattle.text_results.specs.Targets.{inputs_of}
 
 -- The options: whether texts are only paragraphs; the columns of a line; whether lines are even; the columns below which the
 -- last line of a paragraph is too short; how many lines in a row may end in a hyphen, if it is limited; the cost of a hyphen;
@@ -60,11 +61,6 @@ options_of given =
     (number_given (codes "--ladder") 1 255 0 given))
     (number_given (codes "--last") 0 65535 0 given))
     (number_given (codes "--width") 0 65535 72 given)
-
--- The names of the inputs: standard input, if none is named.
-abbrev pub inputs_of : List (List ℕ) → List (List ℕ)
-inputs_of [] = codes "-" ∷ []
-inputs_of (name ∷ names) = name ∷ names
 
 -- The arguments of options and operands. The first operand is the dictionary, and the others are inputs.
 abbrev pub args_of : ParsedOptions → List (List ℕ) → Result ParsedArgs RefusedArgument

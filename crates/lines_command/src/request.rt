@@ -1,17 +1,18 @@
 //! Parses the arguments of the program.
 
-ghost use Rattle.std.specs.Prelude.{◌≡◌, ◌++◌, ◌∷◌, [], codes, IfErr, IfOk, Ok, OnOk, option_copied, option_map, unwrap_or};
+ghost use Rattle.std.specs.Prelude.{◌≡◌, [], codes, IfErr, IfOk, Ok, option_copied, option_map, unwrap_or};
 ghost use Rattle.hyphenation_breaks.specs.Borrowed.{texts_now};
 ghost use Rattle.command_line.specs.Options.{last_value, number_given};
 ghost use Rattle.command_line.specs.Reading.{as_read, given_options, IsAsWanted, IsReadError};
-ghost use Rattle.lines_command.specs.Arguments.{limit_of, if_limit_serves, options_of, inputs_of, args_of, args_as_read};
+ghost use Rattle.lines_command.specs.Arguments.{limit_of, if_limit_serves, options_of, args_of, args_as_read};
 ghost use Rattle.lines_command.specs.Arguments.{style_for, aim_for, names_of, option_names, IsParsed};
 ghost use Rattle.lines_command.specs.Private.Requests.{parsed_options, parsed_request, AreAsWanted, AreRefused};
 ghost use Rattle.paragraphs.specs.Styles.{style_of};
 
 use command_line::options::{Arguments, BadArgument, Expected, OptionForm, ReadError, read};
 use paragraphs::{Aim, Style};
-use std::alloc::{AllocError, Global};
+use std::alloc::Global;
+use text_results::targets::inputs_of;
 
 // The options of the program.
 const OPTIONS: [OptionForm; 8] = [
@@ -136,7 +137,7 @@ fn indent_given<'w>(arguments: &Arguments<'w>) -> &'w str
     }
 }
 
-// The options, unless they have a limit that is for even lines alone.
+// The options, unless they have a limit that is only for even lines.
 fn if_limit_serves<'w>(
     ladder: Option<&'w str>,
     options: Options<'w>,
@@ -199,38 +200,6 @@ impl<'w> Options<'w> {
             Aim::Full
         }
     }
-}
-
-// Appends a name.
-fn push<'w>(names: &mut Vec<&'w str>, name: &'w str) -> Result<(), AllocError>
-    ensures { OnOk result (texts_now names.new.items ≡ texts_now names.old.items ++ name.now ∷ []) }
-{
-    names.push(name)?;
-    Ok(())
-}
-
-// Returns a copy of names.
-fn copied<'w>(alloc: Global, names: &[&'w str]) -> Result<Vec<&'w str>, AllocError>
-    ensures { IfOk result (λ copies. texts_now copies.items ≡ texts_now names.now) }
-{
-    let mut copies = Vec::new(alloc);
-    for name in names {
-        push(&mut copies, *name)?;
-    }
-    Ok(copies)
-}
-
-// Returns the names of the inputs.
-#[tactic(auto, using(crate::proofs::Requests::some_inputs))]
-fn inputs_of<'w>(alloc: Global, names: &[&'w str]) -> Result<Vec<&'w str>, AllocError>
-    ensures { IfOk result (λ inputs. texts_now inputs.items ≡ inputs_of (texts_now names.now)) }
-{
-    if names.is_empty() {
-        let mut inputs = Vec::new(alloc);
-        push(&mut inputs, "-")?;
-        return Ok(inputs);
-    }
-    copied(alloc, names)
 }
 
 // Returns the request of options and operands.

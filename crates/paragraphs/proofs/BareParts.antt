@@ -1,7 +1,7 @@
 -- Parts of printable ASCII, without an indent and without a change.
 use Rattle.std.proofs.Common.{◌≡◌, ℕ, nat_lt, if◌then◌else◌, Bool, true, false, List, [], ◌∷◌, ◌++◌, length, sym, ap, refl, ◌∙◌, arith}
-use Rattle.std.specs.String.{string_bytes}
 use Rattle.line_division.specs.declared.stretch.Stretch.{Stretch}
+use Rattle.paragraphs.specs.Private.Halves.{half_bytes}
 use Rattle.paragraphs.specs.declared.part.Part.{Part}
 use Rattle.paragraphs.specs.Settings.{stretch_of, columns_of}
 use Rattle.paragraphs.specs.Private.PartSettings.{hyphen_if, setting_of, IsBare}
@@ -21,8 +21,8 @@ pub bare_stretch : (part : Part) (width joint closing : ℕ) → IsBare part →
     → (record { opening = 0; width = width; joint = joint; closing = closing; price = part.price; hyphenated = part.hyphenated }) ≡ stretch_of (setting_of part)
 bare_stretch part width joint closing bare wide gap close =
     let made : Stretch = stretch_of (setting_of part) in
-    let before = string_bytes part.before in
-    let opening : 0 ≡ made.opening = sym (no_columns part.indent.now (string_bytes part.after) bare.indent bare.after) in
+    let before = half_bytes part.before in
+    let opening : 0 ≡ made.opening = sym (no_columns part.indent.now (half_bytes part.after) bare.indent bare.after) in
     let text : width ≡ made.width = wide ∙ sym (printable_columns_shown part.text.now (part.text_printable bare.plain)) in
     let between : joint ≡ made.joint = gap ∙ sym (printable_columns_shown part.joint.now (part.joint_printable bare.plain)) in
     let end : closing ≡ made.closing = close ∙ sym (hyphen_columns before part.hyphenated bare.before) in

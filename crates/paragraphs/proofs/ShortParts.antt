@@ -1,11 +1,11 @@
 -- Parts whose texts are short.
 use Rattle.std.proofs.Common.{◌≡◌, ℕ, ◌+◌, ◌^◌, ◌<◌, ◌≤◌, ◌&&◌, true, false, nat_lt, List, [], ◌∷◌, length, get_or, take, ap, sym, ◌∙◌, inl, inr, arith, length-append}
 use Rattle.std.specs.List.{All, list_all}
-use Rattle.std.specs.String.{string_bytes}
 use Rattle.std.proofs.lemmas.Bool.{and_parts, ltb-true}
 use Rattle.std.proofs.lemmas.List.{length-map}
 use Rattle.std.proofs.lemmas.List.Elements.{All-nil, All-cons}
 use Rattle.std.proofs.lemmas.List.Folds.{list_all_more, list_all_at, list_all-map}
+use Rattle.paragraphs.specs.Private.Halves.{half_bytes}
 use Rattle.paragraphs.specs.declared.part.Part.{Part}
 use Rattle.paragraphs.specs.Settings.{Setting, is_short, IsTooLong}
 use Rattle.paragraphs.specs.Private.PartSettings.{hyphen_if, setting_of, settings_of, is_short_part, IsShort}
@@ -20,10 +20,10 @@ short_part part short =
     let all = and_parts ((opening && text) && joint) closing short in
     let three = and_parts (opening && text) joint all.0 in
     let two = and_parts opening text three.0 in (
-      omega (arith, ltb-true (length s.opening) (2 ^ 31) two.0, length-append part.indent.now (string_bytes part.after)),
+      omega (arith, ltb-true (length s.opening) (2 ^ 31) two.0, length-append part.indent.now (half_bytes part.after)),
       ltb-true (length s.text) (2 ^ 31) two.1,
       ltb-true (length s.joint) (2 ^ 31) three.1,
-      omega (arith, ltb-true (length s.closing) (2 ^ 31) all.1, length-append (string_bytes part.before) (hyphen_if part.hyphenated)),
+      omega (arith, ltb-true (length s.closing) (2 ^ 31) all.1, length-append (half_bytes part.before) (hyphen_if part.hyphenated)),
     )
 
 pub all_short : (parts : List Part) → list_all is_short_part parts ≡ true → All IsShort parts

@@ -1,6 +1,7 @@
 -- Definitions for private functions and proofs. No contract of a public call cites them, so they need no signature.
 pub mod Cuts
 pub mod Gathered
+pub mod Halves
 pub mod Added
 pub mod Ends
 pub mod Open

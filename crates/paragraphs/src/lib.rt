@@ -8,6 +8,7 @@
 #![tactic(auto)]
 
 mod gathering;
+mod half;
 mod length;
 mod mixed;
 mod page;

@@ -15,6 +15,7 @@ ghost use Rattle.paragraphs.specs.Styles.{style_of};
 ghost use Rattle.paragraphs.specs.Parts.{word_parts, other_parts, parts_of};
 ghost use Rattle.paragraphs.specs.Words.{words};
 
+use crate::half::Half;
 use crate::part::Part;
 use crate::plain::{Word, next_word, split_run};
 use crate::setting::{lines, stretch, stretches};
@@ -62,7 +63,7 @@ fn joined_after(
     Ok(joined)
 }
 
-// Reports whether a line of such columns fits with one more stretch at its end.
+// Reports whether one more stretch still fits at the end of a line of `joined` columns.
 fn fits_after(stretch: &Stretch, columns: u16, joined: usize) -> bool {
     joined
         .saturating_add(stretch.width as usize)
@@ -82,13 +83,13 @@ fn push_whole<'t>(
 {
     mixed.parts.push(Part {
         indent,
-        after: String::new(alloc),
+        after: Half::none(),
         text,
         joint: " ",
-        // The text is a run of words already, so where it stands is of no use.
+        // The text is a run of words already, so its place is of no use.
         start: 0,
         end: usize::MAX,
-        before: String::new(alloc),
+        before: Half::none(),
         hyphenated: false,
         price: 0,
         plain: true,
@@ -126,13 +127,13 @@ fn push_broken<'t, 'h, H: Hyphenator<'h>>(
         style,
         indent,
         text: word.text,
-        // No slice of a text is made of it, so where it stands is of no use.
+        // No slice of a text is made of it, so its place is of no use.
         at: 0,
         spaced: false,
         plain: word.plain,
         letters: word.letters,
     };
-    push_word(alloc, dictionary, placed, breaks, &mut mixed.parts)?;
+    push_word(alloc, dictionary, &placed, breaks, &mut mixed.parts)?;
     let made = &mixed.parts[before..];
     let count = made.len();
     mixed.joined = joined_after(alloc, made, mixed.columns, mixed.joined)?;
@@ -270,15 +271,15 @@ fn have_narrow_closings(wholes: &[bool], stretches: &[Stretch]) -> bool
     true
 }
 
-// Reports whether lines to a row of ends stay the same where the whole words are broken.
+// Reports whether the lines that end at `row` stay the same where the whole words are broken.
 fn are_settled(wholes: &[bool], stretches: &[Stretch], row: &[usize]) -> bool
     ensures { result ≡ true → AreSettled wholes.now stretches.now row.now }
 {
     !is_whole(wholes, 0) && end_before_parts(wholes, row) && have_narrow_closings(wholes, stretches)
 }
 
-// Returns the lines of a paragraph for whose parts these stand, each as full as can be. `None` where a line would end
-// before a word that was left whole.
+// Returns the fullest lines of a paragraph made of `parts`. `None` where a line would end before a word that was left
+// whole.
 pub(crate) fn full_lines(
     alloc: Global,
     parts: &[Part],

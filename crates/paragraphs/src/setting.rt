@@ -33,11 +33,11 @@ pub enum Aim {
 }
 
 // Returns the columns of a text in a terminal, by the tables of Unicode.
-fn columns_by_tables(text: &str) -> u32
-    requires { length text.now < 2 ^ 31 }
-    ensures { result ≡ columns_of text.now }
+fn columns_by_tables(text: &str) -> usize
+    ensures value { result ≡ columns_of text.now }
+    ensures bound { result ≤ 2 * length text.now }
 {
-    text.width() as u32
+    text.width()
 }
 
 // Returns the columns of a text in a terminal.
@@ -49,7 +49,7 @@ fn columns_of(text: &str) -> u32
     if is_printable(text) {
         return text.len() as u32;
     }
-    columns_by_tables(text)
+    columns_by_tables(text) as u32
 }
 
 // Returns the columns of a text without its soft hyphens.
@@ -144,12 +144,12 @@ fn columns_of_part(alloc: Global, part: &Part) -> Result<Stretch, AllocError>
 {
     let (width, joint) = columns_inside(alloc, part)?;
     Ok(Stretch {
-        opening: columns_of_both(alloc, part.indent, &part.after)?,
+        opening: columns_of_both(alloc, part.indent, part.after.as_text())?,
         width,
         joint,
-        closing: closing_columns(alloc, &part.before, part.hyphenated)?,
+        closing: closing_columns(alloc, part.before.as_text(), part.hyphenated)?,
         price: part.price,
-        hyphenated: part.hyphenated || !part.before.is_empty(),
+        hyphenated: part.hyphenated || !part.before.as_text().is_empty(),
     })
 }
 
@@ -160,19 +160,10 @@ fn is_bare(part: &Part) -> bool
 {
     part.plain
         && part.indent.is_empty()
-        && part.after.is_empty()
-        && part.before.is_empty()
+        && part.after.as_text().is_empty()
+        && part.before.as_text().is_empty()
         && part.text.len() < 1 << 31
         && part.joint.len() < 1 << 31
-}
-
-// Returns the bytes of a text that is short.
-#[inline(always)]
-fn short_len(text: &str) -> u32
-    requires { length text.now < 2 ^ 31 }
-    ensures { result ≡ length text.now }
-{
-    text.len() as u32
 }
 
 // Returns the columns of a part of printable ASCII, without an indent and without a change.
@@ -184,8 +175,8 @@ fn bare_stretch(part: &Part) -> Stretch
 {
     Stretch {
         opening: 0,
-        width: short_len(part.text),
-        joint: short_len(part.joint),
+        width: part.text.len() as u32,
+        joint: part.joint.len() as u32,
         closing: columns_of_hyphen(part.hyphenated),
         price: part.price,
         hyphenated: part.hyphenated,
@@ -237,7 +228,7 @@ pub(crate) fn stretches(alloc: Global, parts: &[Part]) -> Result<Option<Vec<Stre
     Ok(Some(all))
 }
 
-// Returns about the number of bytes that such parts have together.
+// Returns about the number of bytes that parts have together.
 fn bytes_of(parts: &[Part]) -> usize {
     let mut bytes: usize = 8;
     for part in parts {
@@ -275,13 +266,13 @@ fn push_any(line: &mut String, text: &str) -> Result<(), AllocError>
     Ok(())
 }
 
-// Returns the text before a line that begins with a part. There is room for that many bytes.
+// Returns the text before a line that begins with a part. There is memory for that many bytes.
 fn opening(alloc: Global, part: &Part, bytes: usize) -> Result<String, AllocError>
     ensures { IfOk result (λ opening. string_bytes opening ≡ (setting_of part.now).opening) }
 {
     let mut opening = String::with_capacity(alloc, bytes)?;
     push_any(&mut opening, part.indent)?;
-    push_any(&mut opening, &part.after)?;
+    push_any(&mut opening, part.after.as_text())?;
     Ok(opening)
 }
 
@@ -386,7 +377,7 @@ fn push_last(line: &mut String, part: &Part) -> Result<(), AllocError>
     ensures { OnOk result (string_bytes line.new ≡ string_bytes line.old ++ last_text (setting_of part.now)) }
 {
     push_text(line, part)?;
-    push_any(line, &part.before)?;
+    push_any(line, part.before.as_text())?;
     push_any(line, hyphen_if(part.hyphenated))?;
     Ok(())
 }
@@ -435,7 +426,7 @@ pub(crate) fn lines(
     Ok(lines)
 }
 
-// Returns the ends of the lines of such stretches.
+// Returns the ends of the lines of a paragraph of these stretches.
 fn ends(
     alloc: Global,
     stretches: &[Stretch],
@@ -446,17 +437,11 @@ fn ends(
     ensures { IfOk result (λ ends. IsAimedAt aim stretches.now columns ends.items) }
 {
     match aim {
-        Aim::Full => {
-            let ends = greedy_ends(alloc, stretches, columns)?;
-            Ok(ends)
-        }
+        Aim::Full => greedy_ends(alloc, stretches, columns),
         Aim::Even {
             last_columns,
             ladder,
-        } => {
-            let ends = even_ends(alloc, stretches, columns, last_columns, ladder)?;
-            Ok(ends)
-        }
+        } => even_ends(alloc, stretches, columns, last_columns, ladder),
     }
 }
 

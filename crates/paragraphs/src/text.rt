@@ -66,7 +66,7 @@ fn push_word_of<'t, 'h, H: Hyphenator<'h>>(
         plain: word.plain,
         letters: word.letters,
     };
-    push_word(alloc, dictionary, placed, breaks, parts)?;
+    push_word(alloc, dictionary, &placed, breaks, parts)?;
     Ok(())
 }
 

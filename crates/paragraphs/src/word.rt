@@ -12,6 +12,7 @@ ghost use Rattle.paragraphs.specs.Styles.{style_of};
 ghost use Rattle.paragraphs.specs.Parts.{set_off, word_parts};
 ghost use Rattle.word_pieces.specs.Pieces.{piece_indices_left, IsSlice};
 
+use crate::half::Half;
 use crate::part::Part;
 use crate::style::Style;
 use addresses::is_address;
@@ -34,11 +35,11 @@ pub(crate) struct WordAt<'s, 't> {
     pub(crate) text: &'t str,
     // Where it begins in the text of the paragraph, in bytes.
     pub(crate) at: usize,
-    // Whether a space stands after it there.
+    // Whether a space follows it there.
     pub(crate) spaced: bool,
     // Whether it is known to be of printable ASCII.
     pub(crate) plain: bool,
-    // Whether it is known to be of letters of ASCII alone.
+    // Whether it is known to be only of letters of ASCII.
     pub(crate) letters: bool,
     ghost utf8: { ∥ IsUtf8 text.now ∥₁ },
     ghost within: { at + length text.now < 2 ^ 63 },
@@ -52,7 +53,7 @@ struct Open<'t> {
     // The indent of a line that begins with it.
     indent: &'t str,
     // The second half of the change before it.
-    after: String,
+    after: Half,
     // Where it begins, in bytes of its word.
     from: usize,
 }
@@ -63,27 +64,27 @@ struct Open<'t> {
 #[tactic(auto, using(crate::proofs::Printable::printable_between))]
 fn pass_break<'s, 't, B: Break>(
     alloc: Global,
-    word: WordAt<'s, 't>,
+    word: &WordAt<'s, 't>,
     offset: usize,
     b: &B,
     parts: &mut Vec<Part<'t>>,
     current: &mut Open<'t>,
 ) -> Result<(), AllocError>
     requires within { left_of (B.meaning b.now).change ≤ (B.meaning b.now).place }
-    requires from { IsCharBoundary word.text.now current.old.from }
-    requires begin { IsCharBoundary word.text.now (begin_of (set_off offset (B.meaning b.now))) }
-    requires end { IsCharBoundary word.text.now (end_of (set_off offset (B.meaning b.now))) }
-    ensures goes { OnOk result (Passes word.entry.style.now word.entry.text.now (set_off offset (B.meaning b.now) ∷ [])
+    requires from { IsCharBoundary word.now.text.now current.old.from }
+    requires begin { IsCharBoundary word.now.text.now (begin_of (set_off offset (B.meaning b.now))) }
+    requires end { IsCharBoundary word.now.text.now (end_of (set_off offset (B.meaning b.now))) }
+    ensures goes { OnOk result (Passes word.now.style.now word.now.text.now (set_off offset (B.meaning b.now) ∷ [])
         parts.old.items current.old parts.new.items current.new) }
-    ensures from { OnOk result (IsCharBoundary word.entry.text.now current.new.from) }
-    ensures places { OnOk result (KeepPlaces word.entry.at word.entry.text.now parts.old.items parts.new.items) }
+    ensures from { OnOk result (IsCharBoundary word.now.text.now current.new.from) }
+    ensures places { OnOk result (KeepPlaces word.now.at word.now.text.now parts.old.items parts.new.items) }
 {
     let (left, right) = b.range().unwrap();
     let (begin, end) = (offset + left, offset + right);
     if begin <= current.from || word.text.len() <= end {
         return Ok(());
     }
-    let after = mem::replace(&mut current.after, String::from_str(alloc, b.after())?);
+    let after = mem::replace(&mut current.after, Half::of(alloc, b.after())?);
     parts.push(Part {
         indent: current.indent,
         after,
@@ -91,7 +92,7 @@ fn pass_break<'s, 't, B: Break>(
         joint: &word.text[begin..end],
         start: word.at + current.from,
         end: word.at + end,
-        before: String::from_str(alloc, b.before())?,
+        before: Half::of(alloc, b.before())?,
         hyphenated: true,
         price: word.style.price,
         plain: word.plain,
@@ -106,18 +107,18 @@ fn pass_break<'s, 't, B: Break>(
 fn pass_piece<'s, 't, 'h, H: Hyphenator<'h>>(
     alloc: Global,
     dictionary: &'h H,
-    word: WordAt<'s, 't>,
+    word: &WordAt<'s, 't>,
     piece: (usize, &str),
     breaks: &mut Vec<H::Opportunity>,
     parts: &mut Vec<Part<'t>>,
     part: &mut Open<'t>,
 ) -> Result<(), AllocError>
-    requires piece { IsSlice word.text.now (piece.0, piece.1.now) }
-    requires from { IsCharBoundary word.text.now part.old.from }
-    ensures goes { OnOk result (PassesPiece word.entry.style.now word.entry.text.now (H.breaks_of dictionary.now)
+    requires piece { IsSlice word.now.text.now (piece.0, piece.1.now) }
+    requires from { IsCharBoundary word.now.text.now part.old.from }
+    ensures goes { OnOk result (PassesPiece word.now.style.now word.now.text.now (H.breaks_of dictionary.now)
         (piece.entry.0, piece.entry.1.now) parts.old.items part.old parts.new.items part.new) }
-    ensures from { OnOk result (IsCharBoundary word.entry.text.now part.new.from) }
-    ensures places { OnOk result (KeepPlaces word.entry.at word.entry.text.now parts.old.items parts.new.items) }
+    ensures from { OnOk result (IsCharBoundary word.now.text.now part.new.from) }
+    ensures places { OnOk result (KeepPlaces word.now.at word.now.text.now parts.old.items parts.new.items) }
 {
     dictionary.breaks_into(piece.1, breaks)?;
     for b in breaks.iter() {
@@ -138,16 +139,16 @@ fn next_piece<'t>(pieces: &mut WordPieceIndices<'t>) -> Option<(usize, &'t str)>
 fn pass_each_piece<'s, 't, 'h, H: Hyphenator<'h>>(
     alloc: Global,
     dictionary: &'h H,
-    word: WordAt<'s, 't>,
+    word: &WordAt<'s, 't>,
     breaks: &mut Vec<H::Opportunity>,
     parts: &mut Vec<Part<'t>>,
     current: &mut Open<'t>,
 ) -> Result<(), AllocError>
-    requires from { IsCharBoundary word.text.now current.old.from }
-    ensures goes { OnOk result (PassesPieces word.entry.style.now word.entry.text.now (H.breaks_of dictionary.now)
+    requires from { IsCharBoundary word.now.text.now current.old.from }
+    ensures goes { OnOk result (PassesPieces word.now.style.now word.now.text.now (H.breaks_of dictionary.now)
         parts.old.items current.old parts.new.items current.new) }
-    ensures from { OnOk result (IsCharBoundary word.entry.text.now current.new.from) }
-    ensures places { OnOk result (KeepPlaces word.entry.at word.entry.text.now parts.old.items parts.new.items) }
+    ensures from { OnOk result (IsCharBoundary word.now.text.now current.new.from) }
+    ensures places { OnOk result (KeepPlaces word.now.at word.now.text.now parts.old.items parts.new.items) }
 {
     pieces_are_slices();
     let mut pieces = WordPieceIndices::new(word.text);
@@ -171,16 +172,16 @@ fn pass_each_piece<'s, 't, 'h, H: Hyphenator<'h>>(
 fn pass_pieces<'s, 't, 'h, H: Hyphenator<'h>>(
     alloc: Global,
     dictionary: &'h H,
-    word: WordAt<'s, 't>,
+    word: &WordAt<'s, 't>,
     breaks: &mut Vec<H::Opportunity>,
     parts: &mut Vec<Part<'t>>,
     current: &mut Open<'t>,
 ) -> Result<(), AllocError>
-    requires from { IsCharBoundary word.text.now current.old.from }
-    ensures goes { OnOk result (PassesAll word.entry.style.now word.entry.text.now (H.breaks_of dictionary.now)
+    requires from { IsCharBoundary word.now.text.now current.old.from }
+    ensures goes { OnOk result (PassesAll word.now.style.now word.now.text.now (H.breaks_of dictionary.now)
         parts.old.items current.old parts.new.items current.new) }
-    ensures from { OnOk result (IsCharBoundary word.entry.text.now current.new.from) }
-    ensures places { OnOk result (KeepPlaces word.entry.at word.entry.text.now parts.old.items parts.new.items) }
+    ensures from { OnOk result (IsCharBoundary word.now.text.now current.new.from) }
+    ensures places { OnOk result (KeepPlaces word.now.at word.now.text.now parts.old.items parts.new.items) }
 {
     pieces_are_slices();
     letters_are_one_piece();
@@ -224,18 +225,18 @@ fn end_of_word(word: &str, at: usize, spaced: bool) -> usize
 pub(crate) fn push_word<'s, 't, 'h, H: Hyphenator<'h>>(
     alloc: Global,
     dictionary: &'h H,
-    word: WordAt<'s, 't>,
+    word: &WordAt<'s, 't>,
     breaks: &mut Vec<H::Opportunity>,
     parts: &mut Vec<Part<'t>>,
 ) -> Result<(), AllocError>
     ensures adds { OnOk result (AddsParts parts.old.items parts.new.items
-        (word_parts (H.breaks_of dictionary.now) (style_of word.entry.style.now) word.entry.indent.now word.entry.text.now)) }
+        (word_parts (H.breaks_of dictionary.now) (style_of word.now.style.now) word.now.indent.now word.now.text.now)) }
     ensures places { OnOk result
-        (PlacesWord word.entry.at word.entry.text.now word.entry.spaced parts.old.items parts.new.items) }
+        (PlacesWord word.now.at word.now.text.now word.now.spaced parts.old.items parts.new.items) }
 {
     let mut current = Open {
         indent: word.indent,
-        after: String::new(alloc),
+        after: Half::none(),
         from: 0,
     };
     pass_pieces(alloc, dictionary, word, breaks, parts, &mut current)?;
@@ -246,7 +247,7 @@ pub(crate) fn push_word<'s, 't, 'h, H: Hyphenator<'h>>(
         joint: " ",
         start: word.at + current.from,
         end: end_of_word(word.text, word.at, word.spaced),
-        before: String::new(alloc),
+        before: Half::none(),
         hyphenated: false,
         price: 0,
         plain: word.plain,

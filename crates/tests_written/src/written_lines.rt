@@ -580,7 +580,7 @@ fn prose_has_the_lines_that_paragraphs_gives(rt: HostRuntime) -> Result<(), Fail
     Ok(())
 }
 
-// Texts of the style stand before the prefix, and before lines that stay, but not before empty ones.
+// Texts of the style are before the prefix, and before lines that stay, but not before empty ones.
 #[test]
 fn texts_of_the_style_stand_before_lines(rt: HostRuntime) -> Result<(), Fail> {
     let alloc = rt.alloc();

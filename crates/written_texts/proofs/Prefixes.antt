@@ -7,7 +7,7 @@ use Rattle.std.proofs.lemmas.Str.{IsCharBoundary-start, IsCharBoundary-after_asc
 use Rattle.written_texts.specs.Prefixes.{is_sign, is_indent, signs_length, quote_length, is_deep, indent_length, sign_length, mark_length, lead_length}
 use Rattle.written_texts.specs.Private.Cuts.{EndsInAscii}
 
--- The bytes up to the last sign, where so many are before these and the last sign before them ends at `length`.
+-- The bytes up to the last sign, where that number is before these and the last sign before them ends at `length`.
 abbrev pub upto : ℕ → ℕ → ℕ → ℕ
 upto i n length = cond (nat_lt 0 n) (i + n) length
 

@@ -95,7 +95,7 @@ is_letter c = is_alphabetic c || is_numeric c
 abbrev pub has_letters : List ℕ → Bool
 has_letters line = list_any is_letter (chars (rest_of line))
 
--- A line is no prose: it is a heading, a row of a table, or has no letter.
+-- A line is no prose: it is a heading, a row of a table, or has no letter or digit.
 abbrev pub is_no_prose : List ℕ → Bool
 is_no_prose line = is_heading line || begins (bare line) (codes "|") || not (has_letters line)
 

@@ -53,7 +53,8 @@ fn prefix_of<'t>(line: &Parted<'t>) -> Prefix<'t>
     }
 }
 
-// Returns the paragraph of one line, with room for some more. A line of more than 256 bytes gets less: it may be the only one.
+// Returns the paragraph of one line, with memory for some more lines. For a line of more than 256 bytes it is less: it
+// may be the only one.
 fn begin<'t>(alloc: Global, line: &Parted<'t>) -> Result<Paragraph<'t>, AllocError>
     ensures { IfOk result (λ p. views.paragraph_of p ≡ begun line.now.text.now) }
 {

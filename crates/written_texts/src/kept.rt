@@ -100,7 +100,7 @@ fn goes_on(line: &[u8]) -> bool
     line.starts_with(b" ") || line.starts_with(b"\t")
 }
 
-// Reports whether a text has digits alone.
+// Reports whether a text has only digits.
 fn are_digits(text: &[u8]) -> bool
     ensures { result ≡ list_all is_ascii_digit text.now }
 {

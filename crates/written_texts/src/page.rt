@@ -164,8 +164,8 @@ fn push_block<'h, H: Hyphenator<'h>>(
 /// another one. The mark is `-`, `*`, `+`, a bullet, or a number with a dot or a parenthesis. Each of its lines begins
 /// with its quote signs, and with its indent, or with spaces below the mark. A tab there is four spaces.
 ///
-/// These stay as they are: the head of a mail, headings (`#`), rows of tables (`|`), lines without a letter, and
-/// signatures. So does code between fences, or indented by four spaces or a tab. Empty lines in a row are one.
+/// These stay as they are: the head of a mail, headings (`#`), rows of tables (`|`), lines without a letter or digit,
+/// and signatures. So does code between fences, or indented by four spaces or a tab. Empty lines in a row are one.
 ///
 /// The texts of the style come before all of that. The error says that memory was refused, or that one of the
 /// paragraphs is too long. It then has 2^30 parts, or a text of one of them has 2^31 bytes.

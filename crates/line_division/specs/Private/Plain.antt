@@ -15,7 +15,7 @@ pub record AreMost (stretches : List Stretch) (most : Widest) : Type 0 where
   pub width : (k : ℕ) → (stretch_at stretches k).width ≤ most.width
   pub closing : (k : ℕ) → (stretch_at stretches k).closing ≤ most.closing
 
--- No line is over a ladder, since there is none, and each stretch alone fits.
+-- No line is over a ladder, since there is none, and each single stretch fits.
 abbrev pub IsPlain : List Stretch → ℕ → Option ℕ → Type 0
 IsPlain stretches columns ladder = (ladder ≡ None) × ((k : ℕ) → alone_width (stretch_at stretches k) ≤ columns)
 

@@ -13,11 +13,11 @@ pub record IsReach (stretches : List Stretch) (columns start : ℕ) (reach : Rea
   pub beyond : (k : ℕ) → reach.last < k → k < length stretches
       → columns < sum_by joined_width (slice_range stretches start k) + (stretch_at stretches k).width
 
--- A stretch goes past the columns of a line after such columns, or is none.
+-- After this number of columns a stretch goes past those of a line, or there is none.
 abbrev pub GoesPast : List Stretch → ℕ → ℕ → ℕ → Type 0
 GoesPast stretches columns last joined = last < length stretches → columns < joined + (stretch_at stretches last).width
 
--- A stretch fits after such columns.
+-- A stretch fits after this number of columns.
 abbrev pub Stays : List Stretch → ℕ → ℕ → ℕ → Type 0
 Stays stretches columns last joined = (last < length stretches) × (joined + (stretch_at stretches last).width ≤ columns)
 

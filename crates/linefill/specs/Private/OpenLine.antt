@@ -15,7 +15,7 @@ pub record IsOpenLine (text : List ℕ) (open_line : OpenLine) : Type 0 where
   pub end : IsCharBoundary text open_line.end
   pub width : open_line.width ≡ length (chars (slice_range text open_line.start open_line.end))
 
--- The state that the line and the lines that are done stand for.
+-- The state that the line and the lines that are done have together.
 abbrev pub state_of : {Z : Type 0} → OpenLine → List (String Z) → FillState
 state_of open_line done = record { start = open_line.start; end = open_line.end; done = map string_bytes done }
 

@@ -33,7 +33,7 @@ pub record Entry : Type 0 where
   pub part : Setting
   pub group : List Setting
 
--- A part stands for its group, and for one part alone if it is no whole word.
+-- A part stands for its group, and for only one part if it is no whole word.
 abbrev pub IsEntry : Entry → Type 0
 IsEntry e = StandsFor e.part e.group × (e.whole ≡ false → length e.group ≡ 1)
 

@@ -1,7 +1,7 @@
 -- A word of which some parts are made.
 use Rattle.std.specs.Prelude.{◌≡◌, ℕ, List, [], ◌∷◌, ◌++◌, Option, Some, None}
 use Rattle.std.specs.Borrow.{Bor}
-use Rattle.std.specs.String.{string_bytes}
+use Rattle.paragraphs.specs.Private.Halves.{half_bytes}
 use Rattle.hyphenation_breaks.specs.Break.{Break}
 use Rattle.paragraphs.specs.declared.part.Part.{Part}
 use Rattle.paragraphs.specs.declared.word.Open.{Open}
@@ -14,7 +14,7 @@ use Rattle.paragraphs.specs.Parts.{Style, breaks_in, piece_breaks, word_breaks, 
 -- The parts that are made, and those to come, where these breaks are to come.
 abbrev pub settings_with : Style → List ℕ → List Part → Open → List Break → List Setting
 settings_with style word parts current breaks =
-    settings_of parts ++ parts_from style word (current.indent.now ++ string_bytes current.after) current.from breaks
+    settings_of parts ++ parts_from style word (current.indent.now ++ half_bytes current.after) current.from breaks
 
 -- The parts that are made, and those to come, stay the same where these breaks are passed.
 abbrev pub Passes : code.Style → List ℕ → List Break → List Part → Open → List Part → Open → Type 0

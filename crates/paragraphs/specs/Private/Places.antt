@@ -1,4 +1,4 @@
--- Where parts stand in the text of their paragraph.
+-- Where parts are in the text of their paragraph.
 use Rattle.std.specs.Prelude.{◌≡◌, ℕ, ◌+◌, ◌-◌, ◌<◌, ◌≤◌, ◌^◌, if◌then◌else◌, Bool, true, List, [], ◌∷◌, ◌++◌, All, length, slice_range}
 use Rattle.std.specs.Str.{IsCharBoundary, IsUtf8}
 use Rattle.hyphenation_breaks.specs.Ascii.{space}
@@ -6,7 +6,7 @@ use Rattle.paragraphs.specs.declared.part.Part.{Part}
 use Rattle.paragraphs.specs.declared.setting.Slice.{Slice}
 use Rattle.word_pieces.specs.Pieces.{IsSlice}
 
--- A part and its joint stand in a text up to the part's end, if that is within the text.
+-- A part and its joint are in a text up to the part's end, if that is within the text.
 abbrev pub StandsIn : List ℕ → Part → Type 0
 StandsIn text part = part.end ≤ length text
     → IsSlice text (part.start, part.text.now ++ part.joint.now)
@@ -16,7 +16,7 @@ StandsIn text part = part.end ≤ length text
 abbrev pub AllStandIn : List ℕ → List Part → Type 0
 AllStandIn text parts = All (StandsIn text) parts
 
--- Where a word is at a place of a text, the parts that were added stand in it as well.
+-- Where a word is at a place of a text, the parts that were added are in it as well.
 abbrev pub KeepPlaces : ℕ → List ℕ → List Part → List Part → Type 0
 KeepPlaces at word old new = (text : List ℕ) → IsSlice text (at, word) → AllStandIn text old → AllStandIn text new
 
@@ -30,7 +30,7 @@ pub record WordStands (text : List ℕ) (at : ℕ) (word : List ℕ) (spaced : B
 abbrev pub end_of_word : ℕ → List ℕ → Bool → ℕ
 end_of_word at word spaced = if spaced then at + length word + 1 else 2 ^ 64 - 1
 
--- Where a word stands so, the parts that were added stand in the text as well.
+-- Where a word is at its place, the parts that were added are in the text as well.
 abbrev pub PlacesWord : ℕ → List ℕ → Bool → List Part → List Part → Type 0
 PlacesWord at word spaced old new =
     (text : List ℕ) → WordStands text at word spaced → AllStandIn text old → AllStandIn text new

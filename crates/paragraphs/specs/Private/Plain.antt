@@ -27,7 +27,7 @@ EachBetween test bytes start end = (k : ℕ) → start ≤ k → k < end → tes
 abbrev pub EndsAt : List ℕ → ℕ → Type 0
 EndsAt bytes place = place < length bytes → is_ascii_gap (slice_index bytes place) ≡ true
 
--- A word of such characters is between two places.
+-- A word of these characters is between two places.
 pub record IsPlainWord (bytes : List ℕ) (start end : ℕ) : Type 0 where
   pub after : start < end
   pub within : end ≤ length bytes
@@ -46,7 +46,7 @@ pub record IsRow (row : List (List ℕ)) (text : List ℕ) : Type 0 where
   pub joined : text ≡ in_a_row row
   pub printable : list_all is_printable text ≡ true
 
--- Such words stand before a place, and the other words of a text after it.
+-- These words are before a place, and the other words of a text after it.
 pub record IsRun (bytes : List ℕ) (end : ℕ) : Type 0 where
   pub row : List (List ℕ)
   pub made : IsRow row (take end bytes)

@@ -16,7 +16,7 @@ loop-last-init c =
       upto = longest.upto;
       joined = longest.joined;
       small_sum = longest.small;
-      after = least_longest c.args.step.problem.stretches.now c.args.step.problem.columns c.args.step.problem.last_columns c.args.step.problem.ladder c.args.choices.now c.args.run c.args.step.start c.longest_line-longest.result.last c.choose-best.result c.choose-best.ensures.made c.choose-best.ensures.end c.requires.best longest.furthest;
+      after = least_longest c.args.begin.problem.stretches.now c.args.begin.problem.columns c.args.begin.problem.last_columns c.args.begin.problem.ladder c.args.choices.now c.args.begin.run c.args.begin.start c.longest_line-longest.result.last c.choose-best.result c.choose-best.ensures.made c.choose-best.ensures.end c.requires.best longest.furthest;
       made = c.choose-best.ensures.made;
       small = c.choose-best.ensures.small;
     }
@@ -24,32 +24,32 @@ loop-last-init c =
 pub overflow_sub-reached : goal.overflow_sub-reached
 overflow_sub-reached c =
     let before = c.loop-last.invariant in
-    omega (arith, joined_back c.args.step.problem.stretches.now c.args.step.start c.loop-last.last c.loop-last-test.true (omega (arith, before.within)), before.joined, c.widened.ensures.value)
+    omega (arith, joined_back c.args.begin.problem.stretches.now c.args.begin.start c.loop-last.last c.loop-last-test.true (omega (arith, before.within)), before.joined, c.widened.ensures.value)
 
 pub overflow_sub-joined : goal.overflow_sub-joined
 overflow_sub-joined c =
     let before = c.loop-last.invariant in
-    omega (arith, joined_back c.args.step.problem.stretches.now c.args.step.start c.loop-last.last c.loop-last-test.true (omega (arith, before.within)), before.joined, c.widened.ensures.value, c.widened-in-loop-last-2.ensures.value)
+    omega (arith, joined_back c.args.begin.problem.stretches.now c.args.begin.start c.loop-last.last c.loop-last-test.true (omega (arith, before.within)), before.joined, c.widened.ensures.value, c.widened-in-loop-last-2.ensures.value)
 
 pub may_stand-requires-clause-plain : goal.may_stand-requires-clause-plain
 may_stand-requires-clause-plain c = λ is same.
-    let stretches = c.args.step.problem.stretches.now in
-    let start = c.args.step.start in
+    let stretches = c.args.begin.problem.stretches.now in
+    let start = c.args.begin.start in
     let last = c.loop-last.last in
     let before = c.loop-last.invariant in
     let back = joined_back stretches start last c.loop-last-test.true (omega (arith, before.within)) in
-    let fit = plain_stands stretches c.args.step.problem.columns c.args.step.problem.ladder start (last - 1 + 1) (c.args.step.problem.fits is) (inr (omega (arith, same))) in
+    let fit = plain_stands stretches c.args.begin.problem.columns c.args.begin.problem.ladder start (last - 1 + 1) (c.args.begin.problem.fits is) (inr (omega (arith, same))) in
     omega (arith, fit, width_to stretches start (last - 1), back, before.joined, c.widened.ensures.value, c.widened-in-loop-last.ensures.value)
 
 pub returns-then-is_enough-clause-least : goal.returns-then-is_enough-clause-least
 returns-then-is_enough-clause-least c =
-    let stretches = c.args.step.problem.stretches.now in
-    let columns = c.args.step.problem.columns in
-    let last_columns = c.args.step.problem.last_columns in
-    let ladder = c.args.step.problem.ladder in
-    let run = c.args.run in
+    let stretches = c.args.begin.problem.stretches.now in
+    let columns = c.args.begin.problem.columns in
+    let last_columns = c.args.begin.problem.last_columns in
+    let ladder = c.args.begin.problem.ladder in
+    let run = c.args.begin.run in
     let choices = c.args.choices.now in
-    let start = c.args.step.start in
+    let start = c.args.begin.start in
     let last = c.loop-last.last in
     let best = c.loop-last.best.cost in
     let before = c.loop-last.invariant in
@@ -58,18 +58,18 @@ returns-then-is_enough-clause-least c =
     let place : last ≡ last - 1 + 1 = omega (arith, c.loop-last-test.true) in
     let after = subst (λ p. IsLeastAfter stretches columns last_columns ladder run start p best) place before.after in
     let enough = c.is_enough.ensures c.if-is_enough.true in
-    least_enough stretches columns last_columns ladder run c.args.step.problem.closing start (last - 1) c.saturating_sub.result (c.args.step.reach.last + 1) c.args.floor best c.args.step.problem.most c.args.step.before (omega (arith, place, before.within))
-    (omega (arith, reached, c.saturating_sub.ensures, c.saturating_sub-room.ensures, c.from.ensures)) c.requires.floor (omega (arith, before.upto)) enough.0 enough.1 enough.2 after
+    least_enough stretches columns last_columns ladder run c.args.begin.problem.closing start (last - 1) c.saturating_sub.result (c.args.reach.last + 1) c.args.floor best c.args.begin.problem.most c.args.begin.before (omega (arith, place, before.within))
+    (omega (arith, reached, c.saturating_sub.ensures, c.saturating_sub-most.ensures, c.from.ensures)) c.requires.floor (omega (arith, before.upto)) enough.0 enough.1 enough.2 after
 
 pub choose-other-requires-clause-wide : goal.choose-other-requires-clause-wide
 choose-other-requires-clause-wide c =
-    let stretches = c.args.step.problem.stretches.now in
-    let columns = c.args.step.problem.columns in
-    let last_columns = c.args.step.problem.last_columns in
-    let ladder = c.args.step.problem.ladder in
-    let run = c.args.run in
+    let stretches = c.args.begin.problem.stretches.now in
+    let columns = c.args.begin.problem.columns in
+    let last_columns = c.args.begin.problem.last_columns in
+    let ladder = c.args.begin.problem.ladder in
+    let run = c.args.begin.run in
     let choices = c.args.choices.now in
-    let start = c.args.step.start in
+    let start = c.args.begin.start in
     let last = c.loop-last.last in
     let best = c.loop-last.best.cost in
     let before = c.loop-last.invariant in
@@ -81,13 +81,13 @@ choose-other-requires-clause-wide c =
 
 pub choose-other-requires-clause-stands : goal.choose-other-requires-clause-stands
 choose-other-requires-clause-stands c =
-    let stretches = c.args.step.problem.stretches.now in
-    let columns = c.args.step.problem.columns in
-    let last_columns = c.args.step.problem.last_columns in
-    let ladder = c.args.step.problem.ladder in
-    let run = c.args.run in
+    let stretches = c.args.begin.problem.stretches.now in
+    let columns = c.args.begin.problem.columns in
+    let last_columns = c.args.begin.problem.last_columns in
+    let ladder = c.args.begin.problem.ladder in
+    let run = c.args.begin.run in
     let choices = c.args.choices.now in
-    let start = c.args.step.start in
+    let start = c.args.begin.start in
     let last = c.loop-last.last in
     let best = c.loop-last.best.cost in
     let before = c.loop-last.invariant in
@@ -103,13 +103,13 @@ choose-other-requires-clause-stands c =
 
 pub loop-last-preserved-then-is_less : goal.loop-last-preserved-then-is_less
 loop-last-preserved-then-is_less c =
-    let stretches = c.args.step.problem.stretches.now in
-    let columns = c.args.step.problem.columns in
-    let last_columns = c.args.step.problem.last_columns in
-    let ladder = c.args.step.problem.ladder in
-    let run = c.args.run in
+    let stretches = c.args.begin.problem.stretches.now in
+    let columns = c.args.begin.problem.columns in
+    let last_columns = c.args.begin.problem.last_columns in
+    let ladder = c.args.begin.problem.ladder in
+    let run = c.args.begin.run in
     let choices = c.args.choices.now in
-    let start = c.args.step.start in
+    let start = c.args.begin.start in
     let last = c.loop-last.last in
     let best = c.loop-last.best.cost in
     let before = c.loop-last.invariant in
@@ -132,13 +132,13 @@ loop-last-preserved-then-is_less c =
 
 pub loop-last-preserved-else-is_less : goal.loop-last-preserved-else-is_less
 loop-last-preserved-else-is_less c =
-    let stretches = c.args.step.problem.stretches.now in
-    let columns = c.args.step.problem.columns in
-    let last_columns = c.args.step.problem.last_columns in
-    let ladder = c.args.step.problem.ladder in
-    let run = c.args.run in
+    let stretches = c.args.begin.problem.stretches.now in
+    let columns = c.args.begin.problem.columns in
+    let last_columns = c.args.begin.problem.last_columns in
+    let ladder = c.args.begin.problem.ladder in
+    let run = c.args.begin.run in
     let choices = c.args.choices.now in
-    let start = c.args.step.start in
+    let start = c.args.begin.start in
     let last = c.loop-last.last in
     let best = c.loop-last.best.cost in
     let before = c.loop-last.invariant in
@@ -161,13 +161,13 @@ loop-last-preserved-else-is_less c =
 
 pub loop-last-preserved : goal.loop-last-preserved
 loop-last-preserved c =
-    let stretches = c.args.step.problem.stretches.now in
-    let columns = c.args.step.problem.columns in
-    let last_columns = c.args.step.problem.last_columns in
-    let ladder = c.args.step.problem.ladder in
-    let run = c.args.run in
+    let stretches = c.args.begin.problem.stretches.now in
+    let columns = c.args.begin.problem.columns in
+    let last_columns = c.args.begin.problem.last_columns in
+    let ladder = c.args.begin.problem.ladder in
+    let run = c.args.begin.run in
     let choices = c.args.choices.now in
-    let start = c.args.step.start in
+    let start = c.args.begin.start in
     let last = c.loop-last.last in
     let best = c.loop-last.best.cost in
     let before = c.loop-last.invariant in
@@ -192,6 +192,6 @@ loop-last-preserved c =
 pub returns-clause-least : goal.returns-clause-least
 returns-clause-least c =
     let before = c.loop-last.invariant in
-    let same : c.loop-last.last ≡ c.args.step.start = omega (arith, before.from, c.loop-last-test.false) in
-    least_all c.args.step.problem.stretches.now c.args.step.problem.columns c.args.step.problem.last_columns c.args.step.problem.ladder c.args.run c.args.step.start c.loop-last.best.cost c.args.step.before
-    (subst (λ p. IsLeastAfter c.args.step.problem.stretches.now c.args.step.problem.columns c.args.step.problem.last_columns c.args.step.problem.ladder c.args.run c.args.step.start p c.loop-last.best.cost) same before.after)
+    let same : c.loop-last.last ≡ c.args.begin.start = omega (arith, before.from, c.loop-last-test.false) in
+    least_all c.args.begin.problem.stretches.now c.args.begin.problem.columns c.args.begin.problem.last_columns c.args.begin.problem.ladder c.args.begin.run c.args.begin.start c.loop-last.best.cost c.args.begin.before
+    (subst (λ p. IsLeastAfter c.args.begin.problem.stretches.now c.args.begin.problem.columns c.args.begin.problem.last_columns c.args.begin.problem.ladder c.args.begin.run c.args.begin.start p c.loop-last.best.cost) same before.after)

@@ -1,35 +1,52 @@
-use Rattle.std.proofs.Common.{◌≡◌, ◌+◌, ◌-◌, subst, arith}
-use Rattle.line_division.specs.Private.Best.{runs, AreBest, IsFloor}
+use Rattle.std.proofs.Common.{◌≡◌, ◌+◌, ◌-◌, sym, subst, arith}
+use Rattle.line_division.specs.Private.Best.{runs, floor_after, AreBest, IsFloor, EachIsFloor}
 use Rattle.line_division.proofs.Least.{best_earlier}
-use Rattle.line_division.proofs.Reaching.{floor_earlier}
+use Rattle.line_division.proofs.Reaching.{floor_within}
 use Rattle.line_division.proofs.even.best_lines.Goals as goal
 
 pub put_best_lines-requires-clause-best : goal.put_best_lines-requires-clause-best
 put_best_lines-requires-clause-best c =
     let start = c.loop-start.start - 1 in
     let same : c.loop-start.start ≡ start + 1 = omega arith in
-    best_earlier c.args.problem.stretches.now c.args.problem.columns c.args.problem.last_columns c.args.problem.ladder c.loop-start.choices.items start
-    (subst (λ p. AreBest c.args.problem.stretches.now c.args.problem.columns c.args.problem.last_columns c.args.problem.ladder c.loop-start.choices.items p (runs c.args.problem.ladder)) same c.loop-start.invariant.best)
+    best_earlier c.args.problem.stretches.now c.args.problem.columns c.args.problem.last_columns c.args.problem.ladder c.loop-start.choices start
+    (subst (λ p. AreBest c.args.problem.stretches.now c.args.problem.columns c.args.problem.last_columns c.args.problem.ladder c.loop-start.choices p (runs c.args.problem.ladder)) same c.loop-start.invariant.best)
+
+pub put_best_lines-requires-clause-floors : goal.put_best_lines-requires-clause-floors
+put_best_lines-requires-clause-floors c = λ r some few.
+    let start = c.loop-start.start - 1 in
+    let upto = c.loop-start.reach.last + 1 in
+    let same : c.loop-start.start ≡ start + 1 = omega arith in
+    subst (λ fs. IsFloor c.args.problem.stretches.now c.args.problem.columns c.args.problem.last_columns c.args.problem.ladder r (start + 1) (c.reach_from-reach.result.last + 1) (floor_after fs r)) (sym c.deref.ensures.value)
+    (floor_within c.args.problem.stretches.now c.args.problem.columns c.args.problem.last_columns c.args.problem.ladder r (start + 1) (c.reach_from-reach.result.last + 1) upto (floor_after c.loop-start.floors.items r) (omega (arith, c.reach_from-reach.ensures.earlier))
+    (subst (λ p. IsFloor c.args.problem.stretches.now c.args.problem.columns c.args.problem.last_columns c.args.problem.ladder r p upto (floor_after c.loop-start.floors.items r)) same (c.loop-start.invariant.floors (omega (arith, same)) r some few)))
+
+pub put_best_lines-requires-clause-first : goal.put_best_lines-requires-clause-first
+put_best_lines-requires-clause-first c =
+    let start = c.loop-start.start - 1 in
+    let upto = c.loop-start.reach.last + 1 in
+    let same : c.loop-start.start ≡ start + 1 = omega arith in
+    floor_within c.args.problem.stretches.now c.args.problem.columns c.args.problem.last_columns c.args.problem.ladder 0 (start + 1) (c.reach_from-reach.result.last + 1) upto c.loop-start.first (omega (arith, c.reach_from-reach.ensures.earlier))
+    (subst (λ p. IsFloor c.args.problem.stretches.now c.args.problem.columns c.args.problem.last_columns c.args.problem.ladder 0 p upto c.loop-start.first) same (c.loop-start.invariant.first (omega (arith, same))))
 
 pub loop-start-preserved : goal.loop-start-preserved
 loop-start-preserved c =
-    let stretches = c.args.problem.stretches.now in
-    let columns = c.args.problem.columns in
-    let last_columns = c.args.problem.last_columns in
-    let ladder = c.args.problem.ladder in
     let before = c.loop-start.invariant in
     let upto = c.loop-start.reach.last + 1 in
     let start = c.loop-start.start - 1 in
     let same : c.loop-start.start ≡ start + 1 = omega arith in
     record {
-      best = c.put_best_lines.ensures;
+      best = c.in_ok-put_best_lines.ensures;
       reach = c.reach_from-reach.ensures.reach;
-      floor = floor_earlier stretches columns last_columns ladder start upto c.reach_from-reach.result c.loop-start.floor (omega (arith, c.reach_from-reach.ensures.reach.from, c.reach_from-reach.ensures.within)) c.reach_from-reach.ensures.reach (omega (arith, c.reach_from-reach.ensures.earlier))
-          (subst (λ p. IsFloor stretches columns last_columns ladder p upto c.loop-start.floor) same before.floor);
-      low = before.low;
+      first = λ some. c.next_floor-first.ensures.floor some upto (omega (arith, c.reach_from-reach.ensures.earlier))
+          (subst (λ p. IsFloor c.args.problem.stretches.now c.args.problem.columns c.args.problem.last_columns c.args.problem.ladder 0 p upto c.loop-start.first) same (before.first (omega (arith, same))));
+      first_low = c.next_floor-first.ensures.low before.first_low;
+      many = c.next_floors.ensures.many;
+      floors = λ some. c.next_floors.ensures.floors some upto (omega (arith, c.reach_from-reach.ensures.earlier))
+          (subst (λ p. EachIsFloor c.args.problem.stretches.now c.args.problem.columns c.args.problem.last_columns c.args.problem.ladder p upto c.loop-start.floors.items) same (before.floors (omega (arith, same))));
+      low = c.next_floors.ensures.low before.low;
     }
 
 pub returns : goal.returns
 returns c =
     let first : c.loop-start.start ≡ 0 = omega arith in
-    subst (λ p. AreBest c.args.problem.stretches.now c.args.problem.columns c.args.problem.last_columns c.args.problem.ladder c.loop-start.choices.items p (runs c.args.problem.ladder)) first c.loop-start.invariant.best
+    subst (λ p. AreBest c.args.problem.stretches.now c.args.problem.columns c.args.problem.last_columns c.args.problem.ladder c.loop-start.choices p (runs c.args.problem.ladder)) first c.loop-start.invariant.best

@@ -1,11 +1,11 @@
 use Rattle.std.proofs.Common.{◌≡◌, ℕ, ◌<◌, true, sym, ap, ◌∙◌, arith}
-use Rattle.std.proofs.lemmas.Bool.{or_right, false≢true}
+use Rattle.std.proofs.lemmas.Bool.{or_right, false≢true, or_from}
 use Rattle.std.proofs.lemmas.Option.{MatchOption-at_some}
 use Rattle.linefill.specs.Cuts.{word_breaks, is_one_of, is_plain, is_cut}
 use Rattle.linefill.specs.Private.Filling.{FillState, state_after_cut, all_lines}
 use Rattle.linefill.specs.Private.OpenLine.{state_of}
 use Rattle.linefill.specs.Private.WordBreaks.{remaining_breaks}
-use Rattle.linefill.proofs.FillWalk.{IsState, or_from_false, cut_boundary, passing_end, passing_lines}
+use Rattle.linefill.proofs.FillWalk.{IsState, cut_boundary, passing_end, passing_lines}
 use Rattle.linefill.proofs.TextBreaks.{sound}
 use Rattle.linefill.proofs.filling.pass_breaks.Goals as goal
 
@@ -36,7 +36,7 @@ loop-place-preserved g c =
     let then : state_of c.in_ok-current.current c.pass_cut.new.lines.items ≡ state_after_cut text columns s place = c.in_ok-current.ensures.state in
     let reached : c.in_ok-current.current.end ≡ place = ap (λ (v : FillState). v.end) then ∙ passing_end text columns s place in
     let goes = passing_lines text columns breaks s place (sound breaks_of text c.pieces_are_slices.ensures.slices c.plain_breaks_fit_where_ascending.ensures c.utf8.text c.requires.ascend) is found.after cut
-    (λ p l u h. false≢true (sym (or_from_false (is_plain text p) (is_one_of p breaks) (c.requires.no_plain_cut p (omega (arith, before.onward)) (omega (arith, c.if-until-place.false))) (same p l ∙ found.first p l u)) ∙ h)) in
+    (λ p l u h. false≢true (sym (or_from (is_plain text p) (is_one_of p breaks) (c.requires.no_plain_cut p (omega (arith, before.onward)) (omega (arith, c.if-until-place.false))) (same p l ∙ found.first p l u)) ∙ h)) in
     record {
       same = ap (all_lines text columns breaks) then ∙ goes ∙ before.same;
       line = c.in_ok-current.ensures.open_line;

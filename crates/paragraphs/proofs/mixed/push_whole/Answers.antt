@@ -1,5 +1,5 @@
 use Rattle.std.proofs.Common.{◌++◌, ◌∷◌, [], ap, ◌∙◌, append-nil}
-use Rattle.std.specs.String.{string_bytes}
+use Rattle.paragraphs.specs.Private.Halves.{half_bytes}
 use Rattle.std.proofs.lemmas.List.{map-append}
 use Rattle.paragraphs.specs.Settings.{Setting}
 use Rattle.paragraphs.specs.Private.PartSettings.{setting_of, settings_of}
@@ -14,6 +14,6 @@ returns c =
     let made : Setting = record { opening = indent; text = c.args.text.now; joint = 32 ∷ []; closing = []; price = 0 } in
     adds_words old.wholes.items c.push-2.new.self.items before (settings_of c.push.new.self.items) indent c.args.text.now c.in_ok-push-2.ensures.items
     (ap settings_of c.in_ok-push.ensures.items ∙ map-append setting_of old.parts.items _
-    ∙ ap (λ o. before ++ record made { opening = indent ++ o; closing = string_bytes c.new-2.result ++ [] } ∷ []) c.new.ensures.bytes
-    ∙ ap (λ b. before ++ record made { opening = indent ++ []; closing = b ++ [] } ∷ []) c.new-2.ensures.bytes
+    ∙ ap (λ o. before ++ record made { opening = indent ++ o; closing = half_bytes c.none-2.result ++ [] } ∷ []) c.none.ensures
+    ∙ ap (λ b. before ++ record made { opening = indent ++ []; closing = b ++ [] } ∷ []) c.none-2.ensures
     ∙ ap (λ o. before ++ record made { opening = o } ∷ []) (append-nil indent))

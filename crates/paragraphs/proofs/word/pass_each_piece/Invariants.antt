@@ -13,11 +13,11 @@ abbrev pub invariant-loop-offset : goal.invariant-loop-offset
 invariant-loop-offset g l =
     let breaks_of = g.H.Hyphenator.breaks_of l.dictionary in
     record {
-      goes : settings_with (style_of l.fn.word.style.now) l.fn.word.text.now l.parts.items l.current (flat_map (breaks_in breaks_of) (piece_indices_left l.pieces))
-          ≡ settings_with (style_of l.fn.word.style.now) l.fn.word.text.now l.initial.parts.items l.initial.current (piece_breaks breaks_of l.fn.word.text.now);
-      pieces : AreSlices l.fn.word.text.now (piece_indices_left l.pieces);
-      from : IsCharBoundary l.fn.word.text.now l.current.from;
-      places : KeepPlaces l.fn.word.at l.fn.word.text.now l.initial.parts.items l.parts.items;
+      goes : settings_with (style_of l.word.style.now) l.word.text.now l.parts.items l.current (flat_map (breaks_in breaks_of) (piece_indices_left l.pieces))
+          ≡ settings_with (style_of l.word.style.now) l.word.text.now l.initial.parts.items l.initial.current (piece_breaks breaks_of l.word.text.now);
+      pieces : AreSlices l.word.text.now (piece_indices_left l.pieces);
+      from : IsCharBoundary l.word.text.now l.current.from;
+      places : KeepPlaces l.word.at l.word.text.now l.initial.parts.items l.parts.items;
     }
 
 abbrev pub decreases-loop-offset : goal.decreases-loop-offset

@@ -12,8 +12,8 @@ abbrev pub invariant-loop-b : goal.invariant-loop-b
 invariant-loop-b g l =
     let meaning = g.H.Opportunity.Break.meaning in
     record {
-      goes : (others : List Break) → settings_with (style_of l.fn.word.style.now) l.fn.word.text.now l.parts.items l.part (map (set_off l.fn.piece.0) (map meaning (drop l.b-index l.b-items)) ++ others)
-          ≡ settings_with (style_of l.fn.word.style.now) l.fn.word.text.now l.initial.parts.items l.initial.part (map (set_off l.fn.piece.0) (map meaning l.b-items) ++ others);
-      from : IsCharBoundary l.fn.word.text.now l.part.from;
-      places : KeepPlaces l.fn.word.at l.fn.word.text.now l.initial.parts.items l.parts.items;
+      goes : (others : List Break) → settings_with (style_of l.word.style.now) l.word.text.now l.parts.items l.part (map (set_off l.fn.piece.0) (map meaning (drop l.b-index l.b-items)) ++ others)
+          ≡ settings_with (style_of l.word.style.now) l.word.text.now l.initial.parts.items l.initial.part (map (set_off l.fn.piece.0) (map meaning l.b-items) ++ others);
+      from : IsCharBoundary l.word.text.now l.part.from;
+      places : KeepPlaces l.word.at l.word.text.now l.initial.parts.items l.parts.items;
     }
