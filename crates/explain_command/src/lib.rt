@@ -66,7 +66,7 @@ pub fn usage_names_options()
 ///
 /// ```text
 /// let args = ["examples/firkin.txt", "firkins"];
-/// answer(&rt, rt.alloc(), &args, &[], &mut rt.stdin(), &mut rt.stdout(), &mut errors)
+/// answer(&rt, rt.alloc(), &args, &[], &mut rt.stdin(), &mut rt.stdout(), &mut errors)    // 0
 /// ```
 pub fn answer<F: NamedFiles, I: Read, O: Write, E: Write>(
     files: &F,

@@ -1,6 +1,8 @@
 pub mod RowsSoFar
 pub mod Prefixes
 pub mod Pieces
+pub mod Fielding
+pub mod Escaping
 pub mod Walks
 pub mod Scores
 pub mod Explaining

@@ -8,7 +8,7 @@ use Rattle.std.proofs.lemmas.Option.{slice_get_read, slice_get-map}
 use Rattle.hyphenation_breaks.specs.Break.{Change, is_boundary}
 use Rattle.hyphenation_breaks.specs.declared.entry.Entry.{Entry}
 use Rattle.hyphenation_score.specs.Scoring.{Scored, score_of_winner, value_of}
-use Rattle.explanations.specs.Picture.{score_value}
+use Rattle.explanations.specs.Marks.{score_value}
 use Rattle.explanations.specs.Private.Drawing.{scores_by}
 
 not_zero : (n : ℕ) → (n ≡ 0 → ⊥) → eqb n 0 ≡ false

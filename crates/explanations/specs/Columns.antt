@@ -1,7 +1,7 @@
 -- The columns of a picture: where the letters of its rows and the words about them begin.
 use Rattle.std.specs.Prelude.{ℕ, ◌+◌, ◌-◌, nat_lt, nat_le, ◌&&◌, false, if◌then◌else◌, List, [], ◌∷◌, ◌++◌, length, chars, map, max, replicate, slice_index, slice_set, unwrap_or}
 use Rattle.std.specs.Char.{len_utf8}
-use Rattle.unicode_width.specs.Width.{char_width, str_width}
+use Rattle.unicode_width.specs.Width.{char_width}
 use Rattle.hyphenation_breaks.specs.declared.entry.Entry.{Entry}
 use Rattle.explanations.specs.Rows.{PatternRow}
 
@@ -9,9 +9,9 @@ use Rattle.explanations.specs.Rows.{PatternRow}
 abbrev pub value_columns : ℕ → ℕ
 value_columns value = if nat_lt value 10 then 1 else (if nat_lt value 100 then 2 else 3)
 
--- The columns of a character, as a terminal has them; none for a control character.
+-- The columns of a character, as a terminal has them; 1 for a control character, which has none there.
 abbrev pub shown_columns : ℕ → ℕ
-shown_columns c = unwrap_or (char_width false c) 0
+shown_columns c = unwrap_or (char_width false c) 1
 
 -- The columns for a value of one digit before a byte: one, or none within a character.
 abbrev pub column_before : ℕ → ℕ
@@ -66,19 +66,15 @@ columns_above framed rows = columns_by framed (with_room_for (single_columns fra
 abbrev pub frame_columns : Columns → ℕ
 frame_columns columns = slice_index columns.begins (length columns.begins - 1)
 
--- The column at which a row begins that starts at this place of the frame. Below a frame of more than 400 columns it is the
--- first one.
-abbrev pub indent : Columns → ℕ → ℕ
-indent columns start = if nat_lt 400 (frame_columns columns) then 0 else slice_index columns.begins start
+-- The column of the letter at a place, after the columns for its value.
+abbrev pub letter_column : Columns → ℕ → ℕ
+letter_column columns place = slice_index columns.begins place + slice_index columns.values place
 
--- The columns between the scores of the word and the words about them.
-abbrev pub rest_after_word : Columns → ℕ
-rest_after_word columns = frame_columns columns - slice_index columns.begins (length columns.begins - 2) + 2
+-- The column of a picture at which the line of a row begins that starts at this place of the frame. Below a frame of more than
+-- 400 columns the line begins with the row.
+abbrev pub line_begin : Columns → ℕ → ℕ
+line_begin columns start = if nat_lt 400 (frame_columns columns) then slice_index columns.begins start else 0
 
--- The column of the word's first letter.
-abbrev pub first_letter : Columns → ℕ
-first_letter columns = indent columns 1 + slice_index columns.values 1
-
--- The columns between a text that begins below the word's first letter and the words about it.
-abbrev pub rest_after : Columns → List ℕ → ℕ
-rest_after columns text = frame_columns columns - first_letter columns + 2 - str_width false (chars text)
+-- The column at which the words about a row of the whole word begin, whose letters have these columns from the first letter on.
+abbrev pub note_column : Columns → ℕ → ℕ
+note_column columns width = max (frame_columns columns + 2) (letter_column columns 1 + width) + 2

@@ -1,7 +1,11 @@
 pub mod Rows
 pub mod Decisions
+pub mod Fields
 pub mod Lines
 pub mod Columns
+pub mod Notes
+pub mod Marks
+pub mod Placed
 pub mod Picture
 pub mod Svg
 pub mod Drawings

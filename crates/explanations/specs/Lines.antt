@@ -4,6 +4,7 @@ use Rattle.hyphenation_breaks.specs.Ascii.{tab, line_feed, comma}
 use Rattle.hyphenation_breaks.specs.Break.{Break, Change}
 use Rattle.hyphenation_breaks.specs.declared.entry.Entry.{Entry}
 use Rattle.hyphenation_score.specs.Scoring.{Scored}
+use Rattle.explanations.specs.Fields.{field_text}
 use Rattle.explanations.specs.Rows.{PatternRow}
 use Rattle.explanations.specs.declared.facts.Decision.{Decision}
 use Rattle.explanations.specs.declared.facts.Decision.TheVariants.{SoftHyphens, TooShort, Exception, Patterns}
@@ -21,7 +22,7 @@ abbrev pub change_text : Option Change → List ℕ
 change_text None = []
 change_text (Some change) =
     colon ∷ (decimal change.left ++ comma ∷ (decimal change.right ++ comma ∷ (decimal change.breakpoint
-    ++ comma ∷ change.substitution)))
+    ++ comma ∷ field_text change.substitution)))
 
 -- A field of a value at a place, with its change.
 abbrev pub value_field : ℕ → ℕ → Option Change → List ℕ
@@ -35,15 +36,15 @@ entry_field change_of entry = value_field entry.place entry.value (change_of ent
 abbrev pub named_line : List ℕ → List ℕ → List ℕ
 named_line name fields = name ++ (fields ++ line_feed ∷ [])
 
--- A line of a name and one field.
+-- A line of a name and one field, which has a text.
 abbrev pub text_line : List ℕ → List ℕ → List ℕ
-text_line name field = name ++ (tab ∷ field ++ line_feed ∷ [])
+text_line name field = name ++ (tab ∷ field_text field ++ line_feed ∷ [])
 
 -- The line of a pattern that occurs in the frame: its start, its number of bytes, its text and its entries.
 abbrev pub pattern_line : {C : Type 0} → (C → Option Change) → List ℕ → PatternRow C → List ℕ
 pattern_line change_of framed row =
     codes "pattern" ++ (number_field row.start ++ (number_field row.bytes
-    ++ (tab ∷ slice_range framed row.start (row.start + row.bytes)
+    ++ (tab ∷ field_text (slice_range framed row.start (row.start + row.bytes))
     ++ (flat_map (entry_field change_of) row.entries ++ line_feed ∷ []))))
 
 -- The fields of scores, the first one at this place.

@@ -2,4 +2,3 @@
 pub mod Walking
 pub mod Drawing
 pub mod Facts
-pub mod Pieces

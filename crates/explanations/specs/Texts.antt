@@ -1,7 +1,6 @@
 -- All facts about a word's breaks, and their text.
-use Rattle.std.specs.Prelude.{◌≡◌, ℕ, ◌+◌, ◌*◌, List, [], ◌∷◌, ◌++◌, length, chars, codes, map, max, Option, Some, option_map, flat_map}
+use Rattle.std.specs.Prelude.{◌≡◌, ℕ, ◌+◌, List, [], ◌∷◌, ◌++◌, length, codes, map, Option, Some, option_map, flat_map}
 use Rattle.std.specs.FinMap as finite
-use Rattle.hyphenation_breaks.specs.Ascii.{line_feed}
 use Rattle.hyphenation_breaks.specs.Break.{Break, Change}
 use Rattle.hyphenation_breaks.specs.Dictionary.{Contents, entries_of_keys}
 use Rattle.hyphenation_hyphenator.specs.Boundaries.{boundaries}
@@ -13,9 +12,10 @@ use Rattle.hyphenation_segments.specs.Segments.{marked_word}
 use Rattle.explanations.specs.Decisions.{decision_by}
 use Rattle.explanations.specs.Lines.{named_line, text_line, pattern_line, score_fields, bound_fields, number_field, exception_line, decision_name, place_field}
 use Rattle.explanations.specs.Columns.{Columns, columns_above}
-use Rattle.explanations.specs.Picture.{frame_line, row_line, score_line, break_line_of, decision_text}
+use Rattle.explanations.specs.Picture.{line_of}
+use Rattle.explanations.specs.Placed.{PlacedRow, frame_row, pattern_row, scores_row, breaks_row}
 use Rattle.explanations.specs.Rows.{PatternRow, AreAllOccurrences}
-use Rattle.explanations.specs.Svg.{Drawn, columns_from, note_column, word_column, word_title, frame_row, pattern_rows, scores_row, row_element, breaks_row, scores_note, longest_note, document_of}
+use Rattle.explanations.specs.Svg.{Drawn, rows_end, elements_from, word_title, document_of}
 use Rattle.explanations.specs.declared.facts.Decision.{Decision}
 use Rattle.explanations.specs.declared.style.Style.{Style}
 use Rattle.explanations.specs.declared.style.Style.TheVariants.{Picture, Lines, Svg}
@@ -66,42 +66,31 @@ lines_of change_of facts =
     ++ (named_line (codes "breaks") (flat_map place_field facts.breaks)
     ++ text_line (codes "hyphenated") (hyphenated facts))))))))))
 
--- The picture for people, by the columns of the frame.
-abbrev pub picture_at : {C : Type 0} → (C → Option Change) → Columns → Facts C → List ℕ
-picture_at change_of columns facts =
-    frame_line columns (frame facts.folded) ++ (flat_map (row_line change_of columns (frame facts.folded)) facts.rows
-    ++ (score_line columns facts.folded facts.scores ++ break_line_of columns (hyphenated facts) facts.decision facts.minima))
+-- The columns of the picture.
+abbrev pub picture_columns : {C : Type 0} → Facts C → Columns
+picture_columns facts = columns_above (frame facts.folded) facts.rows
+
+-- The rows of the picture, by its columns.
+abbrev pub rows_at : {C : Type 0} → (C → Option Change) → Columns → Facts C → List PlacedRow
+rows_at change_of columns facts =
+    frame_row columns (frame facts.folded) ∷ (map (pattern_row change_of columns facts.folded facts.scores) facts.rows
+    ++ (scores_row columns facts.folded facts.scores ∷ breaks_row columns (hyphenated facts) facts.decision facts.minima ∷ []))
+
+-- The rows of the picture.
+abbrev pub picture_rows : {C : Type 0} → (C → Option Change) → Facts C → List PlacedRow
+picture_rows change_of facts = rows_at change_of (picture_columns facts) facts
 
 -- The picture for people.
 abbrev pub picture_of : {C : Type 0} → (C → Option Change) → Facts C → List ℕ
-picture_of change_of facts = picture_at change_of (columns_above (frame facts.folded) facts.rows) facts
+picture_of change_of facts = flat_map line_of (picture_rows change_of facts)
 
--- The elements of a drawing, by the columns of the frame and the place of the notes.
-abbrev pub drawn_rows : {C : Type 0} → (C → Option Change) → List ℕ → ℕ → Facts C → List ℕ
-drawn_rows change_of columns note_x facts =
-    word_title facts.word (hyphenated facts) ++ (frame_row columns (frame facts.folded)
-    ++ (pattern_rows change_of columns note_x facts.folded facts.scores 1 facts.rows
-    ++ (scores_row columns note_x facts.folded facts.scores (length facts.rows + 1)
-    ++ row_element (length facts.rows + 2) (breaks_row (12 * word_column columns) (hyphenated facts) note_x
-    (decision_text facts.decision facts.minima)))))
+-- The drawing of rows, with a title. It has 12 pixels after the rows.
+abbrev pub drawing_by : List ℕ → List PlacedRow → Drawn
+drawing_by title rows = record { rows = length rows; width = rows_end rows + 12; svg = title ++ elements_from 0 rows }
 
--- The number of bytes of the longest note.
-abbrev pub longest_of : {C : Type 0} → (C → Option Change) → Facts C → ℕ
-longest_of change_of facts =
-    max (longest_note change_of facts.rows) (max (length (scores_note facts.scores)) (length (decision_text facts.decision facts.minima)))
-
--- The drawing, by the columns of the frame and the place of the notes. It has 9 pixels for each byte of the longest note.
-abbrev pub drawing_at : {C : Type 0} → (C → Option Change) → List ℕ → ℕ → Facts C → Drawn
-drawing_at change_of columns note_x facts = record {
-  rows = length facts.rows + 3;
-  width = note_x + 9 * longest_of change_of facts + 12;
-  svg = drawn_rows change_of columns note_x facts;
-}
-
--- The drawing.
+-- The drawing. It has the rows of the picture.
 abbrev pub drawing_of : {C : Type 0} → (C → Option Change) → Facts C → Drawn
-drawing_of change_of facts = drawing_at change_of (columns_from 1 (chars (frame facts.folded)))
-    (12 * note_column (columns_from 1 (chars (frame facts.folded))) (frame facts.folded) (hyphenated facts)) facts
+drawing_of change_of facts = drawing_by (word_title facts.word (hyphenated facts)) (picture_rows change_of facts)
 
 -- The text is that of the facts in this style.
 abbrev pub IsTextOf : {C : Type 0} → Style → (C → Option Change) → Facts C → List ℕ → Type 0

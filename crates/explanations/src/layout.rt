@@ -1,22 +1,21 @@
 //! The columns of a picture.
 
-ghost use Rattle.std.specs.Prelude.{◌≡◌, ◌+◌, chars, map, slice_index, IfOk, OnOk};
+ghost use Rattle.std.specs.Prelude.{◌≡◌, ◌++◌, chars, map, replicate, slice_index, IfOk, OnOk};
 ghost use Rattle.explanations.specs.Columns.{begins_from, column_before, column_past, columns_above, frame_columns};
-ghost use Rattle.explanations.specs.Columns.{first_letter, indent, rest_after, rest_after_word, shown_columns};
+ghost use Rattle.explanations.specs.Columns.{letter_column, line_begin, note_column, shown_columns};
 ghost use Rattle.explanations.specs.Columns.{single_columns, value_columns, with_room_at, with_room_for};
 ghost use Rattle.explanations.specs.Columns.{with_room_for_entries};
 ghost use Rattle.explanations.specs.Private.Drawing.{held_columns};
 ghost use Rattle.explanations.specs.Rows.{row_of};
 
-use crate::columns::{column_at, push_times};
 use crate::numbers::sum;
 use crate::pattern_rows::Row;
 use hyphenation_breaks::entry::Entry;
 use std::alloc::{AllocError, Global};
-use unicode_width::{UnicodeWidthChar, UnicodeWidthStr};
+use unicode_width::UnicodeWidthChar;
 
-// The most columns of a frame below which rows are put below their letters. In the picture of a wider one, each row begins
-// at the first column, so that a picture grows with the rows alone.
+// The most columns of a frame below which rows are put below their letters. In the picture of a wider one, each line begins
+// with its row, so that a picture grows with the rows alone.
 const MOST_COLUMNS: usize = 400;
 
 // The columns of the letters of a frame.
@@ -26,6 +25,27 @@ pub(crate) struct Layout {
     values: Vec<usize>,
     // The column at which the value of each place begins.
     begins: Vec<usize>,
+}
+
+// Returns the column of a place, or 0 past the end.
+fn column_at(columns: &[usize], place: usize) -> usize
+    ensures { result ≡ slice_index columns.now place }
+{
+    if place < columns.len() {
+        columns[place]
+    } else {
+        0
+    }
+}
+
+// Appends a column that many times.
+fn push_times(columns: &mut Vec<usize>, column: usize, count: usize) -> Result<(), AllocError>
+    ensures { OnOk result (columns.new.items ≡ columns.old.items ++ replicate count column) }
+{
+    for _done in 0..count {
+        columns.push(column)?;
+    }
+    Ok(())
 }
 
 // The number of columns of a value.
@@ -99,7 +119,7 @@ fn shown_columns(c: char) -> usize
 {
     match c.width() {
         Some(columns) => columns,
-        None => 0,
+        None => 1,
     }
 }
 
@@ -161,46 +181,38 @@ impl Layout {
         column_at(&self.begins, self.begins.len().saturating_sub(1))
     }
 
-    // Returns the column at which the value of a place of the frame begins, or 0 for a wide frame.
-    pub(crate) fn indent(&self, place: usize) -> usize
-        ensures { result ≡ indent (held_columns self.now) place }
+    // Returns the column at which the value of a place begins.
+    pub(crate) fn begin(&self, place: usize) -> usize
+        ensures { result ≡ slice_index (held_columns self.now).begins place }
     {
-        if self.width() > MOST_COLUMNS {
-            return 0;
-        }
         column_at(&self.begins, place)
     }
 
-    // Returns the number of columns for the value at a place of a text that starts in the frame. The only error is out of
-    // memory.
-    pub(crate) fn columns_before(&self, start: usize, place: usize) -> Result<usize, AllocError>
-        ensures { IfOk result (λ columns. columns ≡ slice_index (held_columns self.now).values (start + place)) }
+    // Returns the column of the letter at a place. The only error is out of memory.
+    pub(crate) fn letter_column(&self, place: usize) -> Result<usize, AllocError>
+        ensures { IfOk result (λ column. column ≡ letter_column (held_columns self.now) place) }
     {
-        Ok(column_at(&self.values, sum(start, place)?))
+        sum(self.begin(place), column_at(&self.values, place))
     }
 
-    // Returns the number of columns from the end of the word's scores to where words about a line begin. The only error is
-    // out of memory.
-    pub(crate) fn rest_after_word(&self) -> Result<usize, AllocError>
-        ensures { IfOk result (λ columns. columns ≡ rest_after_word (held_columns self.now)) }
+    // Returns the column at which the line of a row begins, by the place at which the row starts.
+    pub(crate) fn line_begin(&self, start: usize) -> usize
+        ensures { result ≡ line_begin (held_columns self.now) start }
     {
-        let end = column_at(&self.begins, self.begins.len().saturating_sub(2));
-        sum(self.width().saturating_sub(end), 2)
+        if self.width() > MOST_COLUMNS {
+            self.begin(start)
+        } else {
+            0
+        }
     }
 
-    // Returns the column of the word's first letter. The only error is out of memory.
-    pub(crate) fn first_letter(&self) -> Result<usize, AllocError>
-        ensures { IfOk result (λ column. column ≡ first_letter (held_columns self.now)) }
+    // Returns the column of words about a row of the whole word, whose letters have that many columns. The only error is out
+    // of memory.
+    pub(crate) fn note_column(&self, width: usize) -> Result<usize, AllocError>
+        ensures { IfOk result (λ column. column ≡ note_column (held_columns self.now) width) }
     {
-        sum(self.indent(1), column_at(&self.values, 1))
-    }
-
-    // Returns the number of columns from the end of a text below the word to where words about a line begin. The only error
-    // is out of memory.
-    pub(crate) fn rest_after(&self, text: &str) -> Result<usize, AllocError>
-        ensures { IfOk result (λ columns. columns ≡ rest_after (held_columns self.now) text.now) }
-    {
-        let below = self.width().saturating_sub(self.first_letter()?);
-        Ok(sum(below, 2)?.saturating_sub(text.width()))
+        let frame_end = sum(self.width(), 2)?;
+        let row_end = sum(self.letter_column(1)?, width)?;
+        sum(frame_end.max(row_end), 2)
     }
 }

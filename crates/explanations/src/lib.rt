@@ -13,8 +13,8 @@
 //! ```
 #![tactic(auto)]
 
-mod columns;
 mod facts;
+mod fields;
 mod layout;
 mod lines;
 mod marks;
@@ -22,14 +22,17 @@ mod notes;
 mod numbers;
 mod pattern_rows;
 mod picture;
+mod placed;
+mod placed_rows;
 mod style;
 mod svg;
 mod svg_document;
-mod svg_pieces;
 mod texts;
 
 pub use facts::{Decision, Explanation, explain};
+pub use fields::fields_have_no_control_characters;
 pub use pattern_rows::{Row, rows};
 pub use style::Style;
+pub use svg::texts_of_drawings_are_escaped;
 pub use svg_document::{Drawing, document};
 pub use texts::{drawing, explanation};

@@ -12,6 +12,7 @@ ghost use Rattle.explanations.specs.Private.Drawing.{scores_by};
 ghost use Rattle.explanations.specs.Rows.{row_of, LiesWithin};
 
 use crate::facts::Decision;
+use crate::fields::push_field_text;
 use crate::pattern_rows::Row;
 use hyphenation_breaks::breaks::Break;
 use hyphenation_breaks::entry::{Entry, Listing, Payload};
@@ -57,7 +58,7 @@ fn push_some_change(text: &mut Vec<u8>, change: &Subregion) -> Result<(), AllocE
     push_number_after(text, b',', change.right)?;
     push_number_after(text, b',', change.breakpoint)?;
     text.push(b',')?;
-    text.extend_from_slice(change.substitution.as_bytes())
+    push_field_text(text, change.substitution.as_bytes())
 }
 
 // Appends a change after a colon, or nothing without one.
@@ -112,7 +113,7 @@ fn push_pattern<C: Payload>(
     push_number_field(text, row.start)?;
     push_number_field(text, row.bytes)?;
     text.push(b'\t')?;
-    text.extend_from_slice(&framed[row.start..row.start + row.bytes])?;
+    push_field_text(text, &framed[row.start..row.start + row.bytes])?;
     push_entries(text, row.entries)?;
     text.push(b'\n')?;
     Ok(())
@@ -228,7 +229,7 @@ pub(crate) fn name_of(decision: Decision) -> &'static str
     }
 }
 
-// Appends a line of a name and one field.
+// Appends a line of a name and one field, which has a text.
 pub(crate) fn push_text_line(
     text: &mut Vec<u8>,
     name: &[u8],
@@ -238,7 +239,7 @@ pub(crate) fn push_text_line(
 {
     text.extend_from_slice(name)?;
     text.push(b'\t')?;
-    text.extend_from_slice(field)?;
+    push_field_text(text, field)?;
     text.push(b'\n')?;
     Ok(())
 }

@@ -1,15 +1,14 @@
 //! The values of a drawing: what is at each place of a row.
 
-ghost use Rattle.std.specs.Prelude.{◌≡◌, ◌+◌, ◌-◌, IfOk, length, option_map};
-ghost use Rattle.explanations.specs.Picture.{entry_value, score_value};
+ghost use Rattle.std.specs.Prelude.{◌≡◌, IfOk, length, option_copied, option_map};
+ghost use Rattle.hyphenation_breaks.specs.Break.{is_boundary};
+ghost use Rattle.hyphenation_score.specs.Scoring.{value_of};
+ghost use Rattle.explanations.specs.Marks.{entry_value, mark_of, no_marks, pattern_mark, row_marks, score_mark, score_marks, score_value};
 ghost use Rattle.explanations.specs.Private.Drawing.{scores_by};
-ghost use Rattle.explanations.specs.Private.Pieces.{mark_at};
 ghost use Rattle.explanations.specs.Rows.{row_of};
-ghost use Rattle.explanations.specs.Svg.{no_marks, pattern_mark, row_marks, score_mark, score_marks};
 
 use crate::numbers::sum;
 use crate::pattern_rows::Row;
-use crate::picture::{entry_value, score_value};
 use hyphenation_breaks::entry::{Entry, Payload};
 use std::alloc::{AllocError, Global};
 
@@ -19,6 +18,51 @@ pub(crate) struct Mark {
     pub(crate) value: u8,
     // Whether it is the greatest of its place of the word.
     pub(crate) wins: bool,
+}
+
+// Returns the value that entries have at a place.
+fn entry_value<C>(entries: &[Entry<C>], place: usize) -> Option<u8>
+    ensures { result ≡ entry_value entries.now place }
+{
+    for entry in entries {
+        if entry.place as usize == place {
+            return Some(entry.value);
+        }
+    }
+    None
+}
+
+// Returns the value that a winner has.
+fn value_of<C>(winner: Option<&Entry<C>>) -> u8
+    ensures { result ≡ value_of (option_copied winner.entry) }
+{
+    match winner {
+        Some(entry) => entry.value,
+        None => 0,
+    }
+}
+
+// Reports whether a place is a character boundary of a word.
+fn is_boundary(word: &str, place: usize) -> bool
+    ensures { result ≡ is_boundary word.now place }
+{
+    word.is_char_boundary(place)
+}
+
+// Returns the value of a word's place between two characters, by the winners of the places from place 1 on.
+fn score_value<C: Payload>(word: &str, winners: &[Option<&Entry<C>>], place: usize) -> Option<u8>
+    ensures { result ≡ score_value word.now (scores_by C.change_of winners.now) place }
+{
+    if !is_boundary(word, place) {
+        return None;
+    }
+    if place == 0 {
+        return None;
+    }
+    if winners.len() < place {
+        return None;
+    }
+    Some(value_of(winners[place - 1]))
 }
 
 // Returns no value for each place of a frame. The only error is out of memory.
@@ -52,8 +96,7 @@ fn row_mark<C: Payload>(
     row: &Row<'_, C>,
     place: usize,
 ) -> Result<Option<Mark>, AllocError>
-    ensures { IfOk result (λ mark. mark ≡ mark_at C.change_of word.now winners.now row.now.start
-        row.now.entries.now place) }
+    ensures { IfOk result (λ mark. mark ≡ mark_of word.now (scores_by C.change_of winners.now) (row_of row.now) place) }
 {
     let at = sum(row.start, place)?.saturating_sub(1);
     let greatest = score_value(word, winners, at);

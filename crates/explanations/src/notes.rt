@@ -1,17 +1,19 @@
 //! The notes beside rows: the changes of values, and the fact that decides. Functions named `push_..` append to a text.
 
-ghost use Rattle.std.specs.Prelude.{◌≡◌, ◌++◌, Option, OnOk, decimal, flat_map, option_copied};
+ghost use Rattle.std.specs.Prelude.{◌≡◌, ◌++◌, IfOk, Option, OnOk, flat_map, option_copied};
 ghost use Rattle.hyphenation_score.specs.Scoring.{score_of_winner};
-ghost use Rattle.explanations.specs.Picture.{noted_value, halves_of, replaced_by, change_note, entry_note, score_note};
-ghost use Rattle.explanations.specs.Picture.{decision_text, with_minima};
+ghost use Rattle.explanations.specs.Notes.{noted_value, halves_of, replaced_by, change_note, entry_note, score_note};
+ghost use Rattle.explanations.specs.Notes.{decision_text, row_note, scores_note, with_minima};
 ghost use Rattle.explanations.specs.Private.Drawing.{scores_by};
+ghost use Rattle.explanations.specs.Rows.{row_of};
 
 use crate::facts::Decision;
 use crate::lines::{append, push_number};
+use crate::pattern_rows::Row;
 use hyphenation_breaks::breaks::Break;
 use hyphenation_breaks::entry::{Entry, Payload};
 use hyphenation_breaks::extended::Subregion;
-use std::alloc::AllocError;
+use std::alloc::{AllocError, Global};
 
 // Appends a value before its change.
 fn push_noted_value(text: &mut Vec<u8>, value: u8) -> Result<(), AllocError>
@@ -65,10 +67,7 @@ fn push_change(text: &mut Vec<u8>, value: u8, change: Option<&Subregion>) -> Res
 }
 
 // Appends the changes that the values of entries make.
-pub(crate) fn push_entry_notes<C: Payload>(
-    text: &mut Vec<u8>,
-    entries: &[Entry<C>],
-) -> Result<(), AllocError>
+fn push_entry_notes<C: Payload>(text: &mut Vec<u8>, entries: &[Entry<C>]) -> Result<(), AllocError>
     ensures { OnOk result (text.new.items ≡ text.old.items ++
         (flat_map (entry_note C.change_of) entries.now)) }
 {
@@ -93,7 +92,7 @@ fn push_score_note<C: Payload>(
 }
 
 // Appends the changes of winners.
-pub(crate) fn push_score_notes<C: Payload>(
+fn push_score_notes<C: Payload>(
     text: &mut Vec<u8>,
     winners: &[Option<&Entry<C>>],
 ) -> Result<(), AllocError>
@@ -121,7 +120,7 @@ fn push_with_minima(
 }
 
 // Appends the fact that decides, in words.
-pub(crate) fn push_decision_text(
+fn push_decision_text(
     text: &mut Vec<u8>,
     decision: Decision,
     minima: (usize, usize),
@@ -141,4 +140,39 @@ pub(crate) fn push_decision_text(
         ),
         Decision::Patterns => push_with_minima(text, b"odd values within the minima ", minima),
     }
+}
+
+// Returns the note of a row. The only error is out of memory.
+pub(crate) fn row_note<C: Payload>(alloc: Global, row: &Row<'_, C>) -> Result<Vec<u8>, AllocError>
+    ensures { IfOk result (λ note. note.items ≡ row_note C.change_of (row_of row.now)) }
+{
+    let mut note = Vec::new(alloc);
+    push_entry_notes(&mut note, row.entries)?;
+    Ok(note)
+}
+
+// Returns the note of the scores. The only error is out of memory.
+pub(crate) fn scores_note<C: Payload>(
+    alloc: Global,
+    winners: &[Option<&Entry<C>>],
+) -> Result<Vec<u8>, AllocError>
+    ensures { IfOk result (λ note. note.items ≡ scores_note (scores_by C.change_of winners.now)) }
+{
+    let mut note = Vec::new(alloc);
+    note.extend_from_slice(b"the greatest value of each place")?;
+    push_score_notes(&mut note, winners)?;
+    Ok(note)
+}
+
+// Returns the fact that decides, in words. The only error is out of memory.
+pub(crate) fn decision_note(
+    alloc: Global,
+    decision: Decision,
+    minima: (usize, usize),
+) -> Result<Vec<u8>, AllocError>
+    ensures { IfOk result (λ note. note.items ≡ decision_text decision minima) }
+{
+    let mut note = Vec::new(alloc);
+    push_decision_text(&mut note, decision, minima)?;
+    Ok(note)
 }

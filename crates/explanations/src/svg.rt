@@ -1,26 +1,177 @@
-//! The drawing of a word in SVG, row by row.
+//! The rows of a picture as elements of SVG.
 
-ghost use Rattle.std.specs.Prelude.{◌≡◌, ◌+◌, ◌*◌, ◌++◌, ◌≤◌, IfOk, OnOk, chars, length, map, max, slice_range};
+ghost use Rattle.std.specs.Prelude.{List, ℕ, false, ◌≡◌, ◌+◌, ◌++◌, IfOk, OnOk, flat_map, map};
 ghost use Rattle.std.specs.List.{All};
-ghost use Rattle.std.specs.String.{string_bytes};
-ghost use Rattle.hyphenation_score.specs.Scoring.{frame};
-ghost use Rattle.explanations.specs.Picture.{decision_text};
-ghost use Rattle.explanations.specs.Private.Drawing.{scores_by};
-ghost use Rattle.explanations.specs.Private.Pieces.{IsRowDrawn, breaks_element, won_rows};
-ghost use Rattle.explanations.specs.Rows.{row_of, LiesWithin};
-ghost use Rattle.explanations.specs.Svg.{breaks_row, columns_from, frame_row, longest_note, note_column, row_note};
-ghost use Rattle.explanations.specs.Svg.{scores_note, scores_row, word_column, word_title};
+ghost use Rattle.explanations.specs.Drawings.{placed, placed_row};
+ghost use Rattle.explanations.specs.Svg.{class_text, elements_from, escaped, escaped_byte, is_markup, mark_class, row_element};
+ghost use Rattle.explanations.specs.Svg.{rows_end, span, texts_end, word_title, x_by};
 
-use crate::columns::word_column;
-use crate::facts::Decision;
 use crate::lines::push_number;
-use crate::marks::{no_marks, row_marks, score_marks};
-use crate::notes::{push_decision_text, push_entry_notes, push_score_notes};
+use crate::marks::Mark;
 use crate::numbers::{product, sum};
-use crate::pattern_rows::Row;
-use crate::svg_pieces::{letters_row, push_escaped, push_note, push_row_element};
-use hyphenation_breaks::entry::{Entry, Payload};
-use std::alloc::{AllocError, Global};
+use crate::placed::{Class, Text};
+use crate::placed_rows::PictureRow;
+use std::alloc::AllocError;
+
+// Appends a byte as XML has it, after the two bytes before it.
+fn push_escaped_byte(text: &mut Vec<u8>, first: u8, second: u8, byte: u8) -> Result<(), AllocError>
+    ensures { OnOk result (text.new.items ≡ text.old.items ++ escaped_byte first second byte) }
+{
+    if byte == b'&' {
+        text.extend_from_slice(b"&amp;")
+    } else if byte == b'<' {
+        text.extend_from_slice(b"&lt;")
+    } else if byte == b'>' {
+        text.extend_from_slice(b"&gt;")
+    } else if byte == b'"' {
+        text.extend_from_slice(b"&quot;")
+    } else if byte < 32 {
+        text.extend_from_slice(&[239, 191, 189])
+    } else if first == 239 && second == 191 && 190 <= byte {
+        text.extend_from_slice(&[189])
+    } else {
+        text.extend_from_slice(&[byte])
+    }
+}
+
+// Appends a text as XML has it.
+fn push_escaped(text: &mut Vec<u8>, bytes: &[u8]) -> Result<(), AllocError>
+    ensures { OnOk result (text.new.items ≡ text.old.items ++ escaped bytes.now) }
+{
+    let mut first = 0;
+    let mut second = 0;
+    for byte in bytes {
+        push_escaped_byte(text, first, second, *byte)?;
+        first = second;
+        second = *byte;
+    }
+    Ok(())
+}
+
+// Appends the class of a value.
+fn push_mark_class(text: &mut Vec<u8>, mark: Mark) -> Result<(), AllocError>
+    ensures { OnOk result (text.new.items ≡ text.old.items ++ mark_class mark) }
+{
+    if mark.value % 2 == 1 {
+        text.extend_from_slice(b"odd")?;
+    } else {
+        text.extend_from_slice(b"even")?;
+    }
+    if mark.wins {
+        text.extend_from_slice(b" wins")?;
+    }
+    Ok(())
+}
+
+// Appends the class of a value as an attribute.
+fn push_value_class(text: &mut Vec<u8>, mark: Mark) -> Result<(), AllocError>
+    ensures { OnOk result (text.new.items ≡ text.old.items ++ class_text (Class.Value mark)) }
+{
+    text.extend_from_slice(b" class='")?;
+    push_mark_class(text, mark)?;
+    text.extend_from_slice(b"'")
+}
+
+// Appends the class of a text as an attribute.
+fn push_class(text: &mut Vec<u8>, class: Class) -> Result<(), AllocError>
+    ensures { OnOk result (text.new.items ≡ text.old.items ++ class_text class) }
+{
+    match class {
+        Class::Letter => Ok(()),
+        Class::Value(mark) => push_value_class(text, mark),
+        Class::Word => text.extend_from_slice(b" class='word'"),
+        Class::Note => text.extend_from_slice(b" class='note'"),
+    }
+}
+
+// Returns where a text is, in pixels. The only error is out of memory.
+fn x_by(class: Class, column: usize, columns: usize) -> Result<usize, AllocError>
+    ensures { IfOk result (λ x. x ≡ x_by class column columns) }
+{
+    match class {
+        Class::Letter => product(6, sum(sum(sum(column, column)?, columns)?, 2)?),
+        Class::Value(_) => product(6, sum(sum(sum(column, column)?, columns)?, 2)?),
+        Class::Word => product(12, sum(column, 1)?),
+        Class::Note => product(12, sum(column, 1)?),
+    }
+}
+
+// Appends a text as an element.
+fn push_span(out: &mut Vec<u8>, text: &Text) -> Result<(), AllocError>
+    ensures { OnOk result (out.new.items ≡ out.old.items ++ span (placed text.now)) }
+{
+    let x = x_by(text.class, text.column, text.columns)?;
+    out.extend_from_slice(b"<tspan")?;
+    push_class(out, text.class)?;
+    out.extend_from_slice(b" x='")?;
+    push_number(out, x)?;
+    out.extend_from_slice(b"'>")?;
+    push_escaped(out, &text.bytes)?;
+    out.extend_from_slice(b"</tspan>")
+}
+
+// Appends texts as elements.
+fn push_spans(out: &mut Vec<u8>, texts: &[Text]) -> Result<(), AllocError>
+    ensures { OnOk result (out.new.items ≡ out.old.items ++ flat_map span (map placed texts.now)) }
+{
+    for text in texts {
+        push_span(out, text)?;
+    }
+    Ok(())
+}
+
+// Appends the element of a row, by its number.
+fn push_row(out: &mut Vec<u8>, number: usize, row: &PictureRow) -> Result<(), AllocError>
+    ensures { OnOk result (out.new.items ≡ out.old.items ++ row_element number (placed_row row.now).texts) }
+{
+    let y = sum(product(24, number)?, 18)?;
+    out.extend_from_slice(b"<text y='")?;
+    push_number(out, y)?;
+    out.extend_from_slice(b"'>")?;
+    push_spans(out, &row.texts)?;
+    out.extend_from_slice(b"</text>\n")
+}
+
+// Appends the elements of rows.
+pub(crate) fn push_rows(out: &mut Vec<u8>, rows: &[PictureRow]) -> Result<(), AllocError>
+    ensures { OnOk result (out.new.items ≡ out.old.items ++ elements_from 0 (map placed_row rows.now)) }
+{
+    for (number, row) in rows.iter().enumerate() {
+        push_row(out, number, row)?;
+    }
+    Ok(())
+}
+
+// Returns where texts end, in pixels. The only error is out of memory.
+fn texts_end(texts: &[Text]) -> Result<usize, AllocError>
+    ensures { IfOk result (λ end. end ≡ texts_end (map placed texts.now)) }
+{
+    let mut most = 0;
+    for text in texts {
+        let x = x_by(text.class, text.column, text.columns)?;
+        let end = sum(x, product(9, text.bytes.len())?)?;
+        most = end.max(most);
+    }
+    Ok(most)
+}
+
+// Returns where a row ends, in pixels. The only error is out of memory.
+fn row_end(row: &PictureRow) -> Result<usize, AllocError>
+    ensures { IfOk result (λ end. end ≡ texts_end (placed_row row.now).texts) }
+{
+    texts_end(&row.texts)
+}
+
+// Returns where rows end, in pixels. The only error is out of memory.
+pub(crate) fn rows_end(rows: &[PictureRow]) -> Result<usize, AllocError>
+    ensures { IfOk result (λ end. end ≡ rows_end (map placed_row rows.now)) }
+{
+    let mut most = 0;
+    for row in rows {
+        most = row_end(row)?.max(most);
+    }
+    Ok(most)
+}
 
 // Appends the title of a word's drawing.
 pub(crate) fn push_title(text: &mut Vec<u8>, word: &str, hyphenated: &str) -> Result<(), AllocError>
@@ -33,156 +184,7 @@ pub(crate) fn push_title(text: &mut Vec<u8>, word: &str, hyphenated: &str) -> Re
     text.extend_from_slice(b"</title>\n")
 }
 
-// Appends the row of the frame.
-pub(crate) fn push_frame_row(
-    alloc: Global,
-    text: &mut Vec<u8>,
-    columns: &[usize],
-    framed: &[u8],
-) -> Result<(), AllocError>
-    ensures { OnOk result (text.new.items ≡ text.old.items ++ frame_row columns.now framed.now) }
-{
-    let marks = no_marks(alloc, framed)?;
-    let content = letters_row(alloc, columns, 0, framed, &marks, 0, b"")?;
-    push_row_element(text, 0, &content)
-}
-
-// Returns the note of a row. The only error is out of memory.
-fn row_note<C: Payload>(alloc: Global, row: &Row<'_, C>) -> Result<Vec<u8>, AllocError>
-    ensures { IfOk result (λ note. note.items ≡ row_note C.change_of (row_of row.now)) }
-{
-    let mut note = Vec::new(alloc);
-    push_entry_notes(&mut note, row.entries)?;
-    Ok(note)
-}
-
-// Appends the row of a pattern that occurs in the frame, and returns the number of bytes of its note.
-fn push_pattern_row<C: Payload>(
-    alloc: Global,
-    text: &mut Vec<u8>,
-    columns: &[usize],
-    note_x: usize,
-    framed: &[u8],
-    word: &str,
-    winners: &[Option<&Entry<C>>],
-    number: usize,
-    row: &Row<'_, C>,
-) -> Result<usize, AllocError>
-    requires framed { framed.now ≡ frame word.now }
-    requires within { row.now.start + row.now.bytes ≤ length framed.now }
-    ensures row { OnOk result (IsRowDrawn C.change_of columns.now note_x word.now winners.now number
-        (row_of row.now) text.old.items text.new.items) }
-    ensures longest { IfOk result (λ bytes. bytes ≡ length (row_note C.change_of (row_of row.now))) }
-{
-    let letters = &framed[row.start..row.start + row.bytes];
-    let marks = row_marks(alloc, word, winners, row, letters)?;
-    let note = row_note(alloc, row)?;
-    let content = letters_row(alloc, columns, row.start, letters, &marks, note_x, &note)?;
-    push_row_element(text, number, &content)?;
-    Ok(note.len())
-}
-
-// Appends the rows of the patterns that occur in the frame, and returns the number of bytes of the longest note.
-pub(crate) fn push_pattern_rows<C: Payload>(
-    alloc: Global,
-    text: &mut Vec<u8>,
-    columns: &[usize],
-    note_x: usize,
-    framed: &[u8],
-    word: &str,
-    winners: &[Option<&Entry<C>>],
-    rows: &[Row<'_, C>],
-) -> Result<usize, AllocError>
-    requires framed { framed.now ≡ frame word.now }
-    requires within { All (LiesWithin framed.now) (map row_of rows.now) }
-    ensures rows { OnOk result (text.new.items ≡ text.old.items ++ won_rows C.change_of columns.now note_x word.now
-        winners.now (map row_of rows.now)) }
-    ensures longest { IfOk result (λ bytes. bytes ≡ longest_note C.change_of (map row_of rows.now)) }
-{
-    let mut longest = 0;
-    for (index, row) in rows.iter().enumerate() {
-        let number = sum(index, 1)?;
-        let bytes = push_pattern_row(
-            alloc, text, columns, note_x, framed, word, winners, number, row,
-        )?;
-        longest = longest.max(bytes);
-    }
-    Ok(longest)
-}
-
-// Returns the note of the scores. The only error is out of memory.
-fn scores_note<C: Payload>(
-    alloc: Global,
-    winners: &[Option<&Entry<C>>],
-) -> Result<Vec<u8>, AllocError>
-    ensures { IfOk result (λ note. note.items ≡ scores_note (scores_by C.change_of winners.now)) }
-{
-    let mut note = Vec::new(alloc);
-    note.extend_from_slice(b"the greatest value of each place")?;
-    push_score_notes(&mut note, winners)?;
-    Ok(note)
-}
-
-// Appends the row of the scores, and returns the number of bytes of its note.
-pub(crate) fn push_scores_row<C: Payload>(
-    alloc: Global,
-    text: &mut Vec<u8>,
-    columns: &[usize],
-    note_x: usize,
-    word: &str,
-    winners: &[Option<&Entry<C>>],
-    number: usize,
-) -> Result<usize, AllocError>
-    ensures row { OnOk result (text.new.items ≡ text.old.items
-        ++ scores_row columns.now note_x word.now (scores_by C.change_of winners.now) number) }
-    ensures longest { IfOk result (λ bytes. bytes ≡ length (scores_note (scores_by C.change_of winners.now))) }
-{
-    let marks = score_marks(alloc, word, winners)?;
-    let note = scores_note(alloc, winners)?;
-    let content = letters_row(alloc, columns, 1, word.as_bytes(), &marks, note_x, &note)?;
-    push_row_element(text, number, &content)?;
-    Ok(note.len())
-}
-
-// Returns what the row of a word with its breaks holds. The only error is out of memory.
-fn breaks_row(
-    alloc: Global,
-    x: usize,
-    hyphenated: &[u8],
-    note_x: usize,
-    note: &[u8],
-) -> Result<Vec<u8>, AllocError>
-    ensures { IfOk result (λ content. content.items ≡ breaks_row x hyphenated.now note_x note.now) }
-{
-    let mut content = Vec::new(alloc);
-    content.extend_from_slice(b"<tspan class='word' x='")?;
-    push_number(&mut content, x)?;
-    content.extend_from_slice(b"'>")?;
-    push_escaped(&mut content, hyphenated)?;
-    content.extend_from_slice(b"</tspan>")?;
-    push_note(&mut content, note_x, note)?;
-    Ok(content)
-}
-
-// Appends the row of a word with its breaks, and returns the number of bytes of its note.
-pub(crate) fn push_breaks_row(
-    alloc: Global,
-    text: &mut Vec<u8>,
-    columns: &[usize],
-    note_x: usize,
-    hyphenated: &str,
-    decision: Decision,
-    minima: (usize, usize),
-    number: usize,
-) -> Result<usize, AllocError>
-    ensures row { OnOk result (text.new.items ≡ text.old.items ++ breaks_element columns.now hyphenated.now note_x
-        decision minima number) }
-    ensures longest { IfOk result (λ bytes. bytes ≡ length (decision_text decision minima)) }
-{
-    let mut note = Vec::new(alloc);
-    push_decision_text(&mut note, decision, minima)?;
-    let x = product(12, word_column(columns)?)?;
-    let content = breaks_row(alloc, x, hyphenated.as_bytes(), note_x, &note)?;
-    push_row_element(text, number, &content)?;
-    Ok(note.len())
-}
+/// A law: a text of a drawing has no `<`, `>` or `"`, whatever the word is. So it ends neither its element nor an attribute.
+pub fn texts_of_drawings_are_escaped()
+    ensures { (text : List ℕ) → All (λ byte. is_markup byte ≡ false) (escaped text) }
+{}

@@ -1,9 +1,9 @@
 //! Drawings of words, below one another in one document.
 
-ghost use Rattle.std.specs.Prelude.{◌≡◌, ◌+◌, ◌*◌, ◌++◌, IfOk, OnOk, map};
+ghost use Rattle.std.specs.Prelude.{◌≡◌, ◌+◌, ◌++◌, IfOk, OnOk, map};
 ghost use Rattle.explanations.specs.Drawings.{drawn};
-ghost use Rattle.explanations.specs.Svg.{all_rows, background, document_begin, document_of, document_open, document_size};
-ghost use Rattle.explanations.specs.Svg.{document_title, group, groups, style_element, widest};
+ghost use Rattle.explanations.specs.Svg.{all_rows, document_begin, document_of, document_open, document_style};
+ghost use Rattle.explanations.specs.Svg.{group, groups, widest};
 
 use crate::lines::push_number;
 use crate::numbers::{product, sum};
@@ -70,35 +70,7 @@ fn push_groups(text: &mut Vec<u8>, drawings: &[Drawing]) -> Result<(), AllocErro
     Ok(())
 }
 
-// Appends the style of all elements.
-#[tactic(auto, unfolding(crate::specs::Svg::style_element))]
-fn push_style(text: &mut Vec<u8>) -> Result<(), AllocError>
-    ensures { OnOk result (text.new.items ≡ text.old.items ++ style_element) }
-{
-    text.extend_from_slice(
-        b"<style>text{font-family:monospace;font-size:18px;fill:#1d2433;text-anchor:middle}.odd,.even{font-size:13px}.odd{fill:#c8102e;font-weight:bold}.even{fill:#6b7a90}.wins{text-decoration:underline}.word,.note{text-anchor:start}.word{font-weight:bold}.note{font-size:14px;fill:#5a6475}</style>",
-    )
-}
-
-// Appends the title of a document, after its size.
-#[tactic(auto, unfolding(crate::specs::Svg::document_title))]
-fn push_document_title(text: &mut Vec<u8>) -> Result<(), AllocError>
-    ensures { OnOk result (text.new.items ≡ text.old.items ++ document_title) }
-{
-    text.extend_from_slice(
-        b"' role='img' xml:space='preserve'><title>Why words break where they do</title>",
-    )
-}
-
-// Appends the background.
-#[tactic(auto, unfolding(crate::specs::Svg::background))]
-fn push_background(text: &mut Vec<u8>) -> Result<(), AllocError>
-    ensures { OnOk result (text.new.items ≡ text.old.items ++ background) }
-{
-    text.extend_from_slice(b"<rect width='100%' height='100%' fill='#fff'/>\n")
-}
-
-// Appends the beginning of a document's element, up to its size.
+// Appends the beginning of a document, up to its size.
 #[tactic(auto, unfolding(crate::specs::Svg::document_open))]
 fn push_document_open(text: &mut Vec<u8>) -> Result<(), AllocError>
     ensures { OnOk result (text.new.items ≡ text.old.items ++ document_open) }
@@ -106,24 +78,25 @@ fn push_document_open(text: &mut Vec<u8>) -> Result<(), AllocError>
     text.extend_from_slice(b"<svg xmlns='http://www.w3.org/2000/svg' viewBox='0 0 ")
 }
 
-// Appends the beginning of a document's element, with its size.
-fn push_document_size(text: &mut Vec<u8>, width: usize, height: usize) -> Result<(), AllocError>
-    ensures { OnOk result (text.new.items ≡ text.old.items ++ document_size width height) }
+// Appends the title, the style and the background of a document, after its size.
+#[tactic(auto, unfolding(crate::specs::Svg::document_style))]
+fn push_document_style(text: &mut Vec<u8>) -> Result<(), AllocError>
+    ensures { OnOk result (text.new.items ≡ text.old.items ++ document_style) }
 {
-    push_document_open(text)?;
-    push_number(text, width)?;
-    text.extend_from_slice(b" ")?;
-    push_number(text, height)
+    text.extend_from_slice(
+        b"' role='img' xml:space='preserve'><title>Why words break where they do</title><style>text{font-family:monospace;font-size:18px;fill:#1d2433;text-anchor:middle}.odd,.even{font-size:13px}.odd{fill:#c8102e;font-weight:bold}.even{fill:#6b7a90}.wins{text-decoration:underline}.word,.note{text-anchor:start}.word{font-weight:bold}.note{font-size:14px;fill:#5a6475}</style><rect width='100%' height='100%' fill='#fff'/>\n",
+    )
 }
 
 // Appends the beginning of a document of this width and height.
 fn push_document_begin(text: &mut Vec<u8>, width: usize, height: usize) -> Result<(), AllocError>
     ensures { OnOk result (text.new.items ≡ text.old.items ++ document_begin width height) }
 {
-    push_document_size(text, width, height)?;
-    push_document_title(text)?;
-    push_style(text)?;
-    push_background(text)
+    push_document_open(text)?;
+    push_number(text, width)?;
+    text.extend_from_slice(b" ")?;
+    push_number(text, height)?;
+    push_document_style(text)
 }
 
 /// Returns one standalone document in SVG of these drawings, each below the one before.
@@ -132,7 +105,7 @@ fn push_document_begin(text: &mut Vec<u8>, width: usize, height: usize) -> Resul
 ///
 /// ```text
 /// let drawings = [drawing(alloc, &dictionary, "firkins")?];
-/// document(alloc, &drawings)?    // <svg xmlns='http://www.w3.org/2000/svg' viewBox='0 0 588 216' ..
+/// document(alloc, &drawings)?    // <svg xmlns='http://www.w3.org/2000/svg' viewBox='0 0 612 216' ..
 /// ```
 pub fn document(alloc: Global, drawings: &[Drawing]) -> Result<Vec<u8>, AllocError>
     ensures { IfOk result (λ text. text.items ≡ document_of (map drawn drawings.now)) }

@@ -1,28 +1,28 @@
 //! The text that explains a word, in either style.
 
-ghost use Rattle.std.specs.Prelude.{◌≡◌, ◌∷◌, ◌++◌, [], ℕ, List, IfOk, OnOk, length, map, codes};
-ghost use Rattle.std.specs.List.{All};
+ghost use Rattle.std.specs.Prelude.{◌≡◌, ◌∷◌, ◌++◌, [], IfOk, OnOk, map, codes};
 ghost use Rattle.std.specs.String.{string_bytes};
 ghost use Rattle.hyphenation_segments.specs.Segments.{marked_word};
-ghost use Rattle.hyphenation_score.specs.Scoring.{frame};
-ghost use Rattle.explanations.specs.Rows.{row_of, LiesWithin};
-ghost use Rattle.explanations.specs.Drawings.{drawn};
-ghost use Rattle.explanations.specs.Texts.{Explains, IsDrawn, IsTextOf};
+ghost use Rattle.explanations.specs.Drawings.{drawn, placed_row};
+ghost use Rattle.explanations.specs.Texts.{Explains, IsDrawn, IsTextOf, drawing_by, drawing_of, lines_of};
+ghost use Rattle.explanations.specs.Texts.{picture_of, picture_rows};
 ghost use Rattle.explanations.specs.Words.{IsDrawingOf, IsExplanation};
-ghost use Rattle.explanations.specs.Private.Facts.{AddsRows, document_by, drawing_by, drawn_by, facts_of, lines_by};
-ghost use Rattle.explanations.specs.Private.Facts.{longest_by, picture_by};
+ghost use Rattle.explanations.specs.Private.Facts.{IsKnown, facts_in, rows_in};
+ghost use Rattle.explanations.specs.Svg.{document_of, word_title};
 
-use crate::columns::{columns_of, note_column};
 use crate::facts::{Explanation, explain};
 use crate::layout::Layout;
 use crate::lines::{
     name_of, push_bounds_line, push_breaks_line, push_exception, push_minima_line, push_patterns,
     push_places_line, push_score_fields, push_text_line,
 };
-use crate::numbers::{product, sum};
-use crate::picture::{push_break_line, push_frame_line, push_rows, push_score_line};
+use crate::numbers::sum;
+use crate::picture::push_picture;
+use crate::placed_rows::{
+    PictureRow, Shown, breaks_row, frame_row, push_pattern_rows, push_row, scores_row,
+};
 use crate::style::Style;
-use crate::svg::{push_breaks_row, push_frame_row, push_pattern_rows, push_scores_row, push_title};
+use crate::svg::{push_rows, push_title, rows_end};
 use crate::svg_document::{Drawing, document};
 use any_dictionary::AnyDictionary;
 use hyphenation_breaks::breaks::Break;
@@ -32,6 +32,17 @@ use hyphenation_hyphenator::hyphenator::Hyphenator;
 use hyphenation_segments::Word;
 use hyphenation_segments::iter::push_marked;
 use std::alloc::{AllocError, Global};
+
+// A word, and what is known of it.
+#[derive(Drop)]
+struct Known<'a, 'd, C, B, O> {
+    facts: &'a Explanation<'d, C, B>,
+    minima: (usize, usize),
+    // The word as written, its breaks, and the word with a hyphen at each of them.
+    word: &'a str,
+    breaks: &'a [O],
+    hyphenated: &'a str,
+}
 
 // Returns a word with a hyphen at each of its breaks. The only error is out of memory.
 fn hyphenated<O: Break>(alloc: Global, word: &Word<'_, O>) -> Result<String, AllocError>
@@ -46,168 +57,136 @@ fn hyphenated<O: Break>(alloc: Global, word: &Word<'_, O>) -> Result<String, All
 // Appends the lines for programs.
 fn push_lines<C: Payload, B: Listing, O: Break>(
     text: &mut Vec<u8>,
-    facts: &Explanation<'_, C, B>,
-    minima: (usize, usize),
-    word: &str,
-    breaks: &[O],
-    hyphenated: &str,
+    known: &Known<'_, '_, C, B, O>,
 ) -> Result<(), AllocError>
-    requires framed { string_bytes facts.now.framed ≡ frame (string_bytes facts.now.folded) }
-    requires within { All (LiesWithin (string_bytes facts.now.framed)) (map row_of facts.now.rows.items) }
-    requires hyphenated { hyphenated.now ≡ marked_word (codes "-") word.now (map O.meaning breaks.now) }
-    ensures { OnOk result (text.new.items ≡ text.old.items ++ lines_by C.change_of B.meaning facts.now
-        minima word.now (map O.meaning breaks.now)) }
+    requires { IsKnown O.meaning known.now }
+    ensures { OnOk result (text.new.items ≡ text.old.items
+        ++ lines_of C.change_of (facts_in C.change_of B.meaning O.meaning known.now)) }
 {
-    push_text_line(text, b"word", word.as_bytes())?;
+    let facts = known.facts;
+    push_text_line(text, b"word", known.word.as_bytes())?;
     push_text_line(text, b"folded", facts.folded.as_bytes())?;
     push_patterns(text, facts.framed.as_bytes(), &facts.rows)?;
     push_score_fields(text, &facts.winners)?;
-    push_minima_line(text, minima)?;
+    push_minima_line(text, known.minima)?;
     push_bounds_line(text, facts.bounds)?;
     push_places_line(text, b"soft-hyphens", &facts.soft_hyphens)?;
     push_exception(text, facts.listed)?;
     push_text_line(text, b"decided-by", name_of(facts.decision).as_bytes())?;
-    push_breaks_line(text, breaks)?;
-    push_text_line(text, b"hyphenated", hyphenated.as_bytes())
+    push_breaks_line(text, known.breaks)?;
+    push_text_line(text, b"hyphenated", known.hyphenated.as_bytes())
 }
 
-// Appends the picture for people.
-fn push_picture<C: Payload, B: Listing, O: Break>(
+// Appends the rows of the picture, by its columns.
+fn push_all_rows<C: Payload, B: Listing, O: Break>(
     alloc: Global,
-    text: &mut Vec<u8>,
-    facts: &Explanation<'_, C, B>,
-    minima: (usize, usize),
-    word: &str,
-    breaks: &[O],
-    hyphenated: &str,
+    placed: &mut Vec<PictureRow>,
+    layout: &Layout,
+    known: &Known<'_, '_, C, B, O>,
 ) -> Result<(), AllocError>
-    requires framed { string_bytes facts.now.framed ≡ frame (string_bytes facts.now.folded) }
-    requires within { All (LiesWithin (string_bytes facts.now.framed)) (map row_of facts.now.rows.items) }
-    requires hyphenated { hyphenated.now ≡ marked_word (codes "-") word.now (map O.meaning breaks.now) }
-    ensures { OnOk result (text.new.items ≡ text.old.items ++ picture_by C.change_of B.meaning facts.now
-        minima word.now (map O.meaning breaks.now)) }
+    requires { IsKnown O.meaning known.now }
+    ensures { OnOk result (map placed_row placed.new.items ≡ map placed_row placed.old.items
+        ++ rows_in C.change_of B.meaning O.meaning layout.now known.now) }
 {
-    let layout = Layout::new(alloc, &facts.framed, &facts.rows)?;
-    push_frame_line(text, facts.framed.as_bytes(), &layout)?;
-    push_rows(text, facts.framed.as_bytes(), &facts.rows, &layout)?;
-    push_score_line(text, &facts.folded, &facts.winners, &layout)?;
-    push_break_line(text, hyphenated, facts.decision, minima, &layout)
-}
-
-// Appends the elements of a drawing, and returns the number of bytes of the longest note.
-fn push_drawn_rows<C: Payload, B: Listing, O: Break>(
-    alloc: Global,
-    text: &mut Vec<u8>,
-    columns: &[usize],
-    note_x: usize,
-    facts: &Explanation<'_, C, B>,
-    minima: (usize, usize),
-    word: &str,
-    breaks: &[O],
-    hyphenated: &str,
-) -> Result<usize, AllocError>
-    requires framed { string_bytes facts.now.framed ≡ frame (string_bytes facts.now.folded) }
-    requires within { All (LiesWithin (string_bytes facts.now.framed)) (map row_of facts.now.rows.items) }
-    requires hyphenated { hyphenated.now ≡ marked_word (codes "-") word.now (map O.meaning breaks.now) }
-    ensures rows { OnOk result (AddsRows C.change_of B.meaning O.meaning facts.now minima word.now breaks.now columns.now
-        note_x text.old.items text.new.items) }
-    ensures longest { IfOk result (λ bytes. bytes ≡ longest_by C.change_of B.meaning facts.now minima
-        word.now (map O.meaning breaks.now)) }
-{
+    let facts = known.facts;
     let framed = facts.framed.as_bytes();
     let folded = facts.folded.as_str();
-    let number = sum(facts.rows.len(), 1)?;
-    push_title(text, word, hyphenated)?;
-    push_frame_row(alloc, text, columns, framed)?;
-    let of_rows = push_pattern_rows(
-        alloc,
-        text,
-        columns,
-        note_x,
+    let shown = Shown {
+        layout,
+        word: folded,
         framed,
-        folded,
-        &facts.winners,
-        &facts.rows,
-    )?;
-    let of_scores = push_scores_row(alloc, text, columns, note_x, folded, &facts.winners, number)?;
-    let of_breaks = push_breaks_row(
+        winners: &facts.winners,
+    };
+    let first = frame_row(alloc, layout, framed)?;
+    push_row(placed, first)?;
+    push_pattern_rows(alloc, placed, &shown, &facts.rows)?;
+    let scores = scores_row(alloc, &shown)?;
+    push_row(placed, scores)?;
+    let last = breaks_row(
         alloc,
-        text,
-        columns,
-        note_x,
-        hyphenated,
+        layout,
+        known.hyphenated,
         facts.decision,
-        minima,
-        sum(number, 1)?,
+        known.minima,
     )?;
-    Ok(of_rows.max(of_scores.max(of_breaks)))
+    push_row(placed, last)?;
+    Ok(())
 }
 
-// Returns the drawing of an explanation, by the columns of the frame and the place of the notes.
-fn drawing_at<C: Payload, B: Listing, O: Break>(
+// Returns the rows of the picture. The only error is out of memory.
+fn picture_rows<C: Payload, B: Listing, O: Break>(
     alloc: Global,
-    columns: &[usize],
-    note_x: usize,
-    facts: &Explanation<'_, C, B>,
-    minima: (usize, usize),
-    word: &str,
-    breaks: &[O],
-    hyphenated: &str,
-) -> Result<Drawing, AllocError>
-    requires framed { string_bytes facts.now.framed ≡ frame (string_bytes facts.now.folded) }
-    requires within { All (LiesWithin (string_bytes facts.now.framed)) (map row_of facts.now.rows.items) }
-    requires hyphenated { hyphenated.now ≡ marked_word (codes "-") word.now (map O.meaning breaks.now) }
-    ensures { IfOk result (λ drawing. drawn drawing ≡ drawn_by C.change_of B.meaning facts.now
-        minima word.now (map O.meaning breaks.now) columns.now note_x) }
+    known: &Known<'_, '_, C, B, O>,
+) -> Result<Vec<PictureRow>, AllocError>
+    requires { IsKnown O.meaning known.now }
+    ensures { IfOk result (λ rows. map placed_row rows.items
+        ≡ picture_rows C.change_of (facts_in C.change_of B.meaning O.meaning known.now)) }
 {
-    let rows = sum(facts.rows.len(), 3)?;
+    let layout = Layout::new(alloc, &known.facts.framed, &known.facts.rows)?;
+    let mut rows = Vec::new(alloc);
+    push_all_rows(alloc, &mut rows, &layout, known)?;
+    Ok(rows)
+}
+
+// Returns the picture for people. The only error is out of memory.
+fn picture<C: Payload, B: Listing, O: Break>(
+    alloc: Global,
+    known: &Known<'_, '_, C, B, O>,
+) -> Result<Vec<u8>, AllocError>
+    requires { IsKnown O.meaning known.now }
+    ensures { IfOk result (λ text. text.items
+        ≡ picture_of C.change_of (facts_in C.change_of B.meaning O.meaning known.now)) }
+{
+    let rows = picture_rows(alloc, known)?;
+    let mut text = Vec::new(alloc);
+    push_picture(&mut text, &rows)?;
+    Ok(text)
+}
+
+// Returns the drawing of rows, below the title of a word. The only error is out of memory.
+fn drawing_by(
+    alloc: Global,
+    word: &str,
+    hyphenated: &str,
+    rows: &[PictureRow],
+) -> Result<Drawing, AllocError>
+    ensures { IfOk result (λ drawing. drawn drawing
+        ≡ drawing_by (word_title word.now hyphenated.now) (map placed_row rows.now)) }
+{
     let mut svg = Vec::new(alloc);
-    let longest = push_drawn_rows(
-        alloc, &mut svg, columns, note_x, facts, minima, word, breaks, hyphenated,
-    )?;
-    let width = sum(sum(note_x, product(9, longest)?)?, 12)?;
-    Ok(Drawing { rows, width, svg })
+    push_title(&mut svg, word, hyphenated)?;
+    push_rows(&mut svg, rows)?;
+    let width = sum(rows_end(rows)?, 12)?;
+    Ok(Drawing {
+        rows: rows.len(),
+        width,
+        svg,
+    })
 }
 
-// Returns the drawing of an explanation. The only error is out of memory.
-fn drawing_by<C: Payload, B: Listing, O: Break>(
+// Returns the drawing of a word of which this is known. The only error is out of memory.
+fn known_drawing<C: Payload, B: Listing, O: Break>(
     alloc: Global,
-    facts: &Explanation<'_, C, B>,
-    minima: (usize, usize),
-    word: &str,
-    breaks: &[O],
-    hyphenated: &str,
+    known: &Known<'_, '_, C, B, O>,
 ) -> Result<Drawing, AllocError>
-    requires framed { string_bytes facts.now.framed ≡ frame (string_bytes facts.now.folded) }
-    requires within { All (LiesWithin (string_bytes facts.now.framed)) (map row_of facts.now.rows.items) }
-    requires hyphenated { hyphenated.now ≡ marked_word (codes "-") word.now (map O.meaning breaks.now) }
-    ensures { IfOk result (λ drawing. drawn drawing ≡ drawing_by C.change_of B.meaning facts.now minima
-        word.now (map O.meaning breaks.now)) }
+    requires { IsKnown O.meaning known.now }
+    ensures { IfOk result (λ drawing. drawn drawing
+        ≡ drawing_of C.change_of (facts_in C.change_of B.meaning O.meaning known.now)) }
 {
-    let framed = facts.framed.as_str();
-    let columns = columns_of(alloc, framed)?;
-    let note_x = product(12, note_column(&columns, framed, hyphenated)?)?;
-    drawing_at(
-        alloc, &columns, note_x, facts, minima, word, breaks, hyphenated,
-    )
+    let rows = picture_rows(alloc, known)?;
+    drawing_by(alloc, known.word, known.hyphenated, &rows)
 }
 
 // Returns the document of an explanation's drawing. The only error is out of memory.
 fn document_by<C: Payload, B: Listing, O: Break>(
     alloc: Global,
-    facts: &Explanation<'_, C, B>,
-    minima: (usize, usize),
-    word: &str,
-    breaks: &[O],
-    hyphenated: &str,
+    known: &Known<'_, '_, C, B, O>,
 ) -> Result<Vec<u8>, AllocError>
-    requires framed { string_bytes facts.now.framed ≡ frame (string_bytes facts.now.folded) }
-    requires within { All (LiesWithin (string_bytes facts.now.framed)) (map row_of facts.now.rows.items) }
-    requires hyphenated { hyphenated.now ≡ marked_word (codes "-") word.now (map O.meaning breaks.now) }
-    ensures { IfOk result (λ text. text.items ≡ document_by C.change_of B.meaning facts.now minima
-        word.now (map O.meaning breaks.now)) }
+    requires { IsKnown O.meaning known.now }
+    ensures { IfOk result (λ text. text.items
+        ≡ document_of (drawing_of C.change_of (facts_in C.change_of B.meaning O.meaning known.now) ∷ [])) }
 {
-    let drawing = drawing_by(alloc, facts, minima, word, breaks, hyphenated)?;
+    let drawing = known_drawing(alloc, known)?;
     document(alloc, &[drawing])
 }
 
@@ -215,29 +194,20 @@ fn document_by<C: Payload, B: Listing, O: Break>(
 fn styled<C: Payload, B: Listing, O: Break>(
     alloc: Global,
     style: Style,
-    facts: &Explanation<'_, C, B>,
-    minima: (usize, usize),
-    word: &str,
-    breaks: &[O],
-    hyphenated: &str,
+    known: &Known<'_, '_, C, B, O>,
 ) -> Result<Vec<u8>, AllocError>
-    requires framed { string_bytes facts.now.framed ≡ frame (string_bytes facts.now.folded) }
-    requires within { All (LiesWithin (string_bytes facts.now.framed)) (map row_of facts.now.rows.items) }
-    requires hyphenated { hyphenated.now ≡ marked_word (codes "-") word.now (map O.meaning breaks.now) }
+    requires { IsKnown O.meaning known.now }
     ensures { IfOk result (λ text. IsTextOf style C.change_of
-        (facts_of C.change_of B.meaning facts.now minima word.now (map O.meaning breaks.now)) text.items) }
+        (facts_in C.change_of B.meaning O.meaning known.now) text.items) }
 {
     let mut text = Vec::new(alloc);
     match style {
         Style::Lines => {
-            push_lines(&mut text, facts, minima, word, breaks, hyphenated)?;
+            push_lines(&mut text, known)?;
             Ok(text)
         }
-        Style::Picture => {
-            push_picture(alloc, &mut text, facts, minima, word, breaks, hyphenated)?;
-            Ok(text)
-        }
-        Style::Svg => document_by(alloc, facts, minima, word, breaks, hyphenated),
+        Style::Picture => picture(alloc, known),
+        Style::Svg => document_by(alloc, known),
     }
 }
 
@@ -254,15 +224,14 @@ fn text_of<C: Payload, B: Listing, O: Break>(
     let hyphenated = hyphenated(alloc, word)?;
     let facts = explain(alloc, dictionary, word.text)?;
     let minima = dictionary.minima();
-    styled(
-        alloc,
-        style,
-        &facts,
+    let known = Known {
+        facts: &facts,
         minima,
-        word.text,
-        &word.breaks,
-        &hyphenated,
-    )
+        word: word.text,
+        breaks: &word.breaks,
+        hyphenated: &hyphenated,
+    };
+    styled(alloc, style, &known)
 }
 
 // Returns the drawing of a word with known breaks. The only error is out of memory.
@@ -277,7 +246,14 @@ fn drawing_of<C: Payload, B: Listing, O: Break>(
     let hyphenated = hyphenated(alloc, word)?;
     let facts = explain(alloc, dictionary, word.text)?;
     let minima = dictionary.minima();
-    drawing_by(alloc, &facts, minima, word.text, &word.breaks, &hyphenated)
+    let known = Known {
+        facts: &facts,
+        minima,
+        word: word.text,
+        breaks: &word.breaks,
+        hyphenated: &hyphenated,
+    };
+    known_drawing(alloc, &known)
 }
 
 /// Returns the text that explains a word as written, by a dictionary. It has the patterns that occur in the word, its

@@ -1,6 +1,6 @@
 //! The calls of C, made as C makes them: over a handle, with buffers of the caller's.
 //!
-//! A call that is done returns the status 0. A number that a call leaves alone is 9 here, and a byte is a full stop.
+//! A call that is done returns the status 0. A number that a call does not write is 9 here, and a byte is a full stop.
 
 use c_calls::changes::BreakChange;
 use c_calls::handle::Handle;
@@ -287,7 +287,7 @@ const NUMBERED: [(&str, u32, &str, &str, bool, Numbered); 6] = [
         (10, [9, 9], [UNTOUCHED; 3], *b"....."),
     ),
     (
-        "a listed change is told from none, also where it changes nothing",
+        "a listed change differs from none, also where it changes nothing",
         1,
         LISTED,
         "kilim",

@@ -374,7 +374,7 @@ fn letters_change_where_a_line_ends(rt: HostRuntime) -> Result<(), Fail> {
     Ok(())
 }
 
-// Rows: what each shows, the aim, and how often two words stand in a paragraph, which fit a line.
+// Rows: what each shows, the aim, and how often two words are in a paragraph, which fit a line.
 const LONG: [(&str, Aim, usize); 3] = [
     ("a paragraph of 5,000 words is divided evenly", EVEN, 2_500),
     (

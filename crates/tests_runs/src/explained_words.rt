@@ -31,9 +31,9 @@ fn expect_explained(
     expect_equal_bytes(shows, &text, wanted.as_bytes())
 }
 
-// The rows of a word, and below it those of a word with a letter that is escaped and a mark that joins the one before it.
+// The rows of a word. Below it are those of a word with an escaped letter and a mark that joins the letter before it.
 const DRAWN: &str =
-    "<svg xmlns='http://www.w3.org/2000/svg' viewBox='0 0 549 288' role='img' xml:space='preserve'><title>Why words break where they do</title><style>text{font-family:monospace;font-size:18px;fill:#1d2433;text-anchor:middle}.odd,.even{font-size:13px}.odd{fill:#c8102e;font-weight:bold}.even{fill:#6b7a90}.wins{text-decoration:underline}.word,.note{text-anchor:start}.word{font-weight:bold}.note{font-size:14px;fill:#5a6475}</style><rect width='100%' height='100%' fill='#fff'/>
+    "<svg xmlns='http://www.w3.org/2000/svg' viewBox='0 0 585 288' role='img' xml:space='preserve'><title>Why words break where they do</title><style>text{font-family:monospace;font-size:18px;fill:#1d2433;text-anchor:middle}.odd,.even{font-size:13px}.odd{fill:#c8102e;font-weight:bold}.even{fill:#6b7a90}.wins{text-decoration:underline}.word,.note{text-anchor:start}.word{font-weight:bold}.note{font-size:14px;fill:#5a6475}</style><rect width='100%' height='100%' fill='#fff'/>
 <g transform='translate(0 0)'>
 <title>rkin: rkin</title>
 <text y='18'><tspan x='30'>.</tspan><tspan x='54'>r</tspan><tspan x='78'>k</tspan><tspan x='102'>i</tspan><tspan x='126'>n</tspan><tspan x='150'>.</tspan></text>
@@ -41,20 +41,20 @@ const DRAWN: &str =
 <text y='66'><tspan x='54'>r</tspan><tspan class='odd wins' x='66'>5</tspan><tspan x='78'>k</tspan><tspan x='102'>i</tspan><tspan x='126'>n</tspan></text>
 <text y='90'><tspan x='78'>k</tspan><tspan class='odd' x='90'>1</tspan><tspan x='102'>i</tspan><tspan x='126'>n</tspan></text>
 <text y='114'><tspan x='78'>k</tspan><tspan class='even wins' x='90'>2</tspan><tspan x='102'>i</tspan><tspan x='126'>n</tspan><tspan x='150'>.</tspan></text>
-<text y='138'><tspan x='54'>r</tspan><tspan class='odd' x='66'>5</tspan><tspan x='78'>k</tspan><tspan class='even' x='90'>2</tspan><tspan x='102'>i</tspan><tspan class='even' x='114'>0</tspan><tspan x='126'>n</tspan><tspan class='note' x='168'>the greatest value of each place</tspan></text>
-<text y='162'><tspan class='word' x='48'>rkin</tspan><tspan class='note' x='168'>too few characters for the minima 2 and 3</tspan></text>
+<text y='138'><tspan x='54'>r</tspan><tspan class='odd' x='66'>5</tspan><tspan x='78'>k</tspan><tspan class='even' x='90'>2</tspan><tspan x='102'>i</tspan><tspan class='even' x='114'>0</tspan><tspan x='126'>n</tspan><tspan class='note' x='204'>the greatest value of each place</tspan></text>
+<text y='162'><tspan class='word' x='48'>rkin</tspan><tspan class='note' x='204'>too few characters for the minima 2 and 3</tspan></text>
 </g>
 <g transform='translate(0 192)'>
 <title>&lt;é\u{301}: &lt;é\u{301}</title>
 <text y='18'><tspan x='30'>.</tspan><tspan x='54'>&lt;</tspan><tspan x='78'>é\u{301}</tspan><tspan x='114'>.</tspan></text>
-<text y='42'><tspan x='54'>&lt;</tspan><tspan class='even' x='66'>0</tspan><tspan x='78'>é</tspan><tspan class='even' x='90'>0</tspan><tspan x='96'>\u{301}</tspan><tspan class='note' x='132'>the greatest value of each place</tspan></text>
-<text y='66'><tspan class='word' x='48'>&lt;é\u{301}</tspan><tspan class='note' x='132'>too few characters for the minima 2 and 3</tspan></text>
+<text y='42'><tspan x='54'>&lt;</tspan><tspan class='even' x='66'>0</tspan><tspan x='78'>é</tspan><tspan class='even' x='90'>0</tspan><tspan x='96'>\u{301}</tspan><tspan class='note' x='168'>the greatest value of each place</tspan></text>
+<text y='66'><tspan class='word' x='48'>&lt;é\u{301}</tspan><tspan class='note' x='168'>too few characters for the minima 2 and 3</tspan></text>
 </g>
 </svg>
 ";
 
 // Rows: what each shows, the dictionary, the style, the words, and the text.
-const EXPLAINED: [(&str, &str, Style, &[&str], &str); 13] = [
+const EXPLAINED: [(&str, &str, Style, &[&str], &str); 14] = [
     (
         "rows are below their letters",
         FIRKIN,
@@ -110,8 +110,8 @@ const EXPLAINED: [(&str, &str, Style, &[&str], &str); 13] = [
         Style::Picture,
         &["asszonnyal"],
         " . a s s z o n n y a l .
- . a s1s z o  1: sz-sz for 1+2 bytes
-           o n1n y a  1: ny-ny for 1+2 bytes
+ . a s1s z o   1: sz-sz for 1+2 bytes
+           o n1n y a   1: ny-ny for 1+2 bytes
    a0s1s0z0o0n1n0y0a0l      the greatest value of each place  1: sz-sz for 1+2 bytes  1: ny-ny for 1+2 bytes
    asz-szony-nyal           odd values within the minima 2 and 2
 ",
@@ -134,7 +134,7 @@ const EXPLAINED: [(&str, &str, Style, &[&str], &str); 13] = [
         FIRKIN,
         Style::Picture,
         &["a\u{301}rkins"],
-        " . a \u{301} r k i n s .
+        " . a\u{301}  r k i n s .
       r2k
       r5k i n
         k1i n
@@ -161,7 +161,7 @@ const EXPLAINED: [(&str, &str, Style, &[&str], &str); 13] = [
         FIRKIN,
         Style::Picture,
         &["fi\u{ad}rkins"],
-        " . f i \u{ad} r k i n s .
+        " . f i\u{ad}  r k i n s .
  . f i2
         r2k
         r5k i n
@@ -223,6 +223,23 @@ soft-hyphens\t2
 decided-by\tsoft-hyphens
 breaks\t2
 hyphenated\tfi-\u{ad}s
+",
+    ),
+    (
+        "a line has control characters and backslashes escaped",
+        FIRKIN,
+        Style::Lines,
+        &["fi\t\u{85}\u{1b}\\\n"],
+        "word\tfi\\t\\u{85}\\u{1b}\\\\\\n
+folded\tfi\\t\\u{85}\\u{1b}\\\\\\n
+pattern\t0\t3\t.fi\t3:2
+score\t1:0\t2:2\t3:0\t4:0\t5:0\t6:0\t7:0
+minima\t2\t3
+bounds\t2\t5
+soft-hyphens
+decided-by\tpatterns
+breaks
+hyphenated\tfi\\t\\u{85}\\u{1b}\\\\\\n
 ",
     ),
     (

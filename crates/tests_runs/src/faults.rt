@@ -1,4 +1,4 @@
-//! Readers and writers that fail: each error is returned as it was, nothing is written before it is known, and the sizes
+//! Readers and writers that fail. Each error is returned as it was, and nothing is written before it is known. The sizes
 //! of reads and writes change nothing.
 
 use crate::runs::{HYPHENS, TWO_LETTERS, Task, run_task};
@@ -22,7 +22,7 @@ enum Reads {
     AtMost(usize),
     // One byte a read; the read of this number and all later ones fail with this code.
     FailFrom(usize, i32),
-    // Two bytes a read; the read of this number alone fails, with this code.
+    // Two bytes a read; only the read of this number fails, with this code.
     FailOnce(usize, i32),
 }
 
@@ -53,8 +53,8 @@ fn reading(bytes: &[u8], reads: Reads) -> Reader<'_> {
     }
 }
 
-// Fails, with what is to be shown and a number, unless a run over readers ends so, and its writer takes these bytes, one a
-// write. The write of a number fails with a code.
+// Fails, with what is to be shown and a number, unless a run over readers ends so and its writer takes these bytes. It takes
+// one a write, and the write of a number fails with a code.
 fn expect_end(
     alloc: Global,
     (shows, number): (&str, usize),
@@ -143,7 +143,7 @@ struct FailingReads {
     task: Task<'static>,
     dictionary: &'static str,
     failing: Failing,
-    // Whether that read alone fails, and its code.
+    // Whether only that read fails, and its code.
     once: bool,
     code: i32,
     // The greatest of the numbers, which begin at 1.
@@ -306,8 +306,8 @@ fn a_read_that_fails_ends_a_run_unless_it_was_interrupted(rt: HostRuntime) -> Re
     Ok(())
 }
 
-// Rows: what each shows, its task, the dictionary and the input, the code of the write that fails, how the run ends, and
-// the whole text. Each row has a run for each write of that text.
+// Rows: what each shows, its task, the dictionary and the input. Then come the code of the write that fails, how the run
+// ends, and the whole text. Each row has a run for each write of that text.
 const FAILING_WRITES: [(&str, Task, &str, &[u8], i32, &str, &[u8]); 5] = [
     (
         "a pipe that breaks has a beginning of a text",

@@ -36,7 +36,7 @@ fn with_spaces<I: Texts>(alloc: Global, items: Hyphenating<'_, I>) -> Result<Str
     Ok(spaced)
 }
 
-// The segments of `firkin`, broken at 3: those of a word, and those of its breaks alone.
+// The segments of `firkin`, broken at 3: those of a word, and those of only its breaks.
 fn segments_of_firkin(alloc: Global) -> Result<String, Fail> {
     let pair: (usize, Option<&Subregion>) = (3, None);
     if !Word::fits("firkin", &[3]) || !Word::fits("firkin", &[pair]) {

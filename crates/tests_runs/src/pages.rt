@@ -232,7 +232,7 @@ const PAGES: &[Page] = &[
         "<html xmlns='x'><pre/>fir-kin<p lang='de'/>fir-kin",
     ),
     (
-        "in XML the names of elements are told apart by their case",
+        "in XML the names of elements differ by their case",
         VISIBLE,
         "<?xml version='1.0'?><P lang='de'>firkin<p>firkin</p>firkin</P>",
         "<?xml version='1.0'?><P lang='de'>fi-rk-in<p>fi-rk-in</p>fi-rk-in</P>",

@@ -1,6 +1,6 @@
 //! Runs over bytes: how each ends, and what it writes.
 
-use hyphenation::engine::{Kind, RunError, run, run_score};
+use hyphenation::engine::{Kind, Marking, RunError, run, run_score};
 use hyphenation::load::Error;
 use hyphenation::{Language, Standard, hyphenate_text};
 use linefill::run_fill;
@@ -55,7 +55,8 @@ pub(crate) fn run_task<D: Read, I: Read, O: Write>(
     let lang = Language::from_code(code).ok_or("a code")?;
     let end = match task {
         Task::Text(kind, edits, mark) => {
-            run(alloc, kind, lang, edits, mark, dictionary, input, output)
+            let marking = Marking { edits, mark };
+            run(alloc, kind, lang, marking, dictionary, input, output)
         }
         Task::Lines(columns) => run_fill(alloc, lang, columns, dictionary, input, output),
         Task::Values(kind, word) => run_score(alloc, kind, lang, word, dictionary, output),
@@ -493,8 +494,8 @@ fn edits_are_done_in_order_or_the_first_refused_is_named(rt: HostRuntime) -> Res
     Ok(())
 }
 
-// Rows: what each shows, the task, the language, the dictionary, a text, what is written of it, and how often it is in
-// an input of more than 1,000,000 bytes.
+// Rows: what each shows, the task, the language, the dictionary, a text, and what is written of it. The last number says how
+// often the text is in an input of more than 1,000,000 bytes.
 const LONG: [(&str, Task, &str, &str, &str, &str, usize); 3] = [
     (
         "a text of a million bytes is hyphenated",

@@ -9,8 +9,11 @@ use Rattle.hyphenation_hyphenator.specs.Boundaries.{boundaries}
 use Rattle.hyphenation_score.specs.Scoring.{Scored, score_of_winner}
 use Rattle.explanations.specs.Decisions.{decision_from}
 use Rattle.explanations.specs.Columns.{Columns}
+use Rattle.explanations.specs.Placed.{PlacedRow, pattern_row, scores_row}
+use Rattle.explanations.specs.Rows.{PatternRow}
 use Rattle.explanations.specs.declared.facts.Decision.{Decision}
 use Rattle.explanations.specs.declared.layout.Layout.{Layout}
+use Rattle.explanations.specs.declared.placed_rows.Shown.{Shown}
 
 -- The columns that a layout holds.
 abbrev pub held_columns : Layout → Columns
@@ -24,3 +27,13 @@ scores_by change_of winners = map (score_of_winner change_of) (map option_copied
 abbrev pub folded_decision : {C B : Type 0} → List ℕ → Contents C B → List ℕ → Decision
 folded_decision soft_hyphens contents folded =
     decision_from soft_hyphens (boundaries contents.left contents.right folded) (finite.get contents.exceptions folded)
+
+-- The row of a pattern, as a word is shown.
+abbrev pub shown_row : {C : Type 0} → (C → Option Change) → Shown C → PatternRow C → PlacedRow
+shown_row change_of shown row =
+    pattern_row change_of (held_columns shown.layout.now) shown.word.now (scores_by change_of shown.winners.now) row
+
+-- The row of the scores, as a word is shown.
+abbrev pub shown_scores : {C : Type 0} → (C → Option Change) → Shown C → PlacedRow
+shown_scores change_of shown =
+    scores_row (held_columns shown.layout.now) shown.word.now (scores_by change_of shown.winners.now)

@@ -1,12 +1,17 @@
 -- The facts of an explanation.
-use Rattle.std.specs.Prelude.{◌≡◌, ℕ, List, [], ◌∷◌, ◌++◌, map, Option, option_map, option_copied}
+use Rattle.std.specs.Prelude.{◌≡◌, ℕ, List, codes, map, Option, option_map, option_copied}
+use Rattle.std.specs.List.{All}
 use Rattle.std.specs.String.{string_bytes}
 use Rattle.hyphenation_breaks.specs.Break.{Break, Change}
-use Rattle.explanations.specs.Private.Drawing.{scores_by}
-use Rattle.explanations.specs.Rows.{row_of}
-use Rattle.explanations.specs.Svg.{Drawn, document_of}
-use Rattle.explanations.specs.Texts.{Facts, lines_of, picture_of, drawn_rows, longest_of, drawing_at, drawing_of}
+use Rattle.hyphenation_score.specs.Scoring.{frame}
+use Rattle.hyphenation_segments.specs.Segments.{marked_word}
+use Rattle.explanations.specs.Placed.{PlacedRow}
+use Rattle.explanations.specs.Private.Drawing.{held_columns, scores_by}
+use Rattle.explanations.specs.Rows.{row_of, LiesWithin}
+use Rattle.explanations.specs.Texts.{Facts, rows_at}
 use Rattle.explanations.specs.declared.facts.Explanation.{Explanation}
+use Rattle.explanations.specs.declared.layout.Layout.{Layout}
+use Rattle.explanations.specs.declared.texts.Known.{Known}
 
 -- The facts that an explanation holds, with the minima, the word as written and its breaks.
 abbrev pub facts_of : {C B : Type 0} → (C → Option Change) → (B → Break) → Explanation C B → ℕ × ℕ → List ℕ → List Break
@@ -24,45 +29,18 @@ facts_of change_of break_of e minima word breaks = record {
   breaks = breaks;
 }
 
--- The lines for programs of an explanation.
-abbrev pub lines_by : {C B : Type 0} → (C → Option Change) → (B → Break) → Explanation C B → ℕ × ℕ → List ℕ → List Break
-    → List ℕ
-lines_by change_of break_of e minima word breaks =
-    lines_of change_of (facts_of change_of break_of e minima word breaks)
+-- The facts that are known of a word. Its breaks are held as something of which this function gives each.
+abbrev pub facts_in : {C B O : Type 0} → (C → Option Change) → (B → Break) → (O → Break) → Known C B O → Facts C
+facts_in change_of break_of own known =
+    facts_of change_of break_of known.facts.now known.minima known.word.now (map own known.breaks.now)
 
--- The picture of an explanation.
-abbrev pub picture_by : {C B : Type 0} → (C → Option Change) → (B → Break) → Explanation C B → ℕ × ℕ → List ℕ → List Break
-    → List ℕ
-picture_by change_of break_of e minima word breaks =
-    picture_of change_of (facts_of change_of break_of e minima word breaks)
+-- The rows of the picture of a word of which this is known, by this layout.
+abbrev pub rows_in : {C B O : Type 0} → (C → Option Change) → (B → Break) → (O → Break) → Layout → Known C B O → List PlacedRow
+rows_in change_of break_of own layout known =
+    rows_at change_of (held_columns layout) (facts_in change_of break_of own known)
 
--- The new text is the old one with the elements of the drawing of an explanation, by the columns of the frame and the place
--- of the notes. The breaks are held as something of which this function gives each.
-abbrev pub AddsRows : {C B O : Type 0} → (C → Option Change) → (B → Break) → (O → Break) → Explanation C B → ℕ × ℕ → List ℕ
-    → List O → List ℕ → ℕ → List ℕ → List ℕ → Type 0
-AddsRows change_of break_of own e minima word breaks columns note_x old new =
-    new ≡ old ++ drawn_rows change_of columns note_x (facts_of change_of break_of e minima word (map own breaks))
-
--- The number of bytes of the longest note in the drawing of an explanation.
-abbrev pub longest_by : {C B : Type 0} → (C → Option Change) → (B → Break) → Explanation C B → ℕ × ℕ → List ℕ → List Break
-    → ℕ
-longest_by change_of break_of e minima word breaks =
-    longest_of change_of (facts_of change_of break_of e minima word breaks)
-
--- The drawing of an explanation, by the columns of the frame and the place of the notes.
-abbrev pub drawn_by : {C B : Type 0} → (C → Option Change) → (B → Break) → Explanation C B → ℕ × ℕ → List ℕ → List Break
-    → List ℕ → ℕ → Drawn
-drawn_by change_of break_of e minima word breaks columns note_x =
-    drawing_at change_of columns note_x (facts_of change_of break_of e minima word breaks)
-
--- The drawing of an explanation.
-abbrev pub drawing_by : {C B : Type 0} → (C → Option Change) → (B → Break) → Explanation C B → ℕ × ℕ → List ℕ → List Break
-    → Drawn
-drawing_by change_of break_of e minima word breaks =
-    drawing_of change_of (facts_of change_of break_of e minima word breaks)
-
--- The document of the drawing of an explanation.
-abbrev pub document_by : {C B : Type 0} → (C → Option Change) → (B → Break) → Explanation C B → ℕ × ℕ → List ℕ → List Break
-    → List ℕ
-document_by change_of break_of e minima word breaks =
-    document_of (drawing_by change_of break_of e minima word breaks ∷ [])
+-- The frame is that of the folded word, the rows lie in it, and the word has a hyphen at each of its breaks.
+pub record IsKnown {C B O : Type 0} (own : O → Break) (known : Known C B O) : Type 0 where
+  pub framed : string_bytes known.facts.now.framed ≡ frame (string_bytes known.facts.now.folded)
+  pub within : All (LiesWithin (string_bytes known.facts.now.framed)) (map row_of known.facts.now.rows.items)
+  pub hyphenated : known.hyphenated.now ≡ marked_word (codes "-") known.word.now (map own known.breaks.now)

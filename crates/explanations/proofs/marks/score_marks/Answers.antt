@@ -1,8 +1,7 @@
 use Rattle.std.proofs.Common.{ℕ}
 use Rattle.std.specs.Prelude.{option_map}
-use Rattle.explanations.specs.Picture.{score_value}
+use Rattle.explanations.specs.Marks.{score_mark, score_value}
 use Rattle.explanations.specs.Private.Drawing.{scores_by}
-use Rattle.explanations.specs.Svg.{score_mark}
 use Rattle.explanations.proofs.Mapped.{mapped_more}
 use Rattle.explanations.proofs.marks.score_marks.Goals as goal
 

@@ -1,9 +1,8 @@
 use Rattle.std.proofs.Common.{◌≡◌, map}
 use Rattle.std.specs.Prelude.{option_map}
 use Rattle.std.specs.List.{range_with_len}
-use Rattle.explanations.specs.Picture.{score_value}
+use Rattle.explanations.specs.Marks.{score_mark, score_value}
 use Rattle.explanations.specs.Private.Drawing.{scores_by}
-use Rattle.explanations.specs.Svg.{score_mark}
 use Rattle.explanations.proofs.marks.score_marks.Given as goal
 
 abbrev pub invariant-loop-place : goal.invariant-loop-place

@@ -1,6 +1,6 @@
 use Rattle.std.proofs.Common.{◌≡◌, ◌++◌, drop}
 use Rattle.std.specs.Prelude.{flat_map}
-use Rattle.explanations.specs.Picture.{entry_note}
+use Rattle.explanations.specs.Notes.{entry_note}
 use Rattle.explanations.proofs.notes.push_entry_notes.Given as goal
 
 abbrev pub invariant-loop-entry : goal.invariant-loop-entry

@@ -1,7 +1,7 @@
 use Rattle.std.proofs.Common.{◌≡◌, ◌++◌, drop}
 use Rattle.std.specs.Prelude.{flat_map}
 use Rattle.explanations.specs.Private.Drawing.{scores_by}
-use Rattle.explanations.specs.Picture.{score_note}
+use Rattle.explanations.specs.Notes.{score_note}
 use Rattle.explanations.proofs.notes.push_score_notes.Given as goal
 
 abbrev pub invariant-loop-winner : goal.invariant-loop-winner

@@ -5,25 +5,20 @@ use Rattle.explanations.specs.Drawings.{drawn}
 use Rattle.explanations.proofs.Explaining.{rows_within, framed_is, draws_word}
 use Rattle.explanations.proofs.texts.drawing_of.Goals as goal
 
-pub drawing_by-requires-clause-framed : goal.drawing_by-requires-clause-framed
-drawing_by-requires-clause-framed g c =
+pub known_drawing-requires : goal.known_drawing-requires
+known_drawing-requires g c =
     let f = c.in_ok-facts.ensures in
-    framed_is g.C.Payload.change_of g.B.Break.meaning c.args.dictionary.now c.args.word.now.text.now c.in_ok-facts.facts
-    (record { decision = f.decision; soft = f.soft_hyphens; folded = f.folded; framed = f.framed; bounds = f.bounds; listed = f.listed; rows = f.rows; winners = f.winners })
-
-pub drawing_by-requires-clause-within : goal.drawing_by-requires-clause-within
-drawing_by-requires-clause-within g c =
-    let f = c.in_ok-facts.ensures in
-    rows_within g.C.Payload.change_of g.B.Break.meaning c.args.dictionary.now c.args.word.now.text.now c.in_ok-facts.facts
-    (record { decision = f.decision; soft = f.soft_hyphens; folded = f.folded; framed = f.framed; bounds = f.bounds; listed = f.listed; rows = f.rows; winners = f.winners })
-
-pub drawing_by-requires-clause-hyphenated : goal.drawing_by-requires-clause-hyphenated
-drawing_by-requires-clause-hyphenated g c =
-    c.deref-2.ensures ∙ c.in_ok-hyphenated.ensures ∙ ap (λ bs. marked_word (codes "-") c.args.word.now.text.now (map g.O.Break.meaning bs)) (sym c.deref.ensures.value)
+    record {
+      framed = framed_is g.C.Payload.change_of g.B.Break.meaning c.args.dictionary.now c.args.word.now.text.now c.in_ok-facts.facts
+          (record { decision = f.decision; soft = f.soft_hyphens; folded = f.folded; framed = f.framed; bounds = f.bounds; listed = f.listed; rows = f.rows; winners = f.winners });
+      within = rows_within g.C.Payload.change_of g.B.Break.meaning c.args.dictionary.now c.args.word.now.text.now c.in_ok-facts.facts
+          (record { decision = f.decision; soft = f.soft_hyphens; folded = f.folded; framed = f.framed; bounds = f.bounds; listed = f.listed; rows = f.rows; winners = f.winners });
+      hyphenated = c.deref-2.ensures ∙ c.in_ok-hyphenated.ensures ∙ ap (λ bs. marked_word (codes "-") c.args.word.now.text.now (map g.O.Break.meaning bs)) (sym c.deref.ensures.value);
+    }
 
 pub returns : goal.returns
 returns g c =
     let f = c.in_ok-facts.ensures in
     draws_word g.C.Payload.change_of g.B.Break.meaning c.args.dictionary.now c.args.word.now.text.now c.in_ok-facts.facts
     (record { decision = f.decision; soft = f.soft_hyphens; folded = f.folded; framed = f.framed; bounds = f.bounds; listed = f.listed; rows = f.rows; winners = f.winners })
-    drawn c.minima-minima.result (map g.O.Break.meaning c.args.word.now.breaks.items) (map g.O.Break.meaning c.deref.result.now) c.drawing_by.result c.minima-minima.ensures (ap (map g.O.Break.meaning) c.deref.ensures.value) c.drawing_by.ensures
+    drawn c.minima-minima.result (map g.O.Break.meaning c.args.word.now.breaks.items) (map g.O.Break.meaning c.deref.result.now) c.known_drawing.result c.minima-minima.ensures (ap (map g.O.Break.meaning) c.deref.ensures.value) c.known_drawing.ensures

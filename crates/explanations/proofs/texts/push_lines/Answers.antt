@@ -11,7 +11,7 @@ use Rattle.explanations.proofs.texts.push_lines.Goals as goal
 
 pub returns : goal.returns
 returns g c =
-    let e = c.args.facts.now in
+    let e = c.args.known.now.facts.now in
     let change_of = g.C.Payload.change_of in
     let framed : List ℕ = frame (string_bytes e.folded) in
     let t0 : List ℕ = c.args.text.now.items in
@@ -26,17 +26,17 @@ returns g c =
     let t9 : List ℕ = c.push_text_line-3.new.text.items in
     let t10 : List ℕ = c.push_breaks_line.new.text.items in
     let t11 : List ℕ = c.push_text_line-4.new.text.items in
-    let p1 : List ℕ = text_line (codes "word") c.args.word.now in
+    let p1 : List ℕ = text_line (codes "word") c.args.known.now.word.now in
     let p2 : List ℕ = text_line (codes "folded") (string_bytes e.folded) in
     let p3 : List ℕ = flat_map (pattern_line change_of framed) (map row_of e.rows.items) in
     let p4 : List ℕ = named_line (codes "score") (score_fields 1 (scores_by change_of e.winners.items)) in
-    let p5 : List ℕ = named_line (codes "minima") (bound_fields (Some c.args.minima)) in
+    let p5 : List ℕ = named_line (codes "minima") (bound_fields (Some c.args.known.now.minima)) in
     let p6 : List ℕ = named_line (codes "bounds") (bound_fields e.bounds) in
     let p7 : List ℕ = named_line (codes "soft-hyphens") (flat_map number_field e.soft_hyphens.items) in
     let p8 : List ℕ = exception_line (option_map (map g.B.Break.meaning) (option_copied e.listed)) in
     let p9 : List ℕ = text_line (codes "decided-by") (decision_name e.decision) in
-    let p10 : List ℕ = named_line (codes "breaks") (flat_map place_field (map g.O.Break.meaning c.args.breaks.now)) in
-    let p11 : List ℕ = text_line (codes "hyphenated") c.args.hyphenated.now in
+    let p10 : List ℕ = named_line (codes "breaks") (flat_map place_field (map g.O.Break.meaning c.args.known.now.breaks.now)) in
+    let p11 : List ℕ = text_line (codes "hyphenated") c.args.known.now.hyphenated.now in
     let h1 : t1 ≡ t0 ++ p1 = c.in_ok-push_text_line.ensures ∙ ap (λ (f : List ℕ). t0 ++ text_line (codes "word") f) c.as_bytes.ensures.value in
     let h2 : t2 ≡ t1 ++ p2 = c.in_ok-push_text_line-2.ensures ∙ ap (λ (f : List ℕ). t1 ++ text_line (codes "folded") f) c.as_bytes-2.ensures.value in
     let h3 : t3 ≡ t2 ++ p3 = c.in_ok-push_patterns.ensures ∙ ap (λ (f : List ℕ). t2 ++ flat_map (pattern_line change_of f) (map row_of c.deref.result.now)) (c.as_bytes-3.ensures.value ∙ c.requires.framed)

@@ -4,21 +4,16 @@ use Rattle.hyphenation_segments.specs.Segments.{marked_word}
 use Rattle.explanations.proofs.Explaining.{rows_within, framed_is, explains_word}
 use Rattle.explanations.proofs.texts.text_of.Goals as goal
 
-pub styled-requires-clause-framed : goal.styled-requires-clause-framed
-styled-requires-clause-framed g c =
+pub styled-requires : goal.styled-requires
+styled-requires g c =
     let f = c.in_ok-facts.ensures in
-    framed_is g.C.Payload.change_of g.B.Break.meaning c.args.dictionary.now c.args.word.now.text.now c.in_ok-facts.facts
-    (record { decision = f.decision; soft = f.soft_hyphens; folded = f.folded; framed = f.framed; bounds = f.bounds; listed = f.listed; rows = f.rows; winners = f.winners })
-
-pub styled-requires-clause-within : goal.styled-requires-clause-within
-styled-requires-clause-within g c =
-    let f = c.in_ok-facts.ensures in
-    rows_within g.C.Payload.change_of g.B.Break.meaning c.args.dictionary.now c.args.word.now.text.now c.in_ok-facts.facts
-    (record { decision = f.decision; soft = f.soft_hyphens; folded = f.folded; framed = f.framed; bounds = f.bounds; listed = f.listed; rows = f.rows; winners = f.winners })
-
-pub styled-requires-clause-hyphenated : goal.styled-requires-clause-hyphenated
-styled-requires-clause-hyphenated g c =
-    c.deref-2.ensures ∙ c.in_ok-hyphenated.ensures ∙ ap (λ bs. marked_word (codes "-") c.args.word.now.text.now (map g.O.Break.meaning bs)) (sym c.deref.ensures.value)
+    record {
+      framed = framed_is g.C.Payload.change_of g.B.Break.meaning c.args.dictionary.now c.args.word.now.text.now c.in_ok-facts.facts
+          (record { decision = f.decision; soft = f.soft_hyphens; folded = f.folded; framed = f.framed; bounds = f.bounds; listed = f.listed; rows = f.rows; winners = f.winners });
+      within = rows_within g.C.Payload.change_of g.B.Break.meaning c.args.dictionary.now c.args.word.now.text.now c.in_ok-facts.facts
+          (record { decision = f.decision; soft = f.soft_hyphens; folded = f.folded; framed = f.framed; bounds = f.bounds; listed = f.listed; rows = f.rows; winners = f.winners });
+      hyphenated = c.deref-2.ensures ∙ c.in_ok-hyphenated.ensures ∙ ap (λ bs. marked_word (codes "-") c.args.word.now.text.now (map g.O.Break.meaning bs)) (sym c.deref.ensures.value);
+    }
 
 pub returns : goal.returns
 returns g c =

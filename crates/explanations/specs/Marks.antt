@@ -1,0 +1,45 @@
+-- The values of a picture: what is at each place of a row.
+use Rattle.std.specs.Prelude.{ℕ, ◌+◌, ◌-◌, ◌==◌, false, if◌then◌else◌, List, length, find, map, replicate, Option, Some, None, option_map, slice_get}
+use Rattle.std.specs.List.{range_with_len}
+use Rattle.hyphenation_breaks.specs.Break.{is_boundary}
+use Rattle.hyphenation_breaks.specs.declared.entry.Entry.{Entry}
+use Rattle.hyphenation_score.specs.Scoring.{Scored}
+use Rattle.explanations.specs.Rows.{PatternRow}
+use Rattle.explanations.specs.declared.marks.Mark.{Mark}
+
+-- The value that entries have at a place.
+abbrev pub entry_value : {C : Type 0} → List (Entry C) → ℕ → Option ℕ
+entry_value entries place = option_map (λ entry. entry.value) (find (λ entry. entry.place == place) entries)
+
+-- The value of a word's place between two characters, by the scores of the places from place 1 on.
+abbrev pub score_value : List ℕ → List Scored → ℕ → Option ℕ
+score_value word scores place =
+    if is_boundary word place
+    then (if place == 0 then None else option_map (λ score. score.value) (slice_get scores (place - 1)))
+    else None
+
+-- A value of a score.
+abbrev pub score_mark : ℕ → Mark
+score_mark value = record { value = value; wins = false }
+
+-- A value of a pattern: it is marked where it is the greatest of its place of the word.
+abbrev pub pattern_mark : Option ℕ → ℕ → Mark
+pattern_mark None value = record { value = value; wins = false }
+pattern_mark (Some greatest) value = record { value = value; wins = greatest == value }
+
+-- The values of a frame: none before each byte and at the end.
+abbrev pub no_marks : List ℕ → List (Option Mark)
+no_marks framed = replicate (length framed + 1) None
+
+-- The value of a row at one of its places.
+abbrev pub mark_of : {C : Type 0} → List ℕ → List Scored → PatternRow C → ℕ → Option Mark
+mark_of folded scores row place =
+    option_map (pattern_mark (score_value folded scores (row.start + place - 1))) (entry_value row.entries place)
+
+-- The values of a row, at each of its places.
+abbrev pub row_marks : {C : Type 0} → List ℕ → List Scored → PatternRow C → List (Option Mark)
+row_marks folded scores row = map (mark_of folded scores row) (range_with_len 0 (row.bytes + 1))
+
+-- The greatest value of each place.
+abbrev pub score_marks : List ℕ → List Scored → List (Option Mark)
+score_marks folded scores = map (λ place. option_map score_mark (score_value folded scores place)) (range_with_len 0 (length folded + 1))

@@ -1,0 +1,127 @@
+-- The rows of a picture: texts, each at its column. The picture for people and the drawing have these rows.
+use Rattle.std.specs.Prelude.{ℕ, ◌+◌, ◌-◌, ◌==◌, nat_lt, nat_le, ◌&&◌, ◌||◌, not, Bool, if◌then◌else◌, false, List, [], ◌∷◌, ◌++◌, length, chars, Option, Some, None, decimal, drop, slice_index, slice_get, slice_range, unwrap_or}
+use Rattle.unicode_width.specs.Width.{str_width}
+use Rattle.hyphenation_breaks.specs.Break.{Change}
+use Rattle.hyphenation_score.specs.Scoring.{Scored, frame}
+use Rattle.explanations.specs.Columns.{Columns, value_columns, letter_column, line_begin, note_column}
+use Rattle.explanations.specs.Marks.{no_marks, row_marks, score_marks}
+use Rattle.explanations.specs.Notes.{row_note, scores_note, decision_text}
+use Rattle.explanations.specs.Rows.{PatternRow}
+use Rattle.explanations.specs.declared.facts.Decision.{Decision}
+use Rattle.explanations.specs.declared.marks.Mark.{Mark}
+use Rattle.explanations.specs.declared.placed.Class.{Class}
+use Rattle.explanations.specs.declared.placed.Class.TheVariants.{Letter, Value, Word, Note}
+
+-- A text in its row: what it is, the column at which it begins, its number of columns, and its bytes.
+pub record Placed : Type 0 where
+  pub class : Class
+  pub column : ℕ
+  pub columns : ℕ
+  pub bytes : List ℕ
+
+-- A row: the column at which its line begins in the picture for people, and its texts in their order.
+pub record PlacedRow : Type 0 where
+  pub begin : ℕ
+  pub texts : List Placed
+
+-- A value, at the end of the columns for the value at its place.
+abbrev pub value_text : Columns → ℕ → Mark → Placed
+value_text columns place mark = record {
+  class = Value mark;
+  column = letter_column columns place - value_columns mark.value;
+  columns = value_columns mark.value;
+  bytes = decimal mark.value;
+}
+
+-- A letter of these bytes, at its place.
+abbrev pub letter_text : Columns → ℕ → List ℕ → Placed
+letter_text columns place bytes = record {
+  class = Letter;
+  column = letter_column columns place;
+  columns = slice_index columns.begins (place + 1) - letter_column columns place;
+  bytes = bytes;
+}
+
+-- The value at a place, if it has one.
+abbrev pub value_texts : Columns → ℕ → Option Mark → List Placed
+value_texts columns place None = []
+value_texts columns place (Some mark) = value_text columns place mark ∷ []
+
+-- The value of a place.
+abbrev pub mark_at : List (Option Mark) → ℕ → Option Mark
+mark_at marks place = unwrap_or (slice_get marks place) None
+
+-- A character begins with this byte.
+abbrev pub begins_char : ℕ → Bool
+begins_char byte = nat_lt byte 128 || nat_le 192 byte
+
+-- The character at a place of the frame joins the one before it: it has no columns, and no value is before it.
+abbrev pub joins_letter : Columns → ℕ → Option Mark → Bool
+joins_letter columns place None = slice_index columns.begins (place + 1) == letter_column columns place
+joins_letter columns place (Some mark) = false
+
+-- A letter begins at a place of a text with this byte and value. The first character of a text joins none.
+abbrev pub begins_letter : Columns → ℕ → ℕ → ℕ → Option Mark → Bool
+begins_letter columns start place byte mark =
+    begins_char byte && not (nat_lt 0 place && joins_letter columns (start + place) mark)
+
+-- The bytes of the letter that begins at this first place, from a place on.
+abbrev pub letter_from : Columns → ℕ → List (Option Mark) → ℕ → ℕ → List ℕ → List ℕ
+letter_from columns start marks first place [] = []
+letter_from columns start marks first place (byte ∷ bytes) =
+    if nat_lt first place && begins_letter columns start place byte (mark_at marks place) then []
+    else byte ∷ letter_from columns start marks first (place + 1) bytes
+
+-- The letter that begins at a place, if one does.
+abbrev pub letter_texts : Columns → ℕ → List ℕ → List (Option Mark) → ℕ → Option Mark → List Placed
+letter_texts columns start letters marks place mark =
+    if nat_lt place (length letters) && begins_letter columns start place (slice_index letters place) mark
+    then letter_text columns (start + place) (letter_from columns start marks place place (drop place letters)) ∷ []
+    else []
+
+-- The texts of letters that start at this place of the frame, from one of their own places on, with the values of these.
+abbrev pub texts_from : Columns → ℕ → List ℕ → List (Option Mark) → ℕ → List (Option Mark) → List Placed
+texts_from columns start letters marks place [] = []
+texts_from columns start letters marks place (mark ∷ rest) =
+    value_texts columns (start + place) mark ++ letter_texts columns start letters marks place mark
+    ++ texts_from columns start letters marks (place + 1) rest
+
+-- A row of letters that start at this place of the frame, with values, and a note at this column.
+abbrev pub letters_row : Columns → ℕ → List ℕ → List (Option Mark) → List Placed → PlacedRow
+letters_row columns start letters marks notes = record {
+  begin = line_begin columns start;
+  texts = texts_from columns start letters marks 0 marks ++ notes;
+}
+
+-- A note at a column; nothing if it is empty.
+abbrev pub note_texts : ℕ → List ℕ → List Placed
+note_texts column note =
+    if nat_lt 0 (length note) then record { class = Note; column = column; columns = 0; bytes = note } ∷ [] else []
+
+-- The row of the frame, without values.
+abbrev pub frame_row : Columns → List ℕ → PlacedRow
+frame_row columns framed = letters_row columns 0 framed (no_marks framed) []
+
+-- The row of a pattern: its text with its values, below the frame, and then their changes.
+abbrev pub pattern_row : {C : Type 0} → (C → Option Change) → Columns → List ℕ → List Scored → PatternRow C → PlacedRow
+pattern_row change_of columns folded scores row =
+    letters_row columns row.start (slice_range (frame folded) row.start (row.start + row.bytes)) (row_marks folded scores row)
+    (note_texts (letter_column columns (row.start + row.bytes)) (row_note change_of row))
+
+-- The row of the scores: the word with the greatest value of each place, and the changes of these.
+abbrev pub scores_row : Columns → List ℕ → List Scored → PlacedRow
+scores_row columns folded scores = letters_row columns 1 folded (score_marks folded scores)
+    (note_texts (note_column columns 0) (scores_note scores))
+
+-- A word with its breaks, below the first letter of the word.
+abbrev pub word_text : Columns → List ℕ → Placed
+word_text columns hyphenated =
+    record { class = Word; column = letter_column columns 1; columns = str_width false (chars hyphenated); bytes = hyphenated }
+
+-- The row of a word with its breaks, and the fact that decides.
+abbrev pub breaks_row : Columns → List ℕ → Decision → ℕ × ℕ → PlacedRow
+breaks_row columns hyphenated decision minima = record {
+  begin = line_begin columns 1;
+  texts = word_text columns hyphenated
+      ∷ note_texts (note_column columns (str_width false (chars hyphenated))) (decision_text decision minima);
+}
