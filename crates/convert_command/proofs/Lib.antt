@@ -3,6 +3,8 @@ pub mod Names
 pub mod Writing
 pub mod Reading
 pub mod Made
+pub mod Noting
 pub mod Endings
 pub mod Failing
 pub mod Telling
+pub mod Done

@@ -1,6 +1,6 @@
 -- The dictionary that the bytes of a .dic make.
-use Rattle.std.proofs.Common.{◌≡◌, ◌∙◌, ℕ, List, [], ap, sym, subst, true}
-use Rattle.std.specs.Prelude.{Bool, Option, slice_index_or}
+use Rattle.std.proofs.Common.{◌≡◌, ◌∙◌, ℕ, List, [], ap, sym, subst}
+use Rattle.std.specs.Prelude.{Option, slice_index_or}
 use Rattle.hyphenation_breaks.specs.Break.{Break, Change}
 use Rattle.hyphenation_breaks.specs.Dictionary.{Contents}
 use Rattle.libreoffice_files.specs.LibreOffice.{contents_of_dic}

@@ -1,5 +1,5 @@
 -- How the program `hyphenate-convert` ends, with its messages.
-use Rattle.std.specs.Prelude.{◌≡◌, ◌≢◌, ◌⊎◌, ℕ, Bool, List, ◌∷◌, map, None, Err, ⊤}
+use Rattle.std.specs.Prelude.{◌≡◌, ◌≢◌, ◌⊎◌, ℕ, Bool, List, ◌∷◌, None, Err, ⊤}
 use Rattle.std.specs.Borrow.{Bor}
 use Rattle.std.specs.IoError.{error_kind}
 use Rattle.std.specs.declared.io.ErrorKind.TheVariants.{OutOfMemory}
@@ -11,7 +11,7 @@ use Rattle.convert_command.specs.Arguments.{ParsedArgs, ParsesAs, asked_text, is
 use Rattle.convert_command.specs.Failures.{IsFailureOfBytes, IsOutside}
 use Rattle.convert_command.specs.Messages.{TellsFailure, notes_text, rejection_message}
 use Rattle.convert_command.specs.Rejections.{input_of}
-use Rattle.convert_command.specs.Written.{AreBytesAt}
+use Rattle.convert_command.specs.Written.{AreBytesAt, AreNotesOf}
 use Rattle.convert_command.specs.declared.Failure.{Failure}
 use Rattle.convert_command.specs.declared.Failure.TheVariants.{Reading, Refused, Minima, Writing, Memory}
 use Rattle.convert_command.specs.declared.request.BadArgs.{BadArgs}
@@ -39,15 +39,21 @@ IsFailureFor parsed is_dic bytes_of failure = IsOutside failure
     ⊎ ((all : List (List ℕ)) × AreBytesAt bytes_of parsed.paths all
     × IsFailureOfBytes is_dic parsed.left parsed.right parsed.paths all failure)
 
+-- The notes are those on the files of parsed arguments, by the bytes of these files.
+abbrev pub AreNotesFor : ParsedArgs → Bool → KnownFiles → List Note → Type 0
+AreNotesFor parsed is_dic bytes_of notes = (all : List (List ℕ)) × AreBytesAt bytes_of parsed.paths all
+    × AreNotesOf is_dic parsed.paths all notes
+
 -- The program rejects its arguments, with status 2, and tells exactly why.
 abbrev pub EndsRejected : List (Bor (List ℕ)) → ℕ → (List ℕ → Type 0) → Type 0
 EndsRejected args status Told = (bad : BadArgs) × IsRejection args bad × (status ≡ 2)
     × Told (rejection_message (texts_now args) bad)
 
--- The program is done, with status 0, and tells exactly some remarks on its files, each in its line.
-abbrev pub EndsDone : List (Bor (List ℕ)) → ℕ → (List ℕ → Type 0) → Type 0
-EndsDone args status Told = (parsed : ParsedArgs) × ParsesAs args parsed × (status ≡ 0)
-    × ((notes : List Note) × Told (notes_text parsed.paths notes))
+-- The program is done, with status 0, and tells exactly the notes on its files, each in its line.
+abbrev pub EndsDone : List (Bor (List ℕ)) → KnownFiles → ℕ → (List ℕ → Type 0) → Type 0
+EndsDone args bytes_of status Told = (parsed : ParsedArgs) × ParsesAs args parsed × (status ≡ 0)
+    × ((notes : List Note) × AreNotesFor parsed (is_dic_alone parsed.paths) bytes_of notes
+    × Told (notes_text parsed.paths notes))
 
 -- The program fails, with the status of the failure, and tells exactly which it is.
 abbrev pub EndsFailed : List (Bor (List ℕ)) → KnownFiles → ℕ → (List ℕ → Type 0) → Type 0
@@ -58,4 +64,4 @@ EndsFailed args bytes_of status Told = (parsed : ParsedArgs) × ParsesAs args pa
 -- If no help was asked for, the program ends so for its arguments.
 abbrev pub EndsUnlessAsked : List (Bor (List ℕ)) → KnownFiles → ℕ → (List ℕ → Type 0) → Type 0
 EndsUnlessAsked args bytes_of status Told = asked_text args ≡ None
-    → EndsRejected args status Told ⊎ EndsDone args status Told ⊎ EndsFailed args bytes_of status Told
+    → EndsRejected args status Told ⊎ EndsDone args bytes_of status Told ⊎ EndsFailed args bytes_of status Told

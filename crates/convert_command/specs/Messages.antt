@@ -22,17 +22,17 @@ said_of path words = codes "hyphenate-convert: " ++ (path ++ words)
 abbrev pub said_at : List ℕ → ℕ → List ℕ → List ℕ
 said_at path line words = said_of path (codes ":" ++ (decimal line ++ words))
 
--- The line that says a remark: the file and the line that it is first made on, its words, and how often it is made.
+-- The line that says a note: the file and the line that it is first made on, its words, and how often it is made.
 abbrev pub note_line : List (List ℕ) → Note → List ℕ
 note_line paths note = said_at (path_at paths note.first.file) note.first.line
     (codes ": note: " ++ (note_message note.kind ++ (codes " (" ++ (decimal note.times ++ codes ")\n"))))
 
--- All remarks, each in its line.
+-- All notes, each in its line, in their order.
 abbrev pub notes_text : List (List ℕ) → List Note → List ℕ
 notes_text paths notes = flat_map (note_line paths) notes
 
--- Exactly the message for why files gave no dictionary that was written is told. No clause has the words of the system for a
--- file that can't be opened or read; where memory was refused for that, this is told.
+-- The message says exactly why files gave no dictionary that was written. No clause has the words of the system for a file
+-- that can't be opened or read. If memory was refused for that, the message says so.
 abbrev pub TellsFailure : List (List ℕ) → Failure → (List ℕ → Type 0) → Type 0
 TellsFailure paths (Reading index e) Told = error_kind e ≡ OutOfMemory → Told NO_MEMORY.now
 TellsFailure paths (Refused (Fault file line cause)) Told =

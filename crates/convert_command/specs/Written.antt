@@ -1,5 +1,5 @@
 -- The output and the statuses of the program `hyphenate-convert`.
-use Rattle.std.specs.Prelude.{◌≡◌, ◌≢◌, ◌⊎◌, ℕ, Bool, true, false, List, [], Option, Some, None, IfSome, map, slice_index_or}
+use Rattle.std.specs.Prelude.{◌≡◌, ◌≢◌, ◌⊎◌, ℕ, Bool, true, false, List, [], Option, Some, None, IfSome, map, slice_index_or, ⊤}
 use Rattle.std.specs.Borrow.{Bor}
 use Rattle.std.specs.Io.KnownBytes.{Appends}
 use Rattle.std.specs.List.{AllZip}
@@ -11,7 +11,10 @@ use Rattle.hyphenation_grammar.specs.declared.form.Kind.{Kind}
 use Rattle.hyphenation_grammar.specs.declared.form.Kind.TheVariants.{Standard, Extended}
 use Rattle.hyphenation_writer.specs.Canonical.{standard_text, extended_text}
 use Rattle.libreoffice_files.specs.LibreOffice.{contents_of_dic}
+use Rattle.pattern_results.specs.declared.notes.Note.{Note}
 use Rattle.tex_files.specs.Converting.{contents_of_files}
+use Rattle.tex_files.specs.Heads.{minima_for}
+use Rattle.tex_files.specs.Notes.{notes_of_files}
 use Rattle.tex_files.specs.declared.group.File.{File}
 use Rattle.convert_command.specs.Arguments.{ParsedArgs, ParsesAs, is_dic_alone, known_form}
 
@@ -35,14 +38,21 @@ pub record AreFilesAt (paths all : List (List ℕ)) (files : List File) : Type 0
   pub forms : map (λ file. file.form) files ≡ map known_form paths
 
 -- A dictionary is that of files with these paths and bytes. It is of a .dic, which is the only file, or of files of TeX and
--- plain ones, in their order. Minima that are not given are the files' own.
+-- plain ones, in their order. A minimum that is not given is the one of the .dic, or of the first file whose head has it.
 abbrev pub IsMadeOf : {C B : Type 0} → (C → Option Change) → (Option Change → C) → (Break → B) → Bool → List ℕ
     → Option ℕ → Option ℕ → List (List ℕ) → List (List ℕ) → Contents C B → Type 0
 IsMadeOf change_of payload_of listing_of true code left right paths all dictionary =
     dictionary ≡ contents_of_dic change_of payload_of code left right (slice_index_or all 0 [])
 IsMadeOf change_of payload_of listing_of false code left right paths all dictionary =
     (files : List File) × (least_left : ℕ) × (least_right : ℕ) × AreFilesAt paths all files
+    × (minima_for left right files ≡ Some (least_left, least_right))
     × (dictionary ≡ contents_of_files payload_of listing_of code least_left least_right files)
+
+-- The notes are exactly those on files of TeX and plain ones with these paths and bytes, in their order. The notes on a .dic are
+-- some: no clause of its reader says which.
+abbrev pub AreNotesOf : Bool → List (List ℕ) → List (List ℕ) → List Note → Type 0
+AreNotesOf true paths all notes = ⊤
+AreNotesOf false paths all notes = (files : List File) × AreFilesAt paths all files × (notes ≡ notes_of_files files)
 
 -- The canonical text of the dictionary of that kind, language and minima, which files with these paths and bytes make, was
 -- appended.

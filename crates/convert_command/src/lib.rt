@@ -11,10 +11,10 @@ ghost use Rattle.hyphenation_load.specs.Load.{AppendsTo};
 ghost use Rattle.convert_command.specs.Arguments.{asked_text, known_form, path_at};
 ghost use Rattle.convert_command.specs.Written.{IsFor, AreBytesOf, AreBytesAt, AreFilesAt, WritesParsed, WritesFor, IsExitStatus};
 ghost use Rattle.convert_command.specs.Private.Failures.{IsReadingOf, IsFailureOf, failure_of_writing};
-ghost use Rattle.convert_command.specs.Private.Requests.{parsed_request, is_dic, IsMadeFor};
+ghost use Rattle.convert_command.specs.Private.Requests.{parsed_request, is_dic, AreNotesOn, IsMadeFor};
 ghost use Rattle.convert_command.specs.Private.Statuses.{MissesMinima};
 ghost use Rattle.convert_command.specs.Failures.{IsOutside};
-ghost use Rattle.convert_command.specs.Endings.{IsFailureFor, IsStatusOf, EndsUnlessAsked};
+ghost use Rattle.convert_command.specs.Endings.{AreNotesFor, IsFailureFor, IsStatusOf, EndsUnlessAsked};
 ghost use Rattle.convert_command.specs.Messages.{TellsFailure, note_line, notes_text, files_in, rejection_message, rejection_of};
 ghost use Rattle.hyphenation_breaks.specs.Borrowed.{texts_now};
 ghost use Rattle.std.specs.IoError.{error_kind};
@@ -175,6 +175,7 @@ fn convert_tex<C: Payload, B: Listing>(
         IsFor request.now.language request.now.left request.now.right found.dictionary) }
     ensures of_files { IfOk result (λ found. IsMadeFor C.change_of C.payload_of B.listing_of false request.now bytes.now
         found.dictionary) }
+    ensures notes { IfOk result (λ found. AreNotesOn false request.now bytes.now found.notes.items) }
     ensures misses_minima { IfErr result (MissesMinima request.now.left request.now.right) }
     ensures failure { IfErr result (IsFailureOf false request.now bytes.now) }
 {
@@ -200,7 +201,7 @@ fn first_of(bytes: &[Vec<u8>]) -> &[u8]
 }
 
 // The dictionary of the files.
-#[tactic(auto, using(crate::proofs::Minima::dic_is_for, crate::proofs::Made::dic_is_made))]
+#[tactic(auto, using(crate::proofs::Minima::dic_is_for, crate::proofs::Made::dic_is_made, crate::proofs::Noting::dic_is_noted))]
 fn convert_files<C: Payload, B: Listing>(
     alloc: Global,
     request: &Request<'_>,
@@ -211,6 +212,8 @@ fn convert_files<C: Payload, B: Listing>(
         IsFor request.now.language request.now.left request.now.right found.dictionary) }
     ensures of_files { IfOk result (λ found. IsMadeFor C.change_of C.payload_of B.listing_of (is_dic request.now.input)
         request.now bytes.now found.dictionary) }
+    ensures notes { IfOk result (λ found.
+        AreNotesOn (is_dic request.now.input) request.now bytes.now found.notes.items) }
     ensures misses_minima { IfErr result (MissesMinima request.now.left request.now.right) }
     ensures failure { IfErr result (IsFailureOf (is_dic request.now.input) request.now bytes.now) }
 {
@@ -257,8 +260,8 @@ fn write_text<D: Load, O: Write>(
     }
 }
 
-// Reads the files, makes a dictionary of them and writes it. Returns the notes on it.
-#[tactic(auto, using(crate::proofs::Writing::standard_written, crate::proofs::Writing::extended_written, crate::proofs::Reading::as_many, crate::proofs::Failing::outside_fails, crate::proofs::Failing::bytes_fail))]
+// Reads the files, makes a dictionary of them and writes it. Returns the notes on the files.
+#[tactic(auto, using(crate::proofs::Writing::standard_written, crate::proofs::Writing::extended_written, crate::proofs::Reading::as_many, crate::proofs::Failing::outside_fails, crate::proofs::Failing::bytes_fail, crate::proofs::Noting::noted_for))]
 fn run<F: NamedFiles, O: Write>(
     files: &F,
     alloc: Global,
@@ -267,6 +270,8 @@ fn run<F: NamedFiles, O: Write>(
 ) -> Result<Vec<Note>, Failure>
     ensures written { OnOk result (WritesParsed (parsed_request request.now) (is_dic request.now.input)
         (F.bytes files.now) O.contents output.old output.new) }
+    ensures notes { IfOk result (λ notes.
+        AreNotesFor (parsed_request request.now) (is_dic request.now.input) (F.bytes files.now) notes.items) }
     ensures untouched { IfErr result (λ failure. (failure ≡ Failure.Writing) ⊎ (output.new ≡ output.old)) }
     ensures misses_minima { IfErr result (MissesMinima request.now.left request.now.right) }
     ensures failure { IfErr result
@@ -303,7 +308,7 @@ fn path_at<'p>(paths: &[&'p str], index: usize) -> &'p str
     }
 }
 
-// Writes a remark, in a line.
+// Writes a note, in a line.
 fn report_note<E: Write>(alloc: Global, paths: &[&str], note: &Note, errors: &mut Messages<E>)
     ensures { TellsMore E.contents errors.old errors.new (note_line (texts_now paths.now) note.now) }
 {
@@ -317,7 +322,7 @@ fn report_note<E: Write>(alloc: Global, paths: &[&str], note: &Note, errors: &mu
     );
 }
 
-// Writes all remarks.
+// Writes all notes.
 fn report_notes<E: Write>(alloc: Global, paths: &[&str], notes: &[Note], errors: &mut Messages<E>)
     ensures { Tells E.contents errors.old errors.new (notes_text (texts_now paths.now) notes.now) }
 {
@@ -485,12 +490,12 @@ fn report_rejected_args<E: Write>(
 /// | 6 | memory was refused |
 ///
 /// With any status but 0 exactly its message is written to `errors`, except if the text of `--help` or `--version` can't
-/// be written. With status 0 `errors` gets notes on what was left out or decided. The output is as it was unless the
-/// status is 0 or 5.
+/// be written. With status 0 `errors` gets exactly the notes on the files: what was left out or decided. The output is as
+/// it was unless the status is 0 or 5.
 ///
 /// ```text
 /// let args = ["standard", "en-us", "2", "3", "hyph-en-us.tex"];
-/// answer(&rt, rt.alloc(), &args, &mut rt.stdout(), &mut errors)
+/// answer(&rt, rt.alloc(), &args, &mut rt.stdout(), &mut errors)    // 0
 /// ```
 pub fn answer<F: NamedFiles, O: Write, E: Write>(
     files: &F,

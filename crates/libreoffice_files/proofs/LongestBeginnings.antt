@@ -1,4 +1,4 @@
--- Closed patterns give, by the longest beginnings alone, the values that all of them give.
+-- Closed patterns give, only by the longest beginnings, the values that all of them give.
 use Rattle.std.proofs.Common.{◌≡◌, ℕ, zero, suc, ◌+◌, ◌-◌, ◌<◌, ◌≤◌, ◌⊎◌, ◌==◌, max, nat_eq, nat_lt, nat_cmp, Bool, true, false, cond}
 use Rattle.std.proofs.Common.{List, [], ◌∷◌, length, take, drop, get_or, filter, map, fold, slice_range, Option, Some, None, is_some, IsSome, unwrap_or}
 use Rattle.std.proofs.Common.{refl, sym, ap, subst, ◌∙◌, inl, inr, arith}
@@ -224,7 +224,7 @@ owns_most {C} keys text start entries entry kept is among =
 
 -- ---- the longest beginning
 
--- where a pattern stands in a frame, the longest beginning that ends there starts no later
+-- where a pattern is in a frame, the longest beginning that ends there starts no later
 longest_there : {C : Type 0} (patterns : TextMap (List (Entry C))) (framed : List ℕ) (start end : ℕ) → start < end → end ≤ length framed
     → IsSome (entries_of patterns (slice_range framed start end))
     → (first : ℕ) × (first ≤ start) × IsLongestBeginning patterns framed first end

@@ -10,6 +10,7 @@ use Rattle.std.proofs.lemmas.Bool.Decides.{Decides-ltb}
 use Rattle.std.proofs.lemmas.List.{take_rest}
 use Rattle.std.proofs.lemmas.Str.{IsUtf8-from_is_utf8, is_utf8-from_IsUtf8}
 use Rattle.std.proofs.lemmas.Str.Parse.{IsNumeralModel, numerals_by_value, tells_all_ascii_digits}
+use Rattle.std.proofs.lemmas.Bool.{false_from_ne_true, and_left}
 use Rattle.libreoffice_files.specs.LibreOfficeLines.{split_at_byte, number_below}
 use Rattle.libreoffice_files.specs.LibreOffice.{first_and_rest}
 
@@ -68,12 +69,8 @@ parsed bits text (Err e) h =
 pub good_utf8 : (bytes : List ℕ) → IsUtf8 bytes → is_utf8 bytes ≡ true
 good_utf8 bytes h = is_utf8-from_IsUtf8 bytes h
 
-false_unless : (t : Bool) → (t ≡ true → ⊥) → t ≡ false
-false_unless true h = absurd (h refl)
-false_unless false h = refl
-
 pub bad_utf8 : (bytes : List ℕ) → ¬ (IsUtf8 bytes) → is_utf8 bytes ≡ false
-bad_utf8 bytes h = false_unless (is_utf8 bytes) (λ e. h (IsUtf8-from_is_utf8 bytes e))
+bad_utf8 bytes h = false_from_ne_true (is_utf8 bytes) (λ e. h (IsUtf8-from_is_utf8 bytes e))
 
 -- ---- Tests.
 
@@ -87,16 +84,12 @@ holds_on : (a b r : Bool) → a ≡ true → r ≡ b → r ≡ (a && b)
 holds_on true b r p q = q
 holds_on false b r p q = absurd cc
 
-fails_on : (a b : Bool) → a ≡ false → false ≡ (a && b)
-fails_on true b p = absurd cc
-fails_on false b p = refl
-
 -- a test of bytes that are a text, and of others
 pub of_text : (f : List ℕ → Bool) (bytes text : List ℕ) (r : Bool) → IsUtf8 bytes → text ≡ bytes → r ≡ f text → r ≡ (is_utf8 bytes && f bytes)
 of_text f bytes text r u e h = holds_on (is_utf8 bytes) (f bytes) r (good_utf8 bytes u) (h ∙ ap f e)
 
 pub of_no_text : (f : List ℕ → Bool) (bytes : List ℕ) → ¬ (IsUtf8 bytes) → false ≡ (is_utf8 bytes && f bytes)
-of_no_text f bytes h = fails_on (is_utf8 bytes) (f bytes) (bad_utf8 bytes h)
+of_no_text f bytes h = sym (and_left (is_utf8 bytes) (f bytes) (bad_utf8 bytes h))
 
 -- ---- Line 1.
 

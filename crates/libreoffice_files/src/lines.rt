@@ -37,7 +37,7 @@ pub(crate) struct Line<'a> {
     pub text: &'a str,
 }
 
-// Splits a text at the first such character, which is left out. None if the text has no such character.
+// Splits a text at the first of these characters, which is left out. None if the text has none.
 pub(crate) fn split_at_byte(text: &str, mark: char) -> Option<(&str, &str)>
     requires { mark < 128 }
     ensures { option_map (λ parts. (parts.0.now, parts.1.now)) result ≡ split_at_byte mark text.now }
@@ -224,7 +224,7 @@ pub(crate) fn minimum_of(given: Option<u8>, set: Option<u8>) -> u8
     given.or(set).unwrap_or(2)
 }
 
-// The fault of a line of such a kind, if it has one.
+// The fault of a line of this kind, if it has one.
 fn cause_of(kind: Kind, text: &str) -> Option<FileCause>
     ensures { result ≡ cause_of_kind kind text.now }
 {

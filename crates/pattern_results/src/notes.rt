@@ -128,8 +128,8 @@ fn counted_note(note: Note, kind: NoteKind, at: LineRef) -> Note
     }
 }
 
-/// Notes a remark on a line: a new kind of remark is appended, and one that is there already is counted once more, with
-/// the least line of its first file.
+/// Notes a remark on a line. A new kind of remark is appended. One that is there already is counted once more, with the
+/// least line of its first file.
 ///
 /// The only error is out of memory, and then the notes are unchanged.
 pub fn add_note(notes: &mut Vec<Note>, kind: NoteKind, at: LineRef) -> Result<(), AllocError>

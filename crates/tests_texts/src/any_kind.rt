@@ -187,8 +187,9 @@ fn an_edit_changes_the_exceptions_where_it_is_good(rt: HostRuntime) -> Result<()
 fn broken(alloc: Global, text: &[u8], word: &str) -> Result<String, Fail> {
     let mut dictionary = known(alloc, text)?;
     let all = dictionary.hyphenated(alloc, word, "=")?;
-    let plain = dictionary.with_plain_breaks(alloc, word)?;
-    Ok(format!(in alloc; "{all} {:?}", plain.breaks)?)
+    let mut plain = Vec::new(alloc);
+    dictionary.plain_places_into(alloc, word, &mut plain)?;
+    Ok(format!(in alloc; "{all} {:?}", plain)?)
 }
 
 #[test]
@@ -232,8 +233,8 @@ impl FromBreaks for NumberOfBreaks {
     }
 }
 
-// The minima of a text's dictionary, the places and the number of a word's breaks, the values of its places, and the word
-// with a mark at each break.
+// The minima of a text's dictionary, and the places and the number of a word's breaks. Then come the values of its places,
+// and the word with a mark at each break.
 fn found(alloc: Global, kind: Kind, text: &[u8], word: &str) -> Result<String, Fail> {
     let dictionary = AnyDictionary::read(alloc, kind, text)
         .ok()

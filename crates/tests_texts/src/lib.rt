@@ -1,5 +1,5 @@
-//! Tests of texts: dictionary texts that are accepted, refused, written and edited, readers and writers that fail, and
-//! files of patterns with the dictionary texts that they give. No clause says what they show.
+//! Tests of texts: dictionary texts that are accepted, refused, written and edited, and readers and writers that fail. Others
+//! are of files of patterns, with the dictionary texts that they give. No clause says what they show.
 #![tactic(auto)]
 
 #[cfg(test)]

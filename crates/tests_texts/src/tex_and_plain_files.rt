@@ -191,7 +191,7 @@ const HEAD: &[u8] =
     b"% hyphenmins:\n% typesetting:\n% left: 2\n% right: 3\n% generation:\n% left: 1\n% right: 1\n";
 
 // Each row: what heads show, a given left minimum, files, and the minima that count.
-const MINIMA: [(&str, Option<u8>, Files, Option<(u8, u8)>); 7] = [
+const MINIMA: [(&str, Option<u8>, Files, Option<(u8, u8)>); 8] = [
     (
         "the minima of typesetting count after those of generation",
         None,
@@ -221,6 +221,15 @@ const MINIMA: [(&str, Option<u8>, Files, Option<(u8, u8)>); 7] = [
         None,
         &[(TEX, HEAD)],
         Some((2, 3)),
+    ),
+    (
+        "a head without minima of typesetting has no minima",
+        None,
+        &[(
+            TEX,
+            b"% hyphenmins:\n% generation:\n% left: 1\n% right: 1\n",
+        )],
+        None,
     ),
     (
         "the first file with minima counts",

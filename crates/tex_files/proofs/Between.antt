@@ -1,5 +1,5 @@
 -- The pieces of a text are the words between its white space; whole groups.
-use Rattle.std.proofs.Common.{◌≡◌, ◌∙◌, ℕ, ◌+◌, ◌==◌, ◌||◌, Bool, true, false, not, cond, All, subst, if◌then◌else◌, List, [], ◌∷◌, ◌++◌, map, filter, fold, length, refl, sym, ap, append_assoc, arith}
+use Rattle.std.proofs.Common.{◌≡◌, ◌∙◌, ℕ, ◌+◌, ◌==◌, ◌||◌, Bool, true, false, not, cond, All, subst, if◌then◌else◌, List, [], ◌∷◌, ◌++◌, map, filter, fold, length, refl, sym, ap, append_assoc, arith, add-zero}
 use Rattle.std.specs.Prelude.{◌≢◌}
 use Rattle.std.proofs.lemmas.List.{append-nil}
 use Rattle.std.proofs.lemmas.List.Elements.{All-head, All-tail}
@@ -26,11 +26,8 @@ lines_from : (line k : ℕ) (text : List ℕ) → line_after (line + k) text ≡
 lines_from line k [] = refl
 lines_from line k (b ∷ bs) = ap (λ (l : ℕ). line_after l bs) (feeds_one (b == 10) line k) ∙ lines_from line (k + cond (b == 10) 1 0) bs
 
-none_yet : (line : ℕ) → line ≡ line + 0
-none_yet line = omega arith
-
 pub lines : (line : ℕ) (text : List ℕ) → line_after line text ≡ line + line_feeds text
-lines line text = ap (λ (l : ℕ). line_after l text) (none_yet line) ∙ lines_from line 0 text
+lines line text = ap (λ (l : ℕ). line_after l text) (sym (add-zero line)) ∙ lines_from line 0 text
 
 -- ---- Splits.
 

@@ -188,7 +188,7 @@ pieces-last_comment before comment free =
     ∙ ap (λ (r : Lexed). fold with_byte r comment) (begun (fold with_byte nothing_lexed before))
     ∙ fold-comment (fold with_byte nothing_lexed before) comment free)
 
--- a file is read by its pieces alone
+-- a file is read only by its pieces
 pub of_words : (form : Form) (text other : List ℕ) → pieces_of text ≡ pieces_of other → words_of form text ≡ words_of form other
 of_words Tex text other e = ap (λ (ps : List Piece). (groups ps).words) e
 of_words (Plain group) text other e = ap (λ (ps : List Piece). plain_words group ps) e

@@ -50,7 +50,7 @@ abbrev pub remark_if : Bool → NoteKind → LineRef → List Remark
 remark_if true kind at = record { kind = kind; at = at } ∷ []
 remark_if false kind at = []
 
--- The remarks on a word of a group: a pattern may lack values, and the letters of either may have come before in their
+-- The remarks on a word of a group: a pattern may be without values; the letters of either may have come before in their
 -- group.
 abbrev pub group_remarks : Group → Bool → LineRef → Bool → List Remark
 group_remarks Patterns without_values at repeated = remark_if without_values NoValue at ++ remark_if repeated Repeated at

@@ -5,7 +5,7 @@
 //!
 //! ```text
 //! \patterns{                   .fi2      2 after fi, where a word begins with it
-//! .fi2 r5kin 4k1i              r5kin     5 between r and k, wherever rkin stands in a word
+//! .fi2 r5kin 4k1i              r5kin     5 between r and k, wherever rkin is in a word
 //! }
 //! \hyphenation{as-so-ciate}    associate, with breaks at 2 and 4
 //! ```

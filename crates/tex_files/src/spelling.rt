@@ -41,7 +41,7 @@ fn has_caret(text: &[u8]) -> bool
     text.iter().any(|b| *b == b'^')
 }
 
-// Whether a byte is an ASCII symbol that is allowed in no word of such a group.
+// Whether a byte is an ASCII symbol that is allowed in no word of this group.
 fn is_bad_symbol(group: Group, b: u8) -> bool
     ensures { result ≡ is_bad_symbol group b }
 {
@@ -52,7 +52,7 @@ fn is_bad_symbol(group: Group, b: u8) -> bool
     }
 }
 
-// Whether a text has a symbol that is allowed in no word of such a group.
+// Whether a text has a symbol that is allowed in no word of this group.
 fn has_bad_symbol(group: Group, text: &[u8]) -> bool
     ensures { result ≡ list_any (is_bad_symbol group) text.now }
 {

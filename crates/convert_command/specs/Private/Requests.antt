@@ -3,8 +3,9 @@ use Rattle.std.specs.Prelude.{ℕ, Bool, true, false, List, map, Option}
 use Rattle.std.specs.declared.vec.Vec.{Vec}
 use Rattle.hyphenation_breaks.specs.Break.{Break, Change}
 use Rattle.hyphenation_breaks.specs.Dictionary.{Contents}
+use Rattle.pattern_results.specs.declared.notes.Note.{Note}
 use Rattle.convert_command.specs.Arguments.{ParsedArgs}
-use Rattle.convert_command.specs.Written.{IsMadeOf}
+use Rattle.convert_command.specs.Written.{AreNotesOf, IsMadeOf}
 use Rattle.convert_command.specs.declared.request.Input.{Input}
 use Rattle.convert_command.specs.declared.request.Input.TheVariants.{Dic, Tex}
 use Rattle.convert_command.specs.declared.request.Request.{Request}
@@ -30,3 +31,8 @@ abbrev pub IsMadeFor : {C B Y : Type 0} → (C → Option Change) → (Option Ch
 IsMadeFor change_of payload_of listing_of is_one_dic request files dictionary = IsMadeOf change_of payload_of listing_of
     is_one_dic request.language request.left request.right (map (λ path. path.now) request.paths.now)
     (map (λ one. one.items) files) dictionary
+
+-- The notes are those on files with these bytes, at the paths of a request.
+abbrev pub AreNotesOn : {Y : Type 0} → Bool → Request → List (Vec ℕ Y) → List Note → Type 0
+AreNotesOn is_one_dic request files notes = AreNotesOf is_one_dic (map (λ path. path.now) request.paths.now)
+    (map (λ one. one.items) files) notes
