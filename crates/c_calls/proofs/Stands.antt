@@ -1,4 +1,4 @@
--- Each of the breaks that fit a text stands in it.
+-- Each of the breaks that fit a text is in it.
 use Rattle.std.proofs.Common.{ℕ, ◌≡◌, ◌+◌, ◌<◌, List, [], ◌∷◌, map, length, sym, subst, arith, get_or, zero, suc}
 use Rattle.hyphenation_breaks.specs.Break.{Break, end_of}
 use Rattle.hyphenation_segments.specs.Fits.{FitsFrom, BreakFitsAfter}

@@ -7,6 +7,7 @@ use Rattle.any_dictionary.specs.Dictionaries.{all_places_by}
 use Rattle.any_dictionary.specs.declared.AnyDictionary.{AnyDictionary}
 use Rattle.c_calls.specs.Statuses.{Buffer, AreUnchanged, FillsBoth}
 use Rattle.c_calls.specs.declared.lists.NoList.{NoList}
+use Rattle.c_calls.specs.declared.lists.WordList.{WordList}
 use Rattle.c_calls.specs.declared.lists.NoList.TheVariants.{Memory, NotUtf8, BadEnds}
 
 -- The begin of the word of a number, from 0 on: the end of the word before it, or the begin of the text.
@@ -63,6 +64,10 @@ Lists dictionary text ends b c (suc (suc (suc (suc zero)))) = ¬ AreUtf8 text en
 Lists dictionary text ends b c (suc (suc (suc (suc (suc (suc (suc (suc zero)))))))) =
     ¬ AreEnds text ends × AreUnchanged b c
 Lists dictionary text ends b c _ = ⊥
+
+-- The same for a list of words.
+abbrev pub ListsWords : AnyDictionary → WordList → Buffer ℕ → Buffer ℕ → ℕ → Type 0
+ListsWords dictionary words b c status = Lists dictionary words.text.now words.ends.now b c status
 
 -- The call for a list of words. 3: the handle holds no dictionary, and all is unchanged.
 abbrev pub WritesLists : Option AnyDictionary → List ℕ → List ℕ → Buffer ℕ → Buffer ℕ → ℕ → Type 0

@@ -33,7 +33,7 @@ listed_by (of.Extended extended) word = finite.get extended.exceptions word
 abbrev pub of_score : Scored → Numbered
 of_score score = (score.value, score.change)
 
--- The scores of a word's places, from place 1 on, by the patterns alone.
+-- The scores of a word's places, from place 1 on, only by the patterns.
 abbrev pub scores_by : AnyDictionary → List ℕ → List Numbered
 scores_by (of.Standard standard) word = map alone (values (entries_of_keys standard) word)
 scores_by (of.Extended extended) word = map of_score (scores own_change (entries_of_keys extended) word)

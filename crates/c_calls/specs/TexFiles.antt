@@ -10,6 +10,7 @@ use Rattle.hyphenation_grammar.specs.declared.form.Kind.{Kind}
 use Rattle.hyphenation_grammar.specs.declared.form.Kind.TheVariants.{Standard, Extended}
 use Rattle.pattern_results.specs.declared.errors.FileCause.{FileCause}
 use Rattle.tex_files.specs.Converting.{contents_of_files, fault_from}
+use Rattle.tex_files.specs.Heads.{minima_for}
 use Rattle.tex_files.specs.declared.group.File.{File}
 use Rattle.tex_files.specs.declared.group.Form.{Form}
 use Rattle.tex_files.specs.declared.group.Form.TheVariants.{Tex, Plain}
@@ -37,10 +38,11 @@ files_given Standard language minima files =
 files_given Extended language minima files =
     of.Extended (contents_of_files (λ change. change) (λ b. (b.place, b.change)) language minima.0 minima.1 files)
 
--- The dictionary is the one that files give with its own minima, and each minimum that is given is its own.
+-- The dictionary is the one that files give with its own minima. Each of these is the given one, or else that in a head.
 abbrev pub IsOfFiles : Kind → List ℕ → Option ℕ → Option ℕ → List File → AnyDictionary → Type 0
 IsOfFiles kind language left right files dictionary =
     (dictionary ≡ files_given kind language (minima_by dictionary) files)
+    × (minima_for left right files ≡ Some (minima_by dictionary))
     × IfSome left (λ given. (minima_by dictionary).0 ≡ given) × IfSome right (λ given. (minima_by dictionary).1 ≡ given)
 
 -- The handle holds a dictionary of the files.
@@ -49,8 +51,8 @@ HoldsFiles kind language left right files None = ⊥
 HoldsFiles kind language left right files (Some dictionary) = IsOfFiles kind language left right files dictionary
 
 -- 0: the language is a code, the files have no fault, and the handle holds the dictionary that they give. 2: out of
--- memory. 4: the language is not UTF-8. 5: the files have a fault. 7: the language is no code. 9: a minimum is not
--- given. No other status comes, and from 1 on the handle is unchanged.
+-- memory. 4: the language is not UTF-8. 5: the files have a fault. 7: the language is no code. 9: a minimum is neither
+-- given nor in a head. No other status comes, and from 1 on the handle is unchanged.
 abbrev pub MakesOfFiles : Kind → List ℕ → Option ℕ → Option ℕ → List File → Option AnyDictionary → Option AnyDictionary → ℕ
     → Type 0
 MakesOfFiles kind language left right files old new zero =
@@ -62,7 +64,7 @@ MakesOfFiles kind language left right files old new (suc (suc (suc (suc (suc zer
 MakesOfFiles kind language left right files old new (suc (suc (suc (suc (suc (suc (suc zero))))))) =
     ¬ IsCode language × (new ≡ old)
 MakesOfFiles kind language left right files old new (suc (suc (suc (suc (suc (suc (suc (suc (suc zero))))))))) =
-    ((left ≡ None) ⊎ (right ≡ None)) × (new ≡ old)
+    (((left ≡ None) ⊎ (right ≡ None)) × (minima_for left right files ≡ None)) × (new ≡ old)
 MakesOfFiles kind language left right files old new _ = ⊥
 
 -- 6: no kind or no form has the number, and the handle is unchanged. Else the statuses above.
@@ -99,5 +101,6 @@ abbrev pub IsNoDictionary : NoDictionary → List ℕ → Option ℕ → Option 
 IsNoDictionary Memory language left right files = Unit {0}
 IsNoDictionary NotUtf8 language left right files = ¬ IsUtf8 language
 IsNoDictionary NotCode language left right files = ¬ IsCode language
-IsNoDictionary NoMinima language left right files = (left ≡ None) ⊎ (right ≡ None)
+IsNoDictionary NoMinima language left right files =
+    ((left ≡ None) ⊎ (right ≡ None)) × (minima_for left right files ≡ None)
 IsNoDictionary (Fault file line cause) language left right files = fault_from 0 files ≡ Some (file, (line, cause))

@@ -27,9 +27,10 @@ fn exception_of(
     }
 }
 
-/// Writes the breaks that are listed for a word to the front of one buffer, the substitutions of their changes to the front
-/// of another one, and returns the status, which is `NO_EXCEPTION` for a word that is none. If one of the buffers is too
-/// short, both are unchanged.
+/// Writes the breaks that are listed for a word, and the substitutions of their changes, to the front of two buffers.
+///
+/// Returns the status, which is `NO_EXCEPTION` for a word that is none. If one of the buffers is too short, both are
+/// unchanged.
 pub fn write_exception(
     loaded: &Loaded,
     alloc: Global,
@@ -72,8 +73,8 @@ fn scores_of(
     }
 }
 
-/// Writes the scores of a word's places to the front of one buffer, the substitutions of their changes to the front of
-/// another one, and returns the status. If one of the buffers is too short, both are unchanged.
+/// Writes the scores of a word's places, and the substitutions of their changes, to the front of two buffers. Returns the
+/// status. If one of the buffers is too short, both are unchanged.
 #[tactic(auto, using(crate::proofs::Finding::finds_both))]
 pub fn write_scores(
     loaded: &Loaded,

@@ -39,6 +39,7 @@ pub mod utf8;
 use changes::BreakChange;
 use handle::Handle;
 use hyphenation_reader::reader::Refusal;
+use lists::WordList;
 use numbered::NumberedChange;
 use patterns::Failure;
 use statuses::{
@@ -116,9 +117,8 @@ pub fn load_dic(
     let Some(kind) = numbers::kind_numbered(kind) else {
         return OTHER_KIND;
     };
-    let left = patterns::minimum_given(left);
-    let right = patterns::minimum_given(right);
-    match patterns::load_dic(alloc, kind, code, left, right, bytes) {
+    let minima = patterns::minima_given(left, right);
+    match patterns::load_dic(alloc, kind, code, minima, bytes) {
         Ok(loaded) => {
             handle.put(alloc, loaded);
             DONE
@@ -165,9 +165,8 @@ pub fn load_patterns(
     let Some(form) = tex::form_numbered(form) else {
         return OTHER_KIND;
     };
-    let left = patterns::minimum_given(left);
-    let right = patterns::minimum_given(right);
-    match tex::load_patterns(alloc, kind, code, left, right, form, bytes, exceptions) {
+    let minima = patterns::minima_given(left, right);
+    match tex::load_patterns(alloc, kind, code, minima, form, bytes, exceptions) {
         Ok(loaded) => {
             handle.put(alloc, loaded);
             DONE
@@ -316,7 +315,8 @@ pub fn write_breaks_of_words(
     let Some(loaded) = handle.take(alloc) else {
         return NO_DICTIONARY;
     };
-    let status = lists::write_breaks_of_words(&loaded, alloc, text, ends, list, count, last, size);
+    let words = WordList { text, ends };
+    let status = lists::write_breaks_of_words(&loaded, alloc, words, list, count, last, size);
     *handle = Handle::of(loaded);
     status
 }
@@ -366,10 +366,10 @@ pub fn write_changes(
     status
 }
 
-/// Writes the breaks that are listed for a word to the front of one buffer, and the substitutions of their changes to the
-/// front of another one. The number of each is its place.
+/// Writes the breaks that are listed for a word, and the substitutions of their changes, to the front of two buffers. The
+/// number of each is its place.
 ///
-/// The word is compared byte by byte: an exception in small letters is found by small letters alone. The minima are not
+/// The word is compared byte by byte: an exception in small letters is found only by small letters. The minima are not
 /// looked at. A word that is no exception is `NO_EXCEPTION`.
 pub fn write_exception(
     alloc: Global,
@@ -392,8 +392,8 @@ pub fn write_exception(
     status
 }
 
-/// Writes the scores of a word's places, from place 1 on, to the front of one buffer, and the substitutions of their changes
-/// to the front of another one. The number of each is its value.
+/// Writes the scores of a word's places, from place 1 on, and the substitutions of their changes to the front of two
+/// buffers. The number of each is its value.
 ///
 /// A place is a number of bytes before it. A score is the value of [`write_values`], with the change that an extended
 /// dictionary has for it.

@@ -7,7 +7,7 @@ ghost use Rattle.std.specs.Prelude.{◌≡◌, IfOk, IfErr, OnOk, map};
 ghost use Rattle.any_dictionary.specs.Dictionaries.{all_places_by};
 ghost use Rattle.c_calls.specs.Dictionaries.{dictionary_of};
 ghost use Rattle.c_calls.specs.Lists.{AreEnds, AreUtf8, words_of, places_of_all, ends_of_places};
-ghost use Rattle.c_calls.specs.Lists.{IsNoList, Lists};
+ghost use Rattle.c_calls.specs.Lists.{IsNoList, ListsWords};
 ghost use Rattle.c_calls.specs.Statuses.{into};
 
 use crate::buffers::fill_buffers;
@@ -16,6 +16,15 @@ use crate::statuses::{BAD_ENDS, NOT_UTF8, OUT_OF_MEMORY};
 use crate::utf8::word_of;
 use any_dictionary::AnyDictionary;
 use std::alloc::{AllocError, Global};
+
+/// A list of words, as C hands it over: they are side by side in a text, and each has its end in it.
+#[derive(Clone, Copy)]
+pub struct WordList<'t> {
+    /// The text.
+    pub text: &'t [u8],
+    /// The ends of the words, in bytes.
+    pub ends: &'t [usize],
+}
 
 /// Why a text and ends are no list of words.
 #[derive(Drop)]
@@ -91,17 +100,16 @@ fn places_of_words(
 pub fn write_breaks_of_words(
     loaded: &Loaded,
     alloc: Global,
-    text: &[u8],
-    ends: &[usize],
+    words: WordList<'_>,
     list: &mut [usize],
     count: &mut usize,
     last: &mut [usize],
     size: &mut usize,
 ) -> u32
-    ensures { Lists (dictionary_of loaded.now) text.now ends.now (into list.old list.new count.old count.new)
+    ensures { ListsWords (dictionary_of loaded.now) words.entry (into list.old list.new count.old count.new)
         (into last.old last.new size.old size.new) result }
 {
-    let words = match words_of(alloc, text, ends) {
+    let words = match words_of(alloc, words.text, words.ends) {
         Ok(words) => words,
         Err(NoList::Memory) => return OUT_OF_MEMORY,
         Err(NoList::NotUtf8) => return NOT_UTF8,

@@ -7,8 +7,8 @@ ghost use Rattle.c_calls.specs.Numbered.{as_numbered, substitutions, substitutio
 use hyphenation_breaks::extended::Subregion;
 use std::alloc::{AllocError, Global};
 
-/// A number with a change, or with none: the place of a listed break, or the value of a place. But for the number all is 0
-/// if there is no change.
+/// A number with a change, or with none: the place of a listed break, or the value of a place. If there is
+/// no change, all but the number is 0.
 ///
 /// The change is a substitution for a range of the word. All but the first two are numbers of bytes.
 #[repr(C)]
@@ -45,7 +45,7 @@ pub trait Numbered {
         ensures { option_copied result ≡ (meaning self.now).1 };
 }
 
-/// A place alone is that of a break that changes nothing.
+/// A break that changes nothing is only a place.
 impl Numbered for usize {
     ghost use Rattle.c_calls.specs.Numbered.{alone};
 
@@ -60,7 +60,7 @@ impl Numbered for usize {
     }
 }
 
-/// A value alone is that of a standard dictionary.
+/// An entry of a standard dictionary is only a value.
 impl Numbered for u8 {
     ghost use Rattle.c_calls.specs.Numbered.{alone};
 

@@ -52,26 +52,39 @@ pub fn pattern_cause_number(cause: FileCause) -> u32
     }
 }
 
-/// Returns a minimum that is given; none for a number above 255.
-pub fn minimum_given(number: u32) -> Option<u8>
-    ensures { result ≡ minimum_given number }
+/// The minima that are given for a dictionary. The files say each that is not given.
+#[derive(Clone, Copy)]
+pub struct GivenMinima {
+    /// The least number of characters of a word before its first break.
+    pub left: Option<u8>,
+    /// The least number of characters of a word after its last break.
+    pub right: Option<u8>,
+}
+
+/// Returns the minima that two numbers give; a number above 255 gives none.
+pub fn minima_given(left: u32, right: u32) -> GivenMinima
+    ensures left { result.left ≡ minimum_given left }
+    ensures right { result.right ≡ minimum_given right }
 {
-    u8::try_from(number).ok()
+    GivenMinima {
+        left: u8::try_from(left).ok(),
+        right: u8::try_from(right).ok(),
+    }
 }
 
 // The dictionary of a `.dic`, without what there is to note of it.
 fn from_dic<C: Payload, B: Listing>(
     alloc: Global,
     language: Language,
-    left: Option<u8>,
-    right: Option<u8>,
+    minima: GivenMinima,
     bytes: &[u8],
 ) -> Result<Dictionary<C, B>, ConvertError>
     ensures good { OnOk result (dic_fault bytes.now ≡ None) }
-    ensures contents { IfOk result (λ d. d ≡ contents_of_dic C.change_of C.payload_of language left right bytes.now) }
+    ensures contents { IfOk result (λ d. d ≡ contents_of_dic C.change_of C.payload_of language minima.left minima.right bytes.now) }
     ensures refused { IfErr result (λ error.
         IsConvertError error (option_map (λ fault. (0, fault)) (dic_fault bytes.now))) }
 {
+    let GivenMinima { left, right } = minima;
     let Converted { dictionary, .. } = convert_dic(alloc, language, left, right, bytes)?;
     Ok(dictionary)
 }
@@ -82,22 +95,17 @@ fn dictionary_of_dic(
     alloc: Global,
     kind: Kind,
     language: Language,
-    left: Option<u8>,
-    right: Option<u8>,
+    minima: GivenMinima,
     bytes: &[u8],
 ) -> Result<AnyDictionary, ConvertError>
     ensures good { OnOk result (dic_fault bytes.now ≡ None) }
-    ensures contents { IfOk result (λ dictionary. dictionary ≡ dic_given kind language left right bytes.now) }
+    ensures contents { IfOk result (λ dictionary. dictionary ≡ dic_given kind language minima.left minima.right bytes.now) }
     ensures refused { IfErr result (λ error.
         IsConvertError error (option_map (λ fault. (0, fault)) (dic_fault bytes.now))) }
 {
     match kind {
-        Kind::Standard => Ok(AnyDictionary::Standard(from_dic(
-            alloc, language, left, right, bytes,
-        )?)),
-        Kind::Extended => Ok(AnyDictionary::Extended(from_dic(
-            alloc, language, left, right, bytes,
-        )?)),
+        Kind::Standard => Ok(AnyDictionary::Standard(from_dic(alloc, language, minima, bytes)?)),
+        Kind::Extended => Ok(AnyDictionary::Extended(from_dic(alloc, language, minima, bytes)?)),
     }
 }
 
@@ -121,14 +129,13 @@ pub fn load_dic(
     alloc: Global,
     kind: Kind,
     language: &[u8],
-    left: Option<u8>,
-    right: Option<u8>,
+    minima: GivenMinima,
     bytes: &[u8],
 ) -> Result<Box<Loaded>, Failure>
     ensures code { OnOk result (IsCode language.now) }
     ensures good { OnOk result (dic_fault bytes.now ≡ None) }
     ensures contents { IfOk result (λ loaded.
-        dictionary_of loaded.value ≡ dic_given kind language.now left right bytes.now) }
+        dictionary_of loaded.value ≡ dic_given kind language.now minima.left minima.right bytes.now) }
     ensures failed { IfErr result (λ failure. IsFailure failure language.now (dic_fault bytes.now)) }
 {
     let Ok(code) = std::str::from_utf8(language) else {
@@ -137,7 +144,7 @@ pub fn load_dic(
     let Some(language) = Language::from_code(code) else {
         return Err(Failure::NotCode);
     };
-    match dictionary_of_dic(alloc, kind, language, left, right, bytes) {
+    match dictionary_of_dic(alloc, kind, language, minima, bytes) {
         Ok(dictionary) => match Loaded::boxed(alloc, dictionary) {
             Ok(boxed) => Ok(boxed),
             Err(_) => Err(Failure::Memory),

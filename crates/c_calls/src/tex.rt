@@ -8,6 +8,7 @@ ghost use Rattle.c_calls.specs.Dictionaries.{dictionary_of};
 ghost use Rattle.c_calls.specs.TexFiles.{form_numbered, files_of, files_given, IsOfFiles, IsNoDictionary};
 
 use crate::loaded::Loaded;
+use crate::patterns::GivenMinima;
 use any_dictionary::AnyDictionary;
 use hyphenation_breaks::language::Language;
 use hyphenation_grammar::form::Kind;
@@ -74,19 +75,18 @@ fn boxed_from_files(
     alloc: Global,
     kind: Kind,
     language: Language,
-    left: Option<u8>,
-    right: Option<u8>,
+    minima: GivenMinima,
     files: &[File<'_>],
 ) -> Result<Box<Loaded>, NoDictionary>
     ensures good { OnOk result (fault_from 0 files.now ≡ None) }
     ensures contents { IfOk result (λ loaded.
-        IsOfFiles kind language left right files.now (dictionary_of loaded.value)) }
-    ensures refused { (code : List ℕ) → IfErr result (λ why. IsNoDictionary why code left right files.now) }
+        IsOfFiles kind language minima.left minima.right files.now (dictionary_of loaded.value)) }
+    ensures refused { (code : List ℕ) → IfErr result (λ why. IsNoDictionary why code minima.left minima.right files.now) }
 {
-    let minima = minima_for(left, right, files);
-    match dictionary_of_files(alloc, kind, language, minima.unwrap_or((0, 0)), files) {
+    let found = minima_for(minima.left, minima.right, files);
+    match dictionary_of_files(alloc, kind, language, found.unwrap_or((0, 0)), files) {
         Ok(dictionary) => {
-            let Some(_) = minima else {
+            let Some(_) = found else {
                 return Err(NoDictionary::NoMinima);
             };
             match Loaded::boxed(alloc, dictionary) {
@@ -108,17 +108,16 @@ pub fn load_patterns(
     alloc: Global,
     kind: Kind,
     code: &[u8],
-    left: Option<u8>,
-    right: Option<u8>,
+    minima: GivenMinima,
     form: Form,
     bytes: &[u8],
     exceptions: &[u8],
 ) -> Result<Box<Loaded>, NoDictionary>
     ensures code { OnOk result (IsCode code.now) }
     ensures good { OnOk result (fault_from 0 (files_of form bytes.entry exceptions.entry) ≡ None) }
-    ensures contents { IfOk result (λ loaded. IsOfFiles kind code.now left right
-        (files_of form bytes.entry exceptions.entry) (dictionary_of loaded.value)) }
-    ensures no_dictionary { IfErr result (λ why. IsNoDictionary why code.now left right
+    ensures contents { IfOk result (λ x. IsOfFiles kind code.now minima.left minima.right
+        (files_of form bytes.entry exceptions.entry) (dictionary_of x.value)) }
+    ensures no_dictionary { IfErr result (λ why. IsNoDictionary why code.now minima.left minima.right
         (files_of form bytes.entry exceptions.entry)) }
 {
     let Ok(code) = str::from_utf8(code) else {
@@ -134,5 +133,5 @@ pub fn load_patterns(
             bytes: exceptions,
         },
     ];
-    boxed_from_files(alloc, kind, language, left, right, &files)
+    boxed_from_files(alloc, kind, language, minima, &files)
 }

@@ -10,7 +10,7 @@ use hyphenation::Hyphenator;
 use linefill::{fill, push_lines};
 use std::alloc::{AllocError, Global};
 
-// Appends the lines of a paragraph, each with a line feed after it; for an empty paragraph a line feed alone.
+// Appends the lines of a paragraph, each with a line feed after it; for an empty paragraph only a line feed.
 fn push_paragraph<'h, H: Hyphenator<'h, Opportunity = usize>>(
     page: &mut String,
     dictionary: &'h H,

@@ -5,7 +5,7 @@
 //! second read one line is written, with the result and all that the call changed. It begins with `no memory` if the
 //! call said so.
 //!
-//! After the argument `measure` stand the arguments of a task, whose instructions `bench/measure` counts.
+//! After the argument `measure` come the arguments of a task, whose instructions `bench/measure` counts.
 #![tactic(auto)]
 
 mod dictionary_texts;

@@ -2,7 +2,7 @@
 
 use crate::dictionary_texts::{CHANGES, FIRKIN, dictionary, write_joined};
 use crate::pass_gate;
-use hyphenation::engine::{Kind, RunError, run, run_score};
+use hyphenation::engine::{Kind, Marking, RunError, run, run_score};
 use hyphenation::{Language, Standard};
 use linefill::{fill, run_fill};
 use std::alloc::Global;
@@ -44,8 +44,7 @@ fn run_text<G: Read, O: Write>(
         alloc,
         kind,
         language,
-        edits,
-        "-",
+        Marking { edits, mark: "-" },
         &mut reader,
         &mut input,
         &mut written,

@@ -72,7 +72,7 @@ BeforeText (score kind word) ended P = P
 BeforeText (text kind mark edits) ended P = BeforeReading ended P
 BeforeText (lines columns) ended P = BeforeReading ended P
 
--- The status is that of an end which a run for these arguments may have. Exactly its message was told, where its words are
+-- The status is that of an end which a run for these arguments may have. Exactly its message was written, where its words are
 -- known. If that end comes before the reading of the text, the input is unread.
 abbrev pub EndsWith : ParsedArgs → (List ℕ → Option (Option (List ℕ))) → Option (List ℕ) → Type 0 → ℕ → (List ℕ → Type 0)
     → Type 0

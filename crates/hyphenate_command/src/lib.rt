@@ -16,7 +16,7 @@ ghost use Rattle.hyphenate_command.specs.Private.Requests.{parsed_task, parsed_r
 
 use command_line::{Messages, NamedFiles, done};
 use hyphenation::Language;
-use hyphenation::engine::{Kind, RunError, number_of, run, run_score};
+use hyphenation::engine::{Kind, Marking, RunError, number_of, run, run_score};
 use hyphenation::load::Error;
 use hyphenation_load::is_out_of_memory;
 use linefill::run_fill;
@@ -160,8 +160,7 @@ fn run_request<F: NamedFiles, I: Read, O: Write>(
             alloc,
             kind,
             language,
-            edits,
-            mark,
+            Marking { edits, mark },
             &mut dictionary,
             input,
             output,

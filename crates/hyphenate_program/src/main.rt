@@ -20,6 +20,9 @@ usage: NAME [ARGUMENT..]
              hyphenate-text. A link of such a name to this file is that program
 ";
 
+// The message if memory was refused where no program is named.
+const NO_MEMORY: &str = "hyphenate: no memory\n";
+
 // Returns the usage of a program.
 fn usage_of(program: Program) -> &'static str {
     match program {
@@ -36,13 +39,13 @@ fn usage_of(program: Program) -> &'static str {
 // Returns the message of a program if memory was refused.
 fn no_memory_of(program: Program) -> &'static str {
     match program {
-        Program::Hyphenate => "hyphenate: no memory\n",
-        Program::Canonical => "hyphenate-canonical: no memory\n",
-        Program::Convert => "hyphenate-convert: no memory\n",
-        Program::Explain => "hyphenate-explain: no memory\n",
-        Program::Html => "hyphenate-html: no memory\n",
-        Program::Lines => "hyphenate-lines: no memory\n",
-        Program::Text => "hyphenate-text: no memory\n",
+        Program::Hyphenate => hyphenate_command::NO_MEMORY,
+        Program::Canonical => canonical_command::NO_MEMORY,
+        Program::Convert => convert_command::NO_MEMORY,
+        Program::Explain => explain_command::NO_MEMORY,
+        Program::Html => html_command::NO_MEMORY,
+        Program::Lines => lines_command::NO_MEMORY,
+        Program::Text => text_command::NO_MEMORY,
     }
 }
 
@@ -57,7 +60,7 @@ fn program_of_file(rt: &HostRuntime) -> Option<Program> {
 fn report_no_words(rt: &HostRuntime, error: &io::Error) -> u8 {
     let (usage, no_memory) = match program_of_file(rt) {
         Some(program) => (usage_of(program), no_memory_of(program)),
-        None => (USAGE, "hyphenate: no memory\n"),
+        None => (USAGE, NO_MEMORY),
     };
     report_bad_args(
         rt.alloc(),
@@ -85,11 +88,13 @@ fn run(rt: &HostRuntime, program: Program, args: &[&str], folders: &[&str]) -> u
             explain_command::answer(rt, alloc, args, folders, input, output, errors)
         }
         Program::Html => {
-            html_command::answer(rt, store, alloc, args, folders, input, output, errors)
+            let call = html_command::Call { args, folders };
+            html_command::answer(rt, store, alloc, &call, input, output, errors)
         }
         Program::Lines => lines_command::answer(rt, alloc, args, folders, input, output, errors),
         Program::Text => {
-            text_command::answer(rt, store, alloc, args, folders, input, output, errors)
+            let call = text_command::Call { args, folders };
+            text_command::answer(rt, store, alloc, &call, input, output, errors)
         }
     }
 }

@@ -12,6 +12,7 @@ use Rattle.hyphenation_grammar.specs.declared.form.Kind.{Kind}
 use Rattle.hyphenation_grammar.specs.declared.form.Kind.TheVariants.{Standard, Extended}
 use Rattle.hyphenation_grammar.specs.declared.Error.{Error}
 use Rattle.hyphenation_grammar.specs.declared.Error.TheVariants.{Deserialization, IO, LanguageMismatch, Memory as NoMemory}
+use Rattle.hyphenation.specs.declared.engine.Marking.{Marking}
 use Rattle.hyphenation.specs.declared.engine.RunError.{RunError}
 use Rattle.hyphenation.specs.declared.engine.RunError.TheVariants.{Dictionary, Edit, TextNotUtf8, Input, Output, Memory}
 use Rattle.std.specs.IoError.{error_kind}
@@ -48,6 +49,10 @@ breaks_by Extended bytes edits word =
 -- The output of a run: the text with its words hyphenated by the dictionary of that kind that bytes give, after edits.
 abbrev pub run_output : Kind → List (Bor (List ℕ)) → List ℕ → List ℕ → List ℕ → List ℕ
 run_output kind edits mark bytes text = hyphenated_text (breaks_by kind bytes (texts_now edits)) mark text
+
+-- The output of a run that hyphenates a text so.
+abbrev pub marked_output : Kind → Marking → List ℕ → List ℕ → List ℕ
+marked_output kind marking bytes text = run_output kind marking.edits.now marking.mark.now bytes text
 
 -- If the bytes of the dictionary and of the input are known, this holds of them.
 abbrev pub IfBothKnown : Option (List ℕ) → Option (List ℕ) → (List ℕ → List ℕ → Type 0) → Type 0

@@ -4,7 +4,7 @@ ghost use Rattle.std.specs.Prelude.{◌≡◌, ◌++◌, List, ℕ, OnOk, IfOk, 
 ghost use Rattle.std.specs.String.{string_bytes};
 ghost use Rattle.hyphenation_load.specs.Load.{AppendsTo};
 ghost use Rattle.any_dictionary.specs.Dictionaries.{contents_as, kind_by};
-ghost use Rattle.hyphenation.specs.Engine.{score_line, score_by, run_output, RunWrites};
+ghost use Rattle.hyphenation.specs.Engine.{score_line, score_by, marked_output, RunWrites};
 ghost use Rattle.hyphenation.specs.Engine.{JudgesDictionary, JudgesEdits, JudgesText};
 ghost use Rattle.hyphenation.specs.Engine.{BeforeReading, BeforeWriting, IsScoreError, IsUnwritten, HidesNoOutOfMemory};
 ghost use Rattle.hyphenation.specs.Private.Engine.{space_before, IsLoadingError};
@@ -38,6 +38,15 @@ pub enum RunError {
     Output(io::Error),
     /// Memory was refused.
     Memory,
+}
+
+/// How a run hyphenates a text: the edits that are done before, and the mark.
+#[derive(Debug, Clone, Copy)]
+pub struct Marking<'m> {
+    /// The edits of the dictionary's exceptions, from first to last.
+    pub edits: &'m [&'m str],
+    /// The mark that is written at each break.
+    pub mark: &'m str,
 }
 
 impl From<Error> for RunError {
@@ -166,29 +175,29 @@ pub fn run_score<D: Read, O: Write>(
 /// let mut dictionary = &b"hyphenation 1 standard\nlanguage en-us\nminima 2 3\ne hyphenation 2 6 7\n"[..];
 /// let mut input = &b"Hyphenation, again.\n"[..];
 /// let lang = Language::english_us();
+/// let marking = Marking { edits: &["+again 2"], mark: "-" };
 /// // Hy-phen-a-tion, ag-ain.
-/// run(alloc, Kind::Standard, lang, &["+again 2"], "-", &mut dictionary, &mut input, &mut rt.stdout())?;
+/// run(alloc, Kind::Standard, lang, marking, &mut dictionary, &mut input, &mut rt.stdout())?;
 /// ```
 pub fn run<D: Read, I: Read, O: Write>(
     alloc: Global,
     kind: Kind,
     lang: Language,
-    edits: &[&str],
-    mark: &str,
+    marking: Marking<'_>,
     dictionary: &mut D,
     input: &mut I,
     output: &mut O,
 ) -> Result<(), RunError>
     ensures dictionary { JudgesDictionary kind lang (D.remaining dictionary.old) result }
-    ensures edits { JudgesEdits kind (texts_now edits.now) result }
+    ensures edits { JudgesEdits kind (texts_now marking.entry.edits.now) result }
     ensures text { JudgesText (I.remaining input.old) result }
-    ensures written { RunWrites result O.contents output.old output.new (run_output kind edits.now mark.now)
+    ensures written { RunWrites result O.contents output.old output.new (marked_output kind marking.entry)
         (D.remaining dictionary.old) (I.remaining input.old) }
     ensures appends_some_text { OnOk result ((text : List ℕ) × AppendsTo O.contents output.old output.new text) }
     ensures untouched { BeforeWriting result (output.new ≡ output.old) }
     ensures unread { BeforeReading result (input.new ≡ input.old) }
     ensures not_out_of_memory { IfErr result HidesNoOutOfMemory }
 {
-    let text = run_text(alloc, kind, lang, edits, mark, dictionary, input)?;
+    let text = run_text(alloc, kind, lang, marking, dictionary, input)?;
     output.write_all(text.as_bytes()).map_err(RunError::Output)
 }

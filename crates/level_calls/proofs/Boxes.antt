@@ -1,4 +1,4 @@
--- A dictionary's box, as the kit's lemmas on boxes take it, and what is known of the two drops that its calls are told of.
+-- A dictionary's box, as the kit's lemmas on boxes take it, and what is known of the two drops that its calls take.
 use mathlib.Core.Path.{refl}
 use mathlib.Core.List.{[], ◌∷◌}
 use mir.Raw.{raw as raw_ty}

@@ -6,6 +6,7 @@ use Rattle.libhyphen_files.specs.Files.{Rules, rules_of}
 use Rattle.libhyphen_rule.specs.Calls.{Answer, answer_of, text_of_call, plain_digits}
 use Rattle.libhyphen_rule.specs.declared.calls.CallMinima.{CallMinima}
 use Rattle.c_calls.specs.Statuses.{Buffer, Fills, Finds, IsDoneOrRefused, IsUnchanged}
+use Rattle.level_calls.specs.declared.calls.Asked.{Asked}
 use Rattle.level_calls.specs.declared.changes.LevelChange.{LevelChange}
 use Rattle.level_calls.specs.declared.handle.Handle.{Handle}
 use Rattle.level_calls.specs.declared.head.LevelHead.{LevelHead}
@@ -105,6 +106,10 @@ texts_in (Some answer) = listed_texts answer.changes
 abbrev pub made_in : Option Answer → Bool
 made_in None = false
 made_in (Some answer) = answer.made
+
+-- The answer to what is asked.
+abbrev pub answer_to : Rules → Asked → Option Answer
+answer_to rules asked = answer_of rules asked.minima asked.text.now asked.size
 
 -- The answer of a call, if there is a dictionary.
 abbrev pub answer_if : Option Rules → Option CallMinima → List ℕ → ℕ → Option Answer

@@ -2,38 +2,67 @@
 
 ghost use Rattle.std.specs.Prelude.{◌≡◌, ◌⊎◌, ◌<◌, length};
 ghost use Rattle.c_calls.specs.Statuses.{into};
-ghost use Rattle.level_calls.specs.Levels.{FillsOne, OneIsShort};
+ghost use Rattle.level_calls.specs.Levels.{FillsOne, OneIsShort, Says};
 
+use crate::changes::LevelChange;
 use c_calls::buffers::fill_buffer;
-use c_calls::statuses::NO_ROOM;
+use c_calls::statuses::{DONE, NO_ROOM};
 
-/// Fills three buffers, if all are long enough, and writes the three counts. The status is `DONE`, or `NO_ROOM`, and then
-/// all three buffers are unchanged.
-pub fn fill_three<T: Copy, U: Copy, V: Copy>(
-    found: &[T],
-    buffer: &mut [T],
-    count: &mut usize,
-    more: &[U],
-    other: &mut [U],
-    size: &mut usize,
-    last: &[V],
-    third: &mut [V],
-    total: &mut usize,
+/// The digits and the changes that are found in a word, as C reads them.
+#[derive(Clone, Copy)]
+pub struct WordFound<'f> {
+    /// The digits of its characters.
+    pub digits: &'f [u8],
+    /// The changes of its places.
+    pub changes: &'f [LevelChange],
+    /// The texts of the changes, each with a byte 0 behind it.
+    pub texts: &'f [u8],
+    /// Whether a change was made.
+    pub made: bool,
+}
+
+/// How much is found in a word, and whether a change is made.
+#[derive(Clone, Copy)]
+pub struct WordSaid {
+    /// How many digits were found.
+    pub digits: usize,
+    /// How many changes were found.
+    pub changes: usize,
+    /// The length of their texts, in bytes.
+    pub texts: usize,
+    /// Whether a change was made.
+    pub made: bool,
+}
+
+/// Fills three buffers with what is found in a word, if all are long enough. It writes the three counts, and whether a
+/// change was made.
+///
+/// The result is the status. It is `DONE` or `NO_ROOM`, and then only the counts are written.
+pub fn fill_word(
+    found: &WordFound<'_>,
+    digits: &mut [u8],
+    changes: &mut [LevelChange],
+    texts: &mut [u8],
+    said: &mut WordSaid,
 ) -> u32
     ensures status { (result ≡ 0) ⊎ (result ≡ 1) }
-    ensures first { FillsOne found.now (into buffer.old buffer.new count.old count.new) result }
-    ensures second { FillsOne more.now (into other.old other.new size.old size.new) result }
-    ensures third { FillsOne last.now (into third.old third.new total.old total.new) result }
-    ensures short { OneIsShort result (length buffer.old < count.new) (length other.old < size.new)
-        (length third.old < total.new) }
+    ensures digits { FillsOne found.now.digits.now (into digits.old digits.new said.old.digits said.new.digits) result }
+    ensures changes { FillsOne found.now.changes.now
+        (into changes.old changes.new said.old.changes said.new.changes) result }
+    ensures texts { FillsOne found.now.texts.now (into texts.old texts.new said.old.texts said.new.texts) result }
+    ensures short { OneIsShort result (length digits.old < said.new.digits) (length changes.old < said.new.changes)
+        (length texts.old < said.new.texts) }
+    ensures made { Says found.now.made said.old.made said.new.made result }
 {
-    *count = found.len();
-    *size = more.len();
-    *total = last.len();
-    if *count > buffer.len() || *size > other.len() || *total > third.len() {
+    said.digits = found.digits.len();
+    said.changes = found.changes.len();
+    said.texts = found.texts.len();
+    if said.digits > digits.len() || said.changes > changes.len() || said.texts > texts.len() {
         return NO_ROOM;
     }
-    fill_buffer(found, buffer, count);
-    fill_buffer(more, other, size);
-    fill_buffer(last, third, total)
+    fill_buffer(found.digits, digits, &mut said.digits);
+    fill_buffer(found.changes, changes, &mut said.changes);
+    fill_buffer(found.texts, texts, &mut said.texts);
+    said.made = found.made;
+    DONE
 }

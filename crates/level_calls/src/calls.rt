@@ -1,15 +1,14 @@
 //! The calls, for a dictionary that is loaded.
 
-ghost use Rattle.std.specs.Prelude.{◌≡◌, ◌⊎◌, ◌≤◌, ◌<◌, [], false, IfOk, length};
+ghost use Rattle.std.specs.Prelude.{◌≡◌, ◌≤◌, ◌<◌, IfOk, length};
 ghost use Rattle.c_calls.specs.Statuses.{into, IsDoneOrRefused};
 ghost use Rattle.libhyphen_files.specs.Files.{rules_of};
-ghost use Rattle.libhyphen_rule.specs.Calls.{answer_of, Answer};
 ghost use Rattle.libhyphen_rule.specs.Found.{answer_view};
 ghost use Rattle.level_calls.specs.Changes.{listed_changes, listed_texts};
 ghost use Rattle.level_calls.specs.Levels.{IsStatus, FillsOne, OneIsShort, Says, FindsText, FindsDigits};
-ghost use Rattle.level_calls.specs.Levels.{digits_in, changes_in, texts_in, made_in};
+ghost use Rattle.level_calls.specs.Levels.{answer_to, digits_in, changes_in, texts_in, made_in};
 
-use crate::buffers::fill_three;
+use crate::buffers::{WordFound, WordSaid, fill_word};
 use crate::changes::{LevelChange, listed_changes, listed_texts};
 use crate::loaded::Loaded;
 use c_calls::buffers::fill_buffer;
@@ -19,6 +18,17 @@ use libhyphen_rule::calls::{
     CallAnswer, CallMinima, hyphenate, plain_digits, short_digits, write_word as written_word,
 };
 use std::alloc::{AllocError, Global};
+
+/// A word that is asked for, the first bytes of a text, with the minima that are given for it.
+#[derive(Clone, Copy)]
+pub struct Asked<'t> {
+    /// The minima, if any are given.
+    pub minima: Option<CallMinima>,
+    /// The text that the word begins. The bytes after the word count for minima and for texts without breaks.
+    pub text: &'t [u8],
+    /// The length of the word, in bytes.
+    pub size: usize,
+}
 
 /// Reads a dictionary into a box. The only error is out of memory.
 pub fn load(alloc: Global, bytes: &[u8]) -> Result<Box<Loaded>, AllocError>
@@ -59,69 +69,29 @@ fn texts_of(alloc: Global, answer: &CallAnswer<'_>) -> Result<Vec<u8>, AllocErro
     listed_texts(alloc, &answer.changes)
 }
 
-// Writes the digits of an answer without changes. The result is the status.
-fn write_plain(
-    found: &[u8],
-    digits: &mut [u8],
-    count: &mut usize,
-    changes: &mut [LevelChange],
-    number: &mut usize,
-    texts: &mut [u8],
-    total: &mut usize,
-    made: &mut bool,
-) -> u32
-    ensures status { (result ≡ 0) ⊎ (result ≡ 1) }
-    ensures digits { FillsOne found.now (into digits.old digits.new count.old count.new) result }
-    ensures changes { FillsOne [] (into changes.old changes.new number.old number.new) result }
-    ensures texts { FillsOne [] (into texts.old texts.new total.old total.new) result }
-    ensures short { OneIsShort result (length digits.old < count.new) (length changes.old < number.new)
-        (length texts.old < total.new) }
-    ensures made { Says false made.old made.new result }
-{
-    let filled = fill_three(
-        found,
-        digits,
-        count,
-        &[],
-        changes,
-        number,
-        &[],
-        texts,
-        total,
-    );
-    if filled == DONE {
-        *made = false;
-    }
-    filled
-}
-
 // As [`write_word`], for a word that the text has.
 fn write_any_word(
     dictionary: &LevelDictionary,
     alloc: Global,
-    minima: Option<CallMinima>,
-    text: &[u8],
-    size: usize,
+    asked: &Asked<'_>,
     digits: &mut [u8],
-    count: &mut usize,
     changes: &mut [LevelChange],
-    number: &mut usize,
     texts: &mut [u8],
-    total: &mut usize,
-    made: &mut bool,
+    said: &mut WordSaid,
 ) -> u32
-    requires { size ≤ length text.now }
-    ensures status { IsStatus dictionary.now minima text.now size result }
-    ensures digits { FillsOne (digits_in (answer_of dictionary.now minima text.now size))
-        (into digits.old digits.new count.old count.new) result }
-    ensures changes { FillsOne (changes_in (answer_of dictionary.now minima text.now size))
-        (into changes.old changes.new number.old number.new) result }
-    ensures texts { FillsOne (texts_in (answer_of dictionary.now minima text.now size))
-        (into texts.old texts.new total.old total.new) result }
-    ensures short { OneIsShort result (length digits.old < count.new) (length changes.old < number.new)
-        (length texts.old < total.new) }
-    ensures made { Says (made_in (answer_of dictionary.now minima text.now size)) made.old made.new result }
+    requires { asked.now.size ≤ length asked.now.text.now }
+    ensures status { IsStatus dictionary.now asked.now.minima asked.now.text.now asked.now.size result }
+    ensures digits { FillsOne (digits_in (answer_to dictionary.now asked.now))
+        (into digits.old digits.new said.old.digits said.new.digits) result }
+    ensures changes { FillsOne (changes_in (answer_to dictionary.now asked.now))
+        (into changes.old changes.new said.old.changes said.new.changes) result }
+    ensures texts { FillsOne (texts_in (answer_to dictionary.now asked.now))
+        (into texts.old texts.new said.old.texts said.new.texts) result }
+    ensures short { OneIsShort result (length digits.old < said.new.digits) (length changes.old < said.new.changes)
+        (length texts.old < said.new.texts) }
+    ensures made { Says (made_in (answer_to dictionary.now asked.now)) said.old.made said.new.made result }
 {
+    let Asked { minima, text, size } = *asked;
     let Ok(answer) = hyphenate(alloc, dictionary, minima, text, size) else {
         return OUT_OF_MEMORY;
     };
@@ -131,75 +101,58 @@ fn write_any_word(
     let Ok(listed) = changes_of(alloc, &answer) else {
         return OUT_OF_MEMORY;
     };
-    let Ok(said) = texts_of(alloc, &answer) else {
+    let Ok(ended) = texts_of(alloc, &answer) else {
         return OUT_OF_MEMORY;
     };
-    let status = fill_three(
-        &answer.digits,
-        digits,
-        count,
-        &listed,
-        changes,
-        number,
-        &said,
-        texts,
-        total,
-    );
-    if status == DONE {
-        *made = answer.made;
-    }
-    status
+    let found = WordFound {
+        digits: &answer.digits,
+        changes: &listed,
+        texts: &ended,
+        made: answer.made,
+    };
+    fill_word(&found, digits, changes, texts, said)
 }
 
 /// Writes the digits of a word's characters, the changes of their places, and the texts of the changes, each to a
-/// buffer. It also writes whether a change was made. The result is the status.
+/// buffer. It also says how much was found, and whether a change was made. The result is the status.
 pub fn write_word(
     dictionary: &LevelDictionary,
     alloc: Global,
-    minima: Option<CallMinima>,
-    text: &[u8],
-    size: usize,
+    asked: &Asked<'_>,
     digits: &mut [u8],
-    count: &mut usize,
     changes: &mut [LevelChange],
-    number: &mut usize,
     texts: &mut [u8],
-    total: &mut usize,
-    made: &mut bool,
+    said: &mut WordSaid,
 ) -> u32
-    ensures status { IsStatus dictionary.now minima text.now size result }
-    ensures digits { FillsOne (digits_in (answer_of dictionary.now minima text.now size))
-        (into digits.old digits.new count.old count.new) result }
-    ensures changes { FillsOne (changes_in (answer_of dictionary.now minima text.now size))
-        (into changes.old changes.new number.old number.new) result }
-    ensures texts { FillsOne (texts_in (answer_of dictionary.now minima text.now size))
-        (into texts.old texts.new total.old total.new) result }
-    ensures short { OneIsShort result (length digits.old < count.new) (length changes.old < number.new)
-        (length texts.old < total.new) }
-    ensures made { Says (made_in (answer_of dictionary.now minima text.now size)) made.old made.new result }
+    ensures status { IsStatus dictionary.now asked.now.minima asked.now.text.now asked.now.size result }
+    ensures digits { FillsOne (digits_in (answer_to dictionary.now asked.now))
+        (into digits.old digits.new said.old.digits said.new.digits) result }
+    ensures changes { FillsOne (changes_in (answer_to dictionary.now asked.now))
+        (into changes.old changes.new said.old.changes said.new.changes) result }
+    ensures texts { FillsOne (texts_in (answer_to dictionary.now asked.now))
+        (into texts.old texts.new said.old.texts said.new.texts) result }
+    ensures short { OneIsShort result (length digits.old < said.new.digits) (length changes.old < said.new.changes)
+        (length texts.old < said.new.texts) }
+    ensures made { Says (made_in (answer_to dictionary.now asked.now)) said.old.made said.new.made result }
 {
+    let Asked { minima, text, size } = *asked;
     if size > text.len() {
         return BAD_ENDS;
     }
     if size <= 64 {
         let mut room = [b'0'; 64];
-        let found = &mut room[..size];
-        if let Some(length) = short_digits(dictionary, minima, text, size, found) {
-            return write_plain(
-                &found[..length],
-                digits,
-                count,
-                changes,
-                number,
-                texts,
-                total,
-                made,
-            );
+        let plain = &mut room[..size];
+        if let Some(length) = short_digits(dictionary, minima, text, size, plain) {
+            let found = WordFound {
+                digits: &plain[..length],
+                changes: &[],
+                texts: &[],
+                made: false,
+            };
+            return fill_word(&found, digits, changes, texts, said);
         }
     }
-    write_any_word(
-        dictionary, alloc, minima, text, size, digits, count, changes, number, texts, total, made,
-    )
+    write_any_word(dictionary, alloc, asked, digits, changes, texts, said)
 }
 
 /// Writes a word with an equals sign at each of its breaks, and with the texts of changes, to the front of a buffer. The
@@ -207,14 +160,14 @@ pub fn write_word(
 pub fn write_text(
     dictionary: &LevelDictionary,
     alloc: Global,
-    minima: Option<CallMinima>,
-    text: &[u8],
-    size: usize,
+    asked: &Asked<'_>,
     buffer: &mut [u8],
     count: &mut usize,
 ) -> u32
-    ensures { FindsText dictionary.now minima text.now size (into buffer.old buffer.new count.old count.new) result }
+    ensures { FindsText dictionary.now asked.now.minima asked.now.text.now asked.now.size
+        (into buffer.old buffer.new count.old count.new) result }
 {
+    let Asked { minima, text, size } = *asked;
     if size > text.len() {
         return BAD_ENDS;
     }

@@ -19,7 +19,9 @@ pub mod head;
 pub mod loaded;
 pub mod minima;
 
+use buffers::WordSaid;
 use c_calls::statuses::{DONE, NO_DICTIONARY, OUT_OF_MEMORY};
+use calls::Asked;
 use changes::LevelChange;
 use handle::Handle;
 use head::LevelHead;
@@ -98,22 +100,24 @@ pub fn write_word(
     let Some(loaded) = handle.take(alloc) else {
         return NO_DICTIONARY;
     };
-    let minima = minima::minima_given(given, minima);
-    let status = calls::write_word(
-        &loaded.dictionary,
-        alloc,
-        minima,
+    let asked = Asked {
+        minima: minima::minima_given(given, minima),
         text,
         size,
-        digits,
-        count,
-        changes,
-        number,
-        texts,
-        total,
-        made,
-    );
+    };
+    let mut said = WordSaid {
+        digits: *count,
+        changes: *number,
+        texts: *total,
+        made: *made,
+    };
+    let dictionary = &loaded.dictionary;
+    let status = calls::write_word(dictionary, alloc, &asked, digits, changes, texts, &mut said);
     *handle = Handle::of(loaded);
+    *count = said.digits;
+    *number = said.changes;
+    *total = said.texts;
+    *made = said.made;
     status
 }
 
@@ -137,8 +141,12 @@ pub fn write_text(
     let Some(loaded) = handle.take(alloc) else {
         return NO_DICTIONARY;
     };
-    let minima = minima::minima_given(given, minima);
-    let status = calls::write_text(&loaded.dictionary, alloc, minima, text, size, buffer, count);
+    let asked = Asked {
+        minima: minima::minima_given(given, minima),
+        text,
+        size,
+    };
+    let status = calls::write_text(&loaded.dictionary, alloc, &asked, buffer, count);
     *handle = Handle::of(loaded);
     status
 }

@@ -6,11 +6,11 @@ ghost use Rattle.std.specs.IoError.{error_kind};
 ghost use Rattle.std.specs.String.{string_bytes};
 ghost use Rattle.any_dictionary.specs.Dictionaries.{edited, kind_by};
 ghost use Rattle.hyphenation_breaks.specs.Borrowed.{texts_now};
-ghost use Rattle.hyphenation.specs.Engine.{run_output, RunReturns, BeforeReading, JudgesDictionary, JudgesEdits, JudgesText};
+ghost use Rattle.hyphenation.specs.Engine.{marked_output, RunReturns, BeforeReading, JudgesDictionary, JudgesEdits, JudgesText};
 ghost use Rattle.hyphenation.specs.Engine.{IsInputError, IsTextError, IsUnwritten, HidesNoOutOfMemory};
 ghost use Rattle.hyphenation.specs.Private.Engine.{IsEditError};
 
-use super::{RunError, load};
+use super::{Marking, RunError, load};
 use any_dictionary::AnyDictionary;
 use hyphenation_breaks::language::Language;
 use hyphenation_grammar::form::Kind;
@@ -81,22 +81,21 @@ pub(super) fn run_text<D: Read, I: Read>(
     alloc: Global,
     kind: Kind,
     lang: Language,
-    edits: &[&str],
-    mark: &str,
+    marking: Marking<'_>,
     reader: &mut D,
     input: &mut I,
 ) -> Result<String, RunError>
     ensures dictionary { JudgesDictionary kind lang (D.remaining reader.old) result }
-    ensures edits { JudgesEdits kind (texts_now edits.now) result }
+    ensures edits { JudgesEdits kind (texts_now marking.entry.edits.now) result }
     ensures text { JudgesText (I.remaining input.old) result }
-    ensures output { RunReturns string_bytes result (run_output kind edits.now mark.now)
+    ensures output { RunReturns string_bytes result (marked_output kind marking.entry)
         (D.remaining reader.old) (I.remaining input.old) }
     ensures unwritten { IfErr result IsUnwritten }
     ensures unread { BeforeReading result (input.new ≡ input.old) }
     ensures not_out_of_memory { IfErr result HidesNoOutOfMemory }
 {
     let mut dictionary = load(alloc, kind, lang, reader)?;
-    edit_all(&mut dictionary, alloc, edits)?;
+    edit_all(&mut dictionary, alloc, marking.edits)?;
     let text = read_input(alloc, input)?;
-    Ok(dictionary.hyphenated(alloc, &text, mark)?)
+    Ok(dictionary.hyphenated(alloc, &text, marking.mark)?)
 }

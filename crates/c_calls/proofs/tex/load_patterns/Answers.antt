@@ -9,7 +9,7 @@ returns-clause-good c = c.boxed_from_files.ensures.good
 
 pub returns-clause-contents : goal.returns-clause-contents
 returns-clause-contents c =
-    subst (λ (l : List ℕ). IfOk c.boxed_from_files.result (λ loaded. IsOfFiles c.args.kind l c.args.left c.args.right (files_of c.args.form c.args.bytes c.args.exceptions) (dictionary_of loaded.value)))
+    subst (λ (l : List ℕ). IfOk c.boxed_from_files.result (λ loaded. IsOfFiles c.args.kind l c.args.minima.left c.args.minima.right (files_of c.args.form c.args.bytes c.args.exceptions) (dictionary_of loaded.value)))
     (c.in-Some.ensures.code ∙ c.in-Ok.ensures.cases.0) c.boxed_from_files.ensures.contents
 
 pub returns-clause-no_dictionary : goal.returns-clause-no_dictionary

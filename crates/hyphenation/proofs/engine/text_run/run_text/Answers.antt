@@ -8,8 +8,8 @@ use Rattle.hyphenation.proofs.engine.text_run.run_text.Goals as goal
 
 pub returns-clause-output : goal.returns-clause-output
 returns-clause-output g c =
-    let edits = c.args.edits.now in
-    let mark = c.args.mark.now in
+    let edits = c.args.marking.edits.now in
+    let mark = c.args.marking.mark.now in
     let done = c.edit_all.new.dictionary in
     IfSome_then (g.D.Read.remaining c.args.reader.now) c.in_ok-dictionary.ensures.contents (λ bytes given. IfSome_then (g.I.Read.remaining c.args.input.now) c.in_ok-text.ensures.read (λ text read.
     c.in_ok-hyphenated.ensures.text
