@@ -1,7 +1,8 @@
 -- The first line of an accepted text names its kind.
-use Rattle.std.proofs.Common.{◌≡◌, ℕ, ◌&&◌, Bool, true, false, not, List, [], ◌∷◌, Option, Some, None, refl, ap, sym, subst, ◌∙◌, nat_eq, eqb-true, cond, option_map, slice_index_or}
+use Rattle.std.proofs.Common.{◌≡◌, ℕ, Bool, true, false, not, List, [], ◌∷◌, Option, Some, None, refl, ap, sym, subst, ◌∙◌, nat_eq, eqb-true, cond, option_map, slice_index_or}
 use Rattle.std.specs.Option.{option_or}
 use Rattle.std.specs.Cmp.Lexicographic.{pointwise}
+use Rattle.std.proofs.lemmas.Bool.{not-false, and_parts}
 use Rattle.hyphenation_grammar.specs.Form.{form_of, head_of, version_by}
 use Rattle.hyphenation_grammar.specs.Judging.{cause_of, fails, fault_after, fault_of, own_cause, repetition}
 use Rattle.hyphenation_grammar.specs.Lines.{is_same, lines_of}
@@ -13,22 +14,14 @@ use Rattle.hyphenation_grammar.specs.declared.form.Version.TheVariants.{First, S
 use Rattle.any_dictionary.specs.Kinds.{kind_by_head}
 use Rattle.any_dictionary.specs.Laws.{AcceptedNamesItsKind}
 
-and_left : (a b : Bool) → a && b ≡ true → a ≡ true
-and_left true b e = refl
-and_left false b e = e
-
-and_right : (a b : Bool) → a && b ≡ true → b ≡ true
-and_right true b e = e
-and_right false b e = cc
-
 -- Texts of which each byte is the same are equal.
 same_text : (xs ys : List ℕ) → is_same xs ys ≡ true → xs ≡ ys
 same_text [] [] e = refl
 same_text [] (y ∷ ys) e = cc
 same_text (x ∷ xs) [] e = cc
 same_text (x ∷ xs) (y ∷ ys) e =
-    let head = eqb-true x y (and_left (nat_eq x y) (pointwise nat_eq xs ys) e) in
-    let tail = same_text xs ys (and_right (nat_eq x y) (pointwise nat_eq xs ys) e) in
+    let head = eqb-true x y (and_parts (nat_eq x y) (pointwise nat_eq xs ys) e).0 in
+    let tail = same_text xs ys (and_parts (nat_eq x y) (pointwise nat_eq xs ys) e).1 in
     ap (λ z. z ∷ xs) head ∙ ap (λ zs. y ∷ zs) tail
 
 none_or : {X : Type 0} (a b : Option X) → option_or a b ≡ None → a ≡ None
@@ -44,10 +37,6 @@ second_fails : {X : Type 0} (p q : Bool) (x y : X) (z : Option X) → cond p (So
 second_fails true q x y z e = cc
 second_fails false true x y z e = cc
 second_fails false false x y z e = refl
-
-double_not : (b : Bool) → not b ≡ false → b ≡ true
-double_not true e = refl
-double_not false e = cc
 
 -- Each of the four heads names its kind.
 head_names : (kind : Kind) (version : Version) → kind_by_head (head_of kind version) ≡ Some kind
@@ -69,7 +58,7 @@ by_lines kind (line ∷ lines) e =
     let own = none_or (own_cause form 1 line) (repetition form.version [] line)
     (none_mapped (λ cause. (1, cause)) (cause_of form [] line) (none_or _ (fault_after form (line ∷ []) lines) e)) in
     names_kind kind (version_by kind line) line
-    (double_not _ (second_fails (fails form 1 line NotUtf8) (fails form 1 line Header) NotUtf8 Header _ own))
+    (not-false _ (second_fails (fails form 1 line NotUtf8) (fails form 1 line Header) NotUtf8 Header _ own))
 
 pub accepted_names_its_kind : AcceptedNamesItsKind
 accepted_names_its_kind kind text e = by_lines kind (lines_of text) e

@@ -1,28 +1,10 @@
 -- The places of breaks without a change.
 use Rattle.std.proofs.Common.{◌≡◌, ℕ, ◌+◌, ◌≤◌, ◌&&◌, Bool, true, false, not, List, [], ◌∷◌, map, filter, refl, ap, ◌∙◌, arith, IsTrue, if◌then◌else◌, nat_le}
-use Rattle.std.proofs.lemmas.Bool.Decides.{nat_tests}
+use Rattle.std.proofs.lemmas.Bool.{and_parts, and_from, leb-true, le-leb}
 use Rattle.hyphenation_breaks.specs.Break.{Break, plain_break, is_changed, ascend_on, is_boundary}
 use Rattle.any_dictionary.specs.Dictionaries.{plain_places}
 
 -- ---- tests
-
-and_left : (a b : Bool) → IsTrue (a && b) → IsTrue a
-and_left true b e = refl
-and_left false b e = e
-
-and_right : (a b : Bool) → IsTrue (a && b) → IsTrue b
-and_right true b e = e
-and_right false b e = cc
-
-and_both : (a b : Bool) → IsTrue a → IsTrue b → IsTrue (a && b)
-and_both true b e f = f
-and_both false b e f = e
-
-le_of : (m n : ℕ) → IsTrue (nat_le m n) → m ≤ n
-le_of m n e = grind (arith, nat_tests)
-
-le_test : (m n : ℕ) → m ≤ n → IsTrue (nat_le m n)
-le_test m n e = grind (arith, nat_tests)
 
 -- ---- places that ascend
 
@@ -34,17 +16,17 @@ record Ascends (text : List ℕ) (least p : ℕ) (ps : List ℕ) : Type 0 where
 
 ascends_of : (text : List ℕ) (least p : ℕ) (ps : List ℕ) → IsTrue (ascend_on text least (p ∷ ps)) → Ascends text least p ps
 ascends_of text least p ps a =
-    let here = and_left (nat_le least p && is_boundary text p) (ascend_on text (p + 1) ps) a in
+    let here = (and_parts (nat_le least p && is_boundary text p) (ascend_on text (p + 1) ps) a).0 in
     record {
-      least_is = le_of least p (and_left (nat_le least p) (is_boundary text p) here);
-      at = and_right (nat_le least p) (is_boundary text p) here;
-      later = and_right (nat_le least p && is_boundary text p) (ascend_on text (p + 1) ps) a;
+      least_is = leb-true least p (and_parts (nat_le least p) (is_boundary text p) here).0;
+      at = (and_parts (nat_le least p) (is_boundary text p) here).1;
+      later = (and_parts (nat_le least p && is_boundary text p) (ascend_on text (p + 1) ps) a).1;
     }
 
 ascends_from : (text : List ℕ) (least p : ℕ) (ps : List ℕ) → Ascends text least p ps → IsTrue (ascend_on text least (p ∷ ps))
 ascends_from text least p ps a =
-    and_both (nat_le least p && is_boundary text p) (ascend_on text (p + 1) ps)
-    (and_both (nat_le least p) (is_boundary text p) (le_test least p a.least_is) a.at) a.later
+    and_from (nat_le least p && is_boundary text p) (ascend_on text (p + 1) ps)
+    (and_from (nat_le least p) (is_boundary text p) (le-leb least p a.least_is) a.at) a.later
 
 ascend_weaker : (text : List ℕ) (n m : ℕ) (ps : List ℕ) → n ≤ m → IsTrue (ascend_on text m ps) → IsTrue (ascend_on text n ps)
 ascend_weaker text n m [] le a = refl
@@ -66,7 +48,7 @@ plain_ascend text least (b ∷ bs) a =
     let first = ascends_of text least b.place (map (λ b'. b'.place) bs) a in
     plain_cases text least b bs (not (is_changed b)) first.least_is first.at (plain_ascend text (b.place + 1) bs first.later)
 
--- Places alone all stay.
+-- Only places: all stay.
 pub plain_back : (places : List ℕ) → plain_places (map plain_break places) ≡ places
 plain_back [] = refl
 plain_back (p ∷ ps) = ap (λ qs. p ∷ qs) (plain_back ps)
@@ -75,6 +57,6 @@ places_plain : (xs : List ℕ) → xs ≡ map (λ b. b.place) (map plain_break x
 places_plain [] = refl
 places_plain (x ∷ xs) = ap (λ l. x ∷ l) (places_plain xs)
 
--- Places that stand for breaks without a change are the places of these breaks.
+-- Places that mean breaks without a change are the places of these breaks.
 pub found_places : (xs : List ℕ) (breaks : List Break) → map plain_break xs ≡ breaks → xs ≡ map (λ b. b.place) breaks
 found_places xs breaks e = places_plain xs ∙ ap (λ bs. map (λ b. b.place) bs) e

@@ -80,7 +80,7 @@ places_by dictionary word = plain_places (breaks_by dictionary word)
 
 -- ---- the values of words
 
--- The values of a word's places by the patterns alone, from place 1 on. A word in capitals has those of its capitals.
+-- The values that patterns give a word's places, from place 1 on. A word in capitals has those of its capitals.
 abbrev pub values_by : AnyDictionary → List ℕ → List ℕ
 values_by (of.Standard standard) word = values (entries_of_keys standard) word
 values_by (of.Extended extended) word = values (entries_of_keys extended) word

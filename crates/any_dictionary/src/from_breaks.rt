@@ -13,9 +13,14 @@ use std::alloc::{AllocError, Global};
 /// A dictionary of either kind returns it by [`AnyDictionary::collect_breaks`](crate::AnyDictionary::collect_breaks).
 ///
 /// ```text
+/// ghost use Rattle.std.specs.Prelude.{⊤};
+///
+/// #[derive(Drop)]
 /// struct Marked(String);
 ///
 /// impl FromBreaks for Marked {
+///     ghost is_of = { λ _ _. ⊤ }; // or what callers have to know of the value
+///
 ///     fn from_breaks<B: Break>(alloc: Global, word: &Word<'_, B>) -> Result<Marked, AllocError> {
 ///         let mut text = String::new(alloc);
 ///         push_marked(&mut text, word, "-")?;

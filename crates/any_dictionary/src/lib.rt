@@ -11,10 +11,10 @@
 //! ```
 #![tactic(auto)]
 
-ghost use Rattle.std.specs.Prelude.{◌≡◌, [], List, ℕ, IsTrue, IsUtf8, IfErr, IfOk, IfSome, OnErr, OnOk, not};
+ghost use Rattle.std.specs.Prelude.{◌≡◌, [], List, ℕ, IsTrue, IsUtf8, IfErr, IfOk, IfSome, OnErr, OnOk, map, not};
 ghost use Rattle.std.specs.Io.KnownBytes.{IsAtEnd};
 ghost use Rattle.std.specs.String.{string_bytes};
-ghost use Rattle.hyphenation_breaks.specs.Break.{ascend_on};
+ghost use Rattle.hyphenation_breaks.specs.Break.{ascend_on, plain_break};
 ghost use Rattle.hyphenation_grammar.specs.Judging.{refusal_of};
 ghost use Rattle.hyphenation_hyphenator.specs.Hyphenated.{hyphenated_text};
 ghost use Rattle.hyphenation_hyphenator.specs.Opportunities.{Ascending};
@@ -39,9 +39,8 @@ use hyphenation_grammar::form::Kind;
 use hyphenation_hyphenator::text::hyphenated_text;
 use hyphenation_load::{Load, Result as LoadResult};
 use hyphenation_reader::edits::apply_edit;
-use hyphenation_segments::Word;
 pub use kinds::kind_of;
-use places::{all_breaks_fit, put_breaks, put_places, with_all_breaks, with_unchanged};
+use places::{all_breaks_fit, put_breaks, put_places, put_plain_places};
 use std::alloc::{AllocError, Global};
 use std::io::Read;
 use values::{extended_values, standard_values};
@@ -235,27 +234,6 @@ impl AnyDictionary {
         }
     }
 
-    /// Returns a word as written, with the breaks that change no letters.
-    ///
-    /// A soft hyphen can mark no other break, since letters change only where a line ends. An error says that memory
-    /// was refused.
-    ///
-    /// ```text
-    /// let word = dictionary.with_plain_breaks(alloc, "Hyphenation")?;      // word.breaks: 2, 6, 7
-    /// ```
-    pub fn with_plain_breaks<'t>(
-        &self,
-        alloc: Global,
-        word: &'t str,
-    ) -> Result<Word<'t, usize>, AllocError>
-        ensures text { IfOk result (λ w. w.text.now ≡ word.now) }
-        ensures places { IfOk result (λ w. w.breaks.items ≡ places_by self.now word.now) }
-    {
-        match self {
-            AnyDictionary::Standard(standard) => with_all_breaks(alloc, standard, word),
-            AnyDictionary::Extended(extended) => with_unchanged(alloc, extended, word),
-        }
-    }
     /// Puts the places of all breaks of a word as written into a list, in place of what it held.
     ///
     /// A caller with many words keeps one list: a standard dictionary takes memory only for it. The only error is out
@@ -281,6 +259,32 @@ impl AnyDictionary {
         }
     }
 
+    /// Puts the places of the breaks of a word as written that change no letters into a list, in place of what it held.
+    ///
+    /// A soft hyphen can mark no other break, since letters change only where a line ends. A caller with many words keeps
+    /// one list, as for [`places_into`](AnyDictionary::places_into). The only error is out of memory, and what the list
+    /// then holds is not said.
+    ///
+    /// ```text
+    /// let mut places = Vec::new(alloc);
+    /// dictionary.plain_places_into(alloc, "Hyphenation", &mut places)?;      // 2, 6, 7
+    /// ```
+    #[inline(always)]
+    pub fn plain_places_into(
+        &self,
+        alloc: Global,
+        word: &str,
+        places: &mut Vec<usize>,
+    ) -> Result<(), AllocError>
+        ensures places { OnOk result (places.new.items ≡ places_by self.now word.now) }
+        ensures fit { OnOk result (Fits word.now (map plain_break places.new.items)) }
+    {
+        match self {
+            AnyDictionary::Standard(standard) => put_breaks(standard, word, places),
+            AnyDictionary::Extended(extended) => put_plain_places(alloc, extended, word, places),
+        }
+    }
+
     /// Returns a value made of a word as written with all its breaks. The only error is out of memory.
     ///
     /// Breaks of a standard dictionary have another type than those of an extended one. So the type that is asked for is
@@ -298,9 +302,9 @@ impl AnyDictionary {
         }
     }
 
-    /// Returns the values of a word's places by the patterns alone, from place 1 on.
+    /// Returns the values that patterns give a word's places, from place 1 on.
     ///
-    /// The word is taken as it is written: capitals are not made small, and neither exceptions nor minima play a part. The
+    /// The word is taken as it is written: capitals are not made small, and neither exceptions nor minima count. The
     /// only error is out of memory.
     ///
     /// ```text

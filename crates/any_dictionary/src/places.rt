@@ -1,7 +1,7 @@
 //! The breaks of words by a dictionary of one kind, and their places.
 
 ghost use Rattle.std.specs.Prelude.{◌≡◌, [], List, ℕ, IsTrue, IsUtf8, IfOk, OnErr, OnOk, map};
-ghost use Rattle.hyphenation_breaks.specs.Break.{Break, ascend_on};
+ghost use Rattle.hyphenation_breaks.specs.Break.{Break, ascend_on, plain_break};
 ghost use Rattle.hyphenation_hyphenator.specs.Opportunities.{Ascending};
 ghost use Rattle.hyphenation_segments.specs.Fits.{Fits};
 ghost use Rattle.any_dictionary.specs.Dictionaries.{plain_places};
@@ -9,7 +9,6 @@ ghost use Rattle.any_dictionary.specs.Dictionaries.{plain_places};
 use hyphenation_breaks::breaks::Break;
 use hyphenation_hyphenator::hyphenator::Hyphenator;
 use hyphenation_hyphenator::hyphenator::laws::plain_breaks_fit_where_ascending;
-use hyphenation_segments::Word;
 use std::alloc::{AllocError, Global};
 
 // Gives proofs that the breaks of a dictionary fit every word, and those without a change ascend on it.
@@ -22,47 +21,6 @@ pub(crate) fn all_breaks_fit<'h, H: Hyphenator<'h>>(dictionary: &H)
     dictionary.breaks_fit();
 }
 
-// Returns a word with its breaks, where none changes letters. It takes no second list.
-pub(crate) fn with_all_breaks<'h, 't, H: Hyphenator<'h, Opportunity = usize>>(
-    alloc: Global,
-    dictionary: &'h H,
-    word: &'t str,
-) -> Result<Word<'t, usize>, AllocError>
-    ensures text { IfOk result (λ w. w.text.now ≡ word.now) }
-    ensures places { IfOk result (λ w. w.breaks.items ≡ plain_places (H.breaks_of dictionary.now word.now)) }
-{
-    dictionary.hyphenate(alloc, word)
-}
-
-// Returns a word with the breaks that change nothing.
-pub(crate) fn with_unchanged<'h, 't, H: Hyphenator<'h>>(
-    alloc: Global,
-    dictionary: &'h H,
-    word: &'t str,
-) -> Result<Word<'t, usize>, AllocError>
-    ensures text { IfOk result (λ w. w.text.now ≡ word.now) }
-    ensures places { IfOk result (λ w. w.breaks.items ≡ plain_places (H.breaks_of dictionary.now word.now)) }
-{
-    plain_breaks_fit_where_ascending();
-    all_breaks_fit(dictionary);
-    let breaks = dictionary.breaks(alloc, word)?;
-    let places = plain_places(alloc, &breaks)?;
-    Ok(Word::new(word, places))
-}
-
-// Returns the places of the breaks that change nothing.
-fn plain_places<B: Break>(alloc: Global, breaks: &[B]) -> Result<Vec<usize>, AllocError>
-    ensures { IfOk result (λ places. places.items ≡ plain_places (map B.meaning breaks.now)) }
-{
-    let mut places = Vec::new(alloc);
-    for b in breaks {
-        if !b.changed() {
-            places.push(b.place())?;
-        }
-    }
-    Ok(places)
-}
-
 // Puts the places of the breaks of a word into a list, in place of what it held, where no break changes letters. It takes
 // no second list.
 #[inline(always)]
@@ -72,6 +30,8 @@ pub(crate) fn put_breaks<'h, H: Hyphenator<'h, Opportunity = usize>>(
     places: &mut Vec<usize>,
 ) -> Result<(), AllocError>
     ensures places { OnOk result (places.new.items ≡ map (λ b. b.place) (H.breaks_of dictionary.now word.now)) }
+    ensures plain { OnOk result (places.new.items ≡ plain_places (H.breaks_of dictionary.now word.now)) }
+    ensures fit { OnOk result (Fits word.now (map plain_break places.new.items)) }
     ensures empty_on_error { OnErr result (places.new.items ≡ []) }
 {
     dictionary.breaks_into(word, places)
@@ -108,4 +68,33 @@ pub(crate) fn put_places<'h, H: Hyphenator<'h>>(
             Err(e)
         }
     }
+}
+
+// Puts the places of the breaks that change no letters into a list, in place of what it held.
+fn plain_places_of<B: Break>(breaks: &[B], places: &mut Vec<usize>) -> Result<(), AllocError>
+    ensures { OnOk result (places.new.items ≡ plain_places (map B.meaning breaks.now)) }
+{
+    places.clear();
+    for b in breaks {
+        if !b.changed() {
+            places.push(b.place())?;
+        }
+    }
+    Ok(())
+}
+
+// Puts the places of the breaks of a word that change no letters into a list, in place of what it held.
+pub(crate) fn put_plain_places<'h, H: Hyphenator<'h>>(
+    alloc: Global,
+    dictionary: &'h H,
+    word: &str,
+    places: &mut Vec<usize>,
+) -> Result<(), AllocError>
+    ensures plain { OnOk result (places.new.items ≡ plain_places (H.breaks_of dictionary.now word.now)) }
+    ensures fit { OnOk result (Fits word.now (map plain_break places.new.items)) }
+{
+    plain_breaks_fit_where_ascending();
+    all_breaks_fit(dictionary);
+    let breaks = dictionary.breaks(alloc, word)?;
+    plain_places_of(&breaks, places)
 }

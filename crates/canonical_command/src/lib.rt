@@ -141,7 +141,7 @@ fn put_in_order<F: NamedFiles, I: Read, O: Write>(
 /// if no dictionary is named.
 ///
 /// ```text
-/// answer(&rt, rt.alloc(), &["en-us.txt"], &[], &mut rt.stdin(), &mut rt.stdout(), &mut errors)
+/// answer(&rt, rt.alloc(), &["en-us.txt"], &[], &mut rt.stdin(), &mut rt.stdout(), &mut errors)    // 0
 /// ```
 pub fn answer<F: NamedFiles, I: Read, O: Write, E: Write>(
     files: &F,

@@ -4,32 +4,23 @@ use Rattle.std.specs.Prelude.{codes, is_some, option_map, position}
 use Rattle.std.specs.List.{list_all, prefix_len}
 use Rattle.std.specs.Option.{option_map_or}
 use Rattle.std.proofs.Math.Seq.{take-append_seam, drop-append-add}
-use Rattle.std.proofs.lemmas.Bool.{and_right, cond-true, cond-false}
+use Rattle.std.proofs.lemmas.Bool.{and_right, cond-true, cond-false, and_parts}
 use Rattle.std.proofs.lemmas.Bool.Decides.{nat_tests}
 use Rattle.std.proofs.lemmas.List.{length-append}
 use Rattle.hyphenation_grammar.specs.Lines.{is_same}
 use Rattle.command_line.specs.Options.{is_operand, name_in, value_in}
 
--- Both parts of a conjunction.
-pub both : (a b : Bool) → (a && b) ≡ true → (a ≡ true) × (b ≡ true)
-both true b e = (refl, e)
-both false b e = absurd (true≢false (sym e))
-
-pub not_true : (a : Bool) → not a ≡ true → a ≡ false
-not_true true e = absurd (true≢false (sym e))
-not_true false e = refl
-
 -- A name without `=` is read to its end.
 to_sign : (name value : List ℕ) → list_all (λ b. not (b == 61)) name ≡ true → prefix_len (λ b. not (b == 61)) (name ++ (codes "=" ++ value)) ≡ length name
 to_sign [] value e = refl
 to_sign (b ∷ name) value e =
-    let two = both (not (b == 61)) (list_all (λ b. not (b == 61)) name) e in
+    let two = and_parts (not (b == 61)) (list_all (λ b. not (b == 61)) name) e in
     cond-true _ _ _ two.0 ∙ ap (λ n. 1 + n) (to_sign name value two.1) ∙ grind arith
 
 to_end : (name : List ℕ) → list_all (λ b. not (b == 61)) name ≡ true → prefix_len (λ b. not (b == 61)) name ≡ length name
 to_end [] e = refl
 to_end (b ∷ name) e =
-    let two = both (not (b == 61)) (list_all (λ b. not (b == 61)) name) e in
+    let two = and_parts (not (b == 61)) (list_all (λ b. not (b == 61)) name) e in
     cond-true _ _ _ two.0 ∙ ap (λ n. 1 + n) (to_end name two.1) ∙ grind arith
 
 pub sign_in_joined : (name value : List ℕ) → list_all (λ b. not (b == 61)) name ≡ true

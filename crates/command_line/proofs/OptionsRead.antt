@@ -3,14 +3,14 @@ use Rattle.std.proofs.Common.{◌≡◌, ℕ, ◌&&◌, ◌||◌, Bool, true, fa
 use Rattle.std.specs.Prelude.{codes, is_none, is_ok, Result, Ok, Err}
 use Rattle.std.specs.List.{filter, list_all}
 use Rattle.std.specs.Option.{option_map_or}
-use Rattle.std.proofs.lemmas.Bool.{cond-true, cond-false}
+use Rattle.std.proofs.lemmas.Bool.{cond-true, cond-false, and_parts, not-true}
 use Rattle.std.proofs.lemmas.List.{append_assoc, append-nil}
 use Rattle.hyphenation_grammar.specs.Lines.{is_same}
 use Rattle.command_line.specs.Options.{ReadArguments, RefusedArgument, refused, Any, OperandsAlone, is_operand, form_of, name_in, value_in, with_given, with_operand, with_option, with_option_if_known, with_argument, after_step, read_after}
 use Rattle.command_line.specs.OptionLaws.{ValuesJoin, OperandsFollowDashes, OperandsAreRead, OptionsMove, OperandsAreKept, stands_alone}
 use Rattle.command_line.specs.declared.options.OptionForm.{OptionForm}
 use Rattle.command_line.specs.declared.options.Expected.TheVariants.{KnownOption, NoValue}
-use Rattle.command_line.proofs.OptionTexts.{both, not_true, name_in_name, value_in_name, name_in_joined, value_in_joined, joined_is_no_operand, joined_is_not_dashes, operand_is_not_dashes}
+use Rattle.command_line.proofs.OptionTexts.{name_in_name, value_in_name, name_in_joined, value_in_joined, joined_is_no_operand, joined_is_not_dashes, operand_is_not_dashes}
 
 as_option : (forms : List OptionForm) (so_far : ReadArguments) (text : List ℕ) → is_same text (codes "--") ≡ false → is_operand text ≡ false
     → with_argument forms so_far Any text ≡ with_option_if_known so_far (form_of forms (name_in text)) text
@@ -29,12 +29,12 @@ value_next forms so_far (Some form) name text value rest takes none some =
 
 pub values_join : ValuesJoin
 values_join forms so_far name value rest fits takes =
-    let parts = both _ _ fits in
-    let others = both _ _ parts.1 in
-    let option : is_operand name ≡ false = not_true _ parts.0 in
+    let parts = and_parts _ _ fits in
+    let others = and_parts _ _ parts.1 in
+    let option : is_operand name ≡ false = not-true _ parts.0 in
     let bare = others.1 in
     let text = name ++ (codes "=" ++ value) in
-    ap (after_step (λ step. read_after forms step.0 step.1 (value ∷ rest))) (as_option forms so_far name (not_true _ others.0) option)
+    ap (after_step (λ step. read_after forms step.0 step.1 (value ∷ rest))) (as_option forms so_far name (not-true _ others.0) option)
     ∙ ap (λ n. after_step (λ step. read_after forms step.0 step.1 (value ∷ rest)) (with_option_if_known so_far (form_of forms n) name)) (name_in_name name bare)
     ∙ value_next forms so_far (form_of forms name) name text value rest takes (value_in_name name bare) (value_in_joined name value bare)
     ∙ sym (ap (after_step (λ step. read_after forms step.0 step.1 rest)) (as_option forms so_far text (joined_is_not_dashes name value option) (joined_is_no_operand name value option))
@@ -58,7 +58,7 @@ operands_read : (forms : List OptionForm) (so_far : ReadArguments) (args : List 
     → read_after forms so_far Any args ≡ Ok (record so_far { operands = so_far.operands ++ args })
 operands_read forms so_far [] all = ap (λ all. Ok (record so_far { operands = all })) (sym (append-nil so_far.operands))
 operands_read forms so_far (text ∷ args) all =
-    let two = both _ _ all in
+    let two = and_parts _ _ all in
     ap (after_step (λ step. read_after forms step.0 step.1 args)) (as_operand forms so_far text two.0)
     ∙ operands_read forms (with_operand so_far text) args two.1
     ∙ ap (λ all. Ok (record so_far { operands = all })) (append_assoc so_far.operands (text ∷ []) args)
@@ -103,10 +103,10 @@ option_if_known_moves forms so_far operand text rest (Some form) fits alone = op
 
 pub options_move : OptionsMove
 options_move forms so_far operand option rest fits alone =
-    let parts = both _ _ alone in
-    let others = both _ _ parts.1 in
+    let parts = and_parts _ _ alone in
+    let others = and_parts _ _ parts.1 in
     let step : (so_far : ReadArguments) → with_argument forms so_far Any option ≡ with_option_if_known so_far (form_of forms (name_in option)) option =
-    λ so_far. as_option forms so_far option (not_true _ others.0) (not_true _ parts.0) in
+    λ so_far. as_option forms so_far option (not-true _ others.0) (not-true _ parts.0) in
     ap (after_step (λ step. read_after forms step.0 step.1 (option ∷ rest))) (as_operand forms so_far operand fits)
     ∙ ap (after_step (λ step. read_after forms step.0 step.1 rest)) (step (with_operand so_far operand))
     ∙ option_if_known_moves forms so_far operand option rest (form_of forms (name_in option)) fits others.1
@@ -161,17 +161,17 @@ argument_keeps forms so_far text rest read keeps either h = by (is_operand text)
         ∙ ap (λ all. so_far.operands ++ all) (sym (cond-true _ _ _ e))
     by false e =
         let alone : stands_alone forms text ≡ true = sym (ap (λ b. b || stands_alone forms text) e) ∙ either in
-        let parts = both _ _ alone in
-        let others = both _ _ parts.1 in
+        let parts = and_parts _ _ alone in
+        let others = and_parts _ _ parts.1 in
         option_if_known_keeps forms so_far text rest read (form_of forms (name_in text)) keeps others.1
-        (sym (ap (after_step (λ step. read_after forms step.0 step.1 rest)) (as_option forms so_far text (not_true _ others.0) e)) ∙ h)
+        (sym (ap (after_step (λ step. read_after forms step.0 step.1 rest)) (as_option forms so_far text (not-true _ others.0) e)) ∙ h)
         ∙ ap (λ all. so_far.operands ++ all) (sym (cond-false _ _ _ e))
 
 all_keep : (forms : List OptionForm) (args : List (List ℕ)) (read : ReadArguments) → list_all (λ text. is_operand text || stands_alone forms text) args ≡ true
     → Keeps forms args read
 all_keep forms [] read all = λ so_far h. sym (ap operands_or_none h) ∙ sym (append-nil so_far.operands)
 all_keep forms (text ∷ args) read all =
-    let two = both _ _ all in
+    let two = and_parts _ _ all in
     λ so_far h. argument_keeps forms so_far text args read (all_keep forms args read two.1) two.0 h
 
 pub operands_are_kept : OperandsAreKept

@@ -8,8 +8,8 @@ use Rattle.hyphenation_load.specs.Load.{AppendsTo}
 abbrev pub version_line : List ℕ → List ℕ → List ℕ
 version_line name version = name ++ (codes " " ++ (version ++ codes "\n"))
 
--- The text that the arguments ask for: the line of name and version for the one argument `--version`, the usage for the one
--- argument `--help`, else none.
+-- The text that the arguments ask for. The one argument `--version` asks for the line of name and version, the one argument
+-- `--help` for the usage, and others for none.
 abbrev pub help_or_version : List ℕ → List ℕ → List ℕ → List (Bor (List ℕ)) → Option (List ℕ)
 help_or_version name version usage (arg ∷ []) =
     if is_same arg.now (codes "--version") then Some (version_line name version)

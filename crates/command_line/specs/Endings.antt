@@ -12,7 +12,7 @@ abbrev pub Tells : {W : Type 0} → (W → Option (List ℕ)) → Messages W →
 Tells contents old new text =
     new.is_whole ≡ true → (old.is_whole ≡ true) × AppendsTo contents old.writer new.writer text
 
--- This text was added after all that was told since some earlier messages.
+-- This text was added after all messages since some earlier ones.
 abbrev pub TellsMore : {W : Type 0} → (W → Option (List ℕ)) → Messages W → Messages W → List ℕ → Type 0
 TellsMore {W} contents old new text =
     (first : Messages W) (before : List ℕ) → Tells contents first old before → Tells contents first new (before ++ text)

@@ -16,10 +16,10 @@ fn variable<R: Env + AllocGlobal>(rt: &R, name: &str) -> Result<String, AllocErr
 
 /// Returns the folders in which dictionaries are searched, in their order.
 ///
-/// First come those of the environment variable `HYPHENATION_PATH`, apart by colons. Then comes the user's: `hyphenation`
-/// in `XDG_DATA_HOME`, or else `.local/share/hyphenation` in `HOME`. Then come `/usr/local/share/hyphenation` and
-/// `/usr/share/hyphenation`. So the folder to which `languages/make` writes is among them. A variable that is not UTF-8
-/// counts as one that is not there. The error says that memory was refused.
+/// First come those of the environment variable `HYPHENATION_PATH`, separated by colons. Then comes the user's:
+/// `hyphenation` in `XDG_DATA_HOME`, or else `.local/share/hyphenation` in `HOME`. Then come
+/// `/usr/local/share/hyphenation` and `/usr/share/hyphenation`. So the folder to which `hyphenate-languages` writes is
+/// among them. A variable that is not UTF-8 is ignored. The error says that memory was refused.
 pub fn default_folders<R: Env + AllocGlobal>(rt: &R) -> Result<Vec<String>, AllocError> {
     let path = variable(rt, "HYPHENATION_PATH")?;
     let data = variable(rt, "XDG_DATA_HOME")?;

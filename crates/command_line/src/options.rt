@@ -107,7 +107,7 @@ enum Next {
     Any,
     // The value of the option of that name.
     ValueOf(&'static str),
-    // Operands alone.
+    // Only operands.
     OperandsAlone,
 }
 
@@ -221,7 +221,7 @@ impl<'w> Reader<'w> {
         }
     }
 
-    // Takes an option, if there is such a form.
+    // Takes an option, if there is a form of that name.
     fn take_option_if_known(
         &mut self,
         forms: &[OptionForm],

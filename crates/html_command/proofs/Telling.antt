@@ -1,4 +1,4 @@
--- Lines that are told one after the other.
+-- Lines that are written to standard error, one after the other.
 use Rattle.std.proofs.Common.{◌∙◌, ℕ, ◌+◌, ◌<◌, List, [], ap, get_or, length, subst, sym, take}
 use Rattle.std.proofs.lemmas.List.{flat_map_more, take_more}
 use Rattle.std.specs.List.{flat_map}
@@ -6,7 +6,7 @@ use Rattle.std.specs.Prelude.{Option}
 use Rattle.command_line.specs.Endings.{Tells, TellsMore}
 use Rattle.command_line.specs.declared.messages.Messages.{Messages}
 
--- One line more is told.
+-- One line more is written.
 pub told_more : {W X : Type 0} (contents : W → Option (List ℕ)) (first old new : Messages W) (line : X → List ℕ) (items : List X) (i : ℕ) (d : X)
     → i < length items → Tells contents first old (flat_map line (take i items)) → TellsMore contents old new (line (get_or items i d))
     → Tells contents first new (flat_map line (take (i + 1) items))

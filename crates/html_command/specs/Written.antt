@@ -34,9 +34,10 @@ HasSettingsOf options settings = (settings.mark.now ≡ options.mark) × (settin
     × (settings.min_word ≡ options.min_word) × (settings.skip_capitals ≡ options.skip_capitals)
 
 -- The text of a result is the page with the mark at each break of its words, by some dictionaries. Their languages begin
--- with those of the arguments. They are those of the paths that the arguments give, and then those that the folders have for
+-- with those of the arguments. First come those of the paths that the arguments give. Then come those of the folders, for
 -- the language of the arguments and for those that the page names. Without the marks it is the page, byte for byte. With
--- soft hyphens it is done: read in the form of the page, no place is left. The note says why there is no dictionary.
+-- soft hyphens it is done: read again as a page, it names the same languages and stays as it is. The note says why there is
+-- no dictionary.
 pub record IsHyphenatedPage (options : ParsedOptions) (bytes_of : KnownFiles) (usual : List (List ℕ)) (page : List ℕ) (result : MarkedPage) : Type 0 where
   pub settings : Settings
   pub dictionaries : List LanguageDictionary

@@ -26,6 +26,15 @@ use run::run;
 use std::alloc::Global;
 use std::io::{Read, Write};
 
+/// A call of the program: its arguments, and the folders in which dictionaries are searched that no path names.
+#[derive(Clone, Copy)]
+pub struct Call<'w> {
+    /// The arguments.
+    pub args: &'w [&'w str],
+    /// The folders.
+    pub folders: &'w [&'w str],
+}
+
 /// The name of the program.
 pub const NAME: &str = "hyphenate-html";
 
@@ -58,32 +67,47 @@ pub fn usage_names_options()
     ensures { names_options USAGE.now (map (λ option. option.0) option_names) ≡ true }
 {}
 
-// Does what arguments ask for, by the forms of the options, and returns the status to end with.
+// A call, and by what its arguments are read: the expectation of a value of `--lang`, and the forms of the options.
+#[derive(Clone, Copy)]
+struct Reading<'w> {
+    args: &'w [&'w str],
+    folders: &'w [&'w str],
+    expected: &'w Expected,
+    forms: &'w [OptionForm],
+}
+
+// Does what a call asks for, and returns the status to end with.
 #[tactic(auto, using(crate::proofs::Endings::ends_done, crate::proofs::Endings::ends_by, crate::proofs::Endings::ends_refused, crate::proofs::Endings::ends_no_memory))]
 fn answer_by<F: NamedFiles, S: ReplaceFiles, I: Read, O: Write, E: Write>(
     files: &F,
     store: &mut S,
     alloc: Global,
-    expected: &Expected,
-    forms: &[OptionForm],
-    args: &[&str],
-    folders: &[&str],
+    reading: &Reading<'_>,
     input: &mut I,
     output: &mut O,
     errors: &mut Messages<E>,
 ) -> u8
-    ensures ended { EndsFor (parsed_by expected.now forms.now args.now) (F.bytes files.now) (texts_now folders.now)
-        (I.remaining input.old) (EndsBy NAME.now result (Tells E.contents errors.old errors.new))
+    ensures ended { EndsFor (parsed_by reading.now.expected.now reading.now.forms.now reading.now.args.now) (F.bytes files.now)
+        (texts_now reading.now.folders.now) (I.remaining input.old) (EndsBy NAME.now result (Tells E.contents errors.old errors.new))
         O.contents output.old output.new S.written store.old store.new }
-    ensures unread { names_files_alone (parsed_by expected.now forms.now args.now) ≡ true → input.new ≡ input.old }
+    ensures unread { names_files_alone (parsed_by reading.now.expected.now reading.now.forms.now reading.now.args.now) ≡ true
+        → input.new ≡ input.old }
     ensures untouched { BeforeOutput result (output.new ≡ output.old) }
 {
-    let request = match Request::from_args(alloc, expected, forms, args) {
+    let request = match Request::from_args(alloc, reading.expected, reading.forms, reading.args) {
         Ok(request) => request,
         Err(ReadError::Bad(bad)) => return report_bad_argument(alloc, NAME, &bad, errors),
         Err(ReadError::Memory) => return report(alloc, NAME, &Failure::Memory, errors),
     };
-    match run(files, store, alloc, &request, folders, input, output) {
+    match run(
+        files,
+        store,
+        alloc,
+        &request,
+        reading.folders,
+        input,
+        output,
+    ) {
         Ok(notes) => {
             write_notes(alloc, NAME, &request.inputs, &notes, errors);
             0
@@ -92,11 +116,11 @@ fn answer_by<F: NamedFiles, S: ReplaceFiles, I: Read, O: Write, E: Write>(
     }
 }
 
-/// Does what the arguments ask for, and returns the status to end with.
+/// Does what the arguments of a call ask for, and returns the status to end with.
 ///
 /// The pages are read by `files` and `input`. Their results go to `output`, one after the other, or into files that
 /// `store` replaces. All of them are made before the first byte is written. Dictionaries that the arguments don't give are
-/// searched in `folders`, for each page those of the languages that it names.
+/// searched in the folders of the call, for each page those of the languages that it names.
 ///
 /// | Status | When |
 /// |---|---|
@@ -112,33 +136,36 @@ fn answer_by<F: NamedFiles, S: ReplaceFiles, I: Read, O: Write, E: Write>(
 /// unless the status is 0, or the output can't be written. Standard input is read only if it is one of the pages.
 ///
 /// ```text
-/// let args = ["--in-place", "--lang", "en=en-us.txt", "chapter.html"];
-/// answer(&rt, &mut &rt, rt.alloc(), &args, &[], &mut rt.stdin(), &mut rt.stdout(), &mut errors)
+/// let call = Call { args: &["--in-place", "--lang", "en=en-us.txt", "chapter.html"], folders: &[] };
+/// answer(&rt, &mut &rt, rt.alloc(), &call, &mut rt.stdin(), &mut rt.stdout(), &mut errors)    // 0
 /// ```
 #[tactic(auto, using(crate::proofs::Endings::parsed_ends))]
 pub fn answer<F: NamedFiles, S: ReplaceFiles, I: Read, O: Write, E: Write>(
     files: &F,
     store: &mut S,
     alloc: Global,
-    args: &[&str],
-    folders: &[&str],
+    call: &Call<'_>,
     input: &mut I,
     output: &mut O,
     errors: &mut Messages<E>,
 ) -> u8
-    ensures help { WritesHelp NAME.now VERSION.now USAGE.now args.now (Some result) O.contents output.old output.new }
-    ensures ended { EndsUnlessAsked args.now (F.bytes files.now) (texts_now folders.now) I.remaining input.old input.new
+    ensures help { WritesHelp NAME.now VERSION.now USAGE.now call.now.args.now (Some result) O.contents output.old output.new }
+    ensures ended { EndsUnlessAsked call.now.args.now (F.bytes files.now) (texts_now call.now.folders.now) I.remaining input.old input.new
         (EndsBy NAME.now result (Tells E.contents errors.old errors.new)) O.contents output.old output.new
         S.written store.old store.new }
-    ensures quiet { is_some (asked_text args.now) ≡ true → errors.new ≡ errors.old }
+    ensures quiet { is_some (asked_text call.now.args.now) ≡ true → errors.new ≡ errors.old }
     ensures untouched { BeforeOutput result (output.new ≡ output.old) }
 {
-    if let Some(status) = write_help_or_version(NAME, USAGE, args, output) {
+    if let Some(status) = write_help_or_version(NAME, USAGE, call.args, output) {
         return status;
     }
     let expected = language_form();
     let forms = option_forms();
-    answer_by(
-        files, store, alloc, &expected, &forms, args, folders, input, output, errors,
-    )
+    let reading = Reading {
+        args: call.args,
+        folders: call.folders,
+        expected: &expected,
+        forms: &forms,
+    };
+    answer_by(files, store, alloc, &reading, input, output, errors)
 }

@@ -46,7 +46,7 @@ value_ends tag value i false false true true lt e n = one_ends tag i lt
 value_ends tag value i false false true false lt e n = none_ends tag (i + 1)
 value_ends tag value i false was false unquoted lt e n = absurd (cc n)
 
--- what is told after i bytes
+-- the result after i bytes
 pub record Read (form : Form) (tag : List ℕ) (found : List Attribute) (state : State) (name value : List ℕ) (i : ℕ) : Type 0 where
   pub told : found ++ attributes_from form state name value (drop i tag) ≡ attributes_of form tag
   pub name_at : IsTrue (is_name state) → EndsAt tag name i

@@ -6,6 +6,9 @@ pub mod AttributeSteps
 pub mod WholePages
 pub mod Limits
 pub mod OtherTexts
+pub mod RootTags
+pub mod Declarations
+pub mod SameForm
 pub mod QuietBytes
 pub mod QuietSteps
 pub mod LanguageSteps
@@ -13,3 +16,7 @@ pub mod NumberSteps
 pub mod ReadSteps
 pub mod ValueSteps
 pub mod WordsWithin
+pub mod FirstEnds
+pub mod Comments
+pub mod GrammarSteps
+pub mod GrammarPages

@@ -197,7 +197,7 @@ in_text : (form : Form) (foreign : Bool) (front : List ℕ) (b : ℕ) → ends_t
 unfolding next
 in_text form foreign front b e = goes_if (is_continuation b) (ends_text b) e
 
-no_continuation : (b : ℕ) → is_continuation b ≡ true → ends_text b ≡ false
+pub no_continuation : (b : ℕ) → is_continuation b ≡ true → ends_text b ≡ false
 no_continuation b e = grind (arith, nat_tests)
 
 went_if : (c e : Bool) (after : State) → (c ≡ true → e ≡ false) → (if c then Some Data else if e then None else Some Data) ≡ Some after → (after ≡ Data) × (e ≡ false)
@@ -238,7 +238,7 @@ abbrev IsSome : List ℕ → Type 0
 IsSome [] = ⊥
 IsSome (b ∷ bs) = Unit {0}
 
-plain_more : (front : List ℕ) (b : ℕ) → IsPlain front → ends_text b ≡ false → IsPlain (front ++ b ∷ [])
+pub plain_more : (front : List ℕ) (b : ℕ) → IsPlain front → ends_text b ≡ false → IsPlain (front ++ b ∷ [])
 plain_more [] b p e = (e, tt)
 plain_more (x ∷ front) b p e = (p.0, plain_more front b p.1 e)
 

@@ -49,7 +49,7 @@ begins_anew form depth page start i state le lt e =
     ∙ pieces_anew form depth state (slice_range page start i) (get_or page i 0) (drop (i + 1) page) e
     ∙ ap (λ front. piece state (slice_range page start i) ∷ pieces_from form (depth_after depth state (slice_range page start i)) (begin (content_after form (nat_lt 0 depth) state (slice_range page start i)) (get_or page i 0)) front (drop (i + 1) page)) (sym (slice_one page i lt))
 
--- what is told after i bytes: with what is still to come the pieces are those of the page
+-- the result after i bytes: with what is still to come the pieces are those of the page
 pub record Told (form : Form) (page : List ℕ) (pieces : List Piece) (depth : ℕ) (state : State) (start i : ℕ) : Type 0 where
   pub told : pieces ++ pieces_from form depth state (slice_range page start i) (drop i page) ≡ pieces_of form page
   pub started : start < i

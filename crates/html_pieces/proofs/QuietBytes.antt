@@ -33,7 +33,7 @@ plain_byte b e = record {
   dash = grind (arith, nat_tests);
 }
 
-past_if : {A : Type 0} (c : Bool) (x y z : A) → c ≡ false → y ≡ z → (if c then x else y) ≡ z
+pub past_if : {A : Type 0} (c : Bool) (x y z : A) → c ≡ false → y ≡ z → (if c then x else y) ≡ z
 past_if true x y z e f = cc
 past_if false x y z e f = f
 
@@ -52,7 +52,7 @@ no_name_end false true greater c e f g = cc
 no_name_end false false true c e f g = cc
 no_name_end false false false c e f g = refl
 
-no_dash : (dash c d : Bool) → dash ≡ false → dash && c && d ≡ false
+pub no_dash : (dash c d : Bool) → dash ≡ false → dash && c && d ≡ false
 no_dash true c d e = cc
 no_dash false c d e = refl
 

@@ -15,14 +15,14 @@ use Rattle.html_pieces.proofs.PieceSteps.{none_means, first_byte, after_piece}
 front_utf8 : (front rest : List ℕ) → IsUtf8 (front ++ rest) → IsCharBoundary (front ++ rest) (length front) → IsUtf8 front
 front_utf8 front rest u b = subst IsUtf8 (take-append_seam front rest) (IsUtf8-take (front ++ rest) (length front) u b)
 
-rest_utf8 : (front rest : List ℕ) → IsUtf8 (front ++ rest) → IsCharBoundary (front ++ rest) (length front) → IsUtf8 rest
+pub rest_utf8 : (front rest : List ℕ) → IsUtf8 (front ++ rest) → IsCharBoundary (front ++ rest) (length front) → IsUtf8 rest
 rest_utf8 front rest u b = subst IsUtf8 (drop-append_seam front rest) (IsUtf8-drop (front ++ rest) (length front) u b)
 
-at_seam : (front : List ℕ) (b : ℕ) (bs : List ℕ) → get_or (front ++ b ∷ bs) (length front) 0 ≡ b
+pub at_seam : (front : List ℕ) (b : ℕ) (bs : List ℕ) → get_or (front ++ b ∷ bs) (length front) 0 ≡ b
 at_seam [] b bs = refl
 at_seam (x ∷ front) b bs = at_seam front b bs
 
-seam_boundary : (front : List ℕ) (b : ℕ) (bs : List ℕ) → (128 ≤ b → 192 ≤ b) → IsCharBoundary (front ++ b ∷ bs) (length front)
+pub seam_boundary : (front : List ℕ) (b : ℕ) (bs : List ℕ) → (128 ≤ b → 192 ≤ b) → IsCharBoundary (front ++ b ∷ bs) (length front)
 seam_boundary front b bs first =
     let n : length (front ++ b ∷ bs) ≡ length front + length (b ∷ bs) = length-append front (b ∷ bs) in
     let here = at_seam front b bs in
@@ -35,7 +35,7 @@ join_cases : (form : Form) (depth : ℕ) (state : State) (front : List ℕ) (b :
 join_cases form depth state front b bs None on anew = ap (λ xs. front ++ xs) anew
 join_cases form depth state front b bs (Some after) on anew = on after ∙ append_assoc front (b ∷ []) bs
 
-pieces_join : (form : Form) (depth : ℕ) (state : State) (front bs : List ℕ) → joined_pieces (pieces_from form depth state front bs) ≡ front ++ bs
+pub pieces_join : (form : Form) (depth : ℕ) (state : State) (front bs : List ℕ) → joined_pieces (pieces_from form depth state front bs) ≡ front ++ bs
 pieces_join form depth state front [] = refl
 pieces_join form depth state front (b ∷ bs) =
     join_cases form depth state front b bs (state_after form (nat_lt 0 depth) state front b) (λ after. pieces_join form depth after (front ++ b ∷ []) bs)

@@ -1,5 +1,6 @@
 -- Kinds of bytes, by the names of the Infra Standard (4.6, Code points), and names compared without regard to ASCII case.
 use Rattle.std.specs.Prelude.{ℕ, ◌==◌, ◌||◌, ◌&&◌, Bool, true, false, List, map, nat_le, nat_lt, nat_eq}
+use Rattle.std.specs.List.{list_any}
 use Rattle.std.specs.Char.{to_ascii_lowercase}
 use Rattle.std.specs.Cmp.Lexicographic.{pointwise}
 use Rattle.html_pieces.specs.declared.bytes.Form.{Form}
@@ -33,6 +34,10 @@ ends_name b = is_white_space b || b == 47 || b == 62
 -- ASCII case-insensitive match.
 unfoldable pub is_same_name : List ℕ → List ℕ → Bool
 is_same_name a b = pointwise nat_eq (map to_ascii_lowercase a) (map to_ascii_lowercase b)
+
+-- The name is one of some, in HTML.
+abbrev pub is_one_of : List (List ℕ) → List ℕ → Bool
+is_one_of names name = list_any (λ other. is_same_name name other) names
 
 -- The name of a tag begins with a letter. In XML (1.0, 2.3, NameStartChar) it may also begin with ':', '_', or a character
 -- past U+00BF.

@@ -1,14 +1,14 @@
 -- Which elements are open at a text, its language, and whether it is left alone.
--- Source: HTML Living Standard, 3.2.6.2 (lang and xml:lang), 3.2.6.3 (translate), 13.1.2.4 (optional tags), 13.2.4.2 (the
+-- Source: HTML Living Standard, 3.2.6.2 (lang and xml:lang), 3.2.6.3 (translate); 13.1.2.4 (optional tags), 13.2.4.2 (the
 -- stack of open elements), 13.2.6 (tree construction). Simpler than the standard: an end tag of a formatting element, as
--- `b`, closes all in that element too, and none is opened anew in the next paragraph.
+-- `b`, closes all in that element too. None is opened anew in the next paragraph.
 use Rattle.std.specs.Prelude.{◌≡◌, ℕ, ◌-◌, ◌==◌, ◌||◌, ◌&&◌, Bool, true, false, not, List, [], ◌∷◌, ◌++◌, length, map, reverse, codes, nat_eq, nat_lt, Option, Some, None, if◌then◌else◌}
 use Rattle.std.specs.Option.{is_some, unwrap_or, option_map_or}
 use Rattle.std.specs.Cmp.Lexicographic.{pointwise}
-use Rattle.html_pieces.specs.Bytes.{is_white_space, is_same_name, is_same_in, is_xml}
+use Rattle.html_pieces.specs.Bytes.{is_white_space, is_same_name, is_same_in, is_one_of, is_xml}
 use Rattle.html_pieces.specs.Names.{name_of, is_foreign_root}
 use Rattle.html_pieces.specs.Pieces.{Piece}
-use Rattle.html_pieces.specs.Groups.{is_one_of, group_of, is_void, ends, stops, bounds, is_root, is_heading}
+use Rattle.html_pieces.specs.Groups.{group_of, is_void, ends, stops, bounds, is_root, is_heading}
 use Rattle.html_pieces.specs.References.{read_value}
 use Rattle.html_pieces.specs.Tags.{Attribute, attributes_of, value_of}
 use Rattle.html_pieces.specs.declared.bytes.Form.{Form}
@@ -127,7 +127,7 @@ language_value form attributes =
 abbrev pub language_of : Form → List Attribute → List ℕ → List ℕ
 language_of form attributes around = option_map_or language_by (language_value form attributes) around
 
--- The group of an element that begins. Groups are for HTML alone.
+-- The group of an element that begins. Only HTML has groups.
 abbrev pub group_in : Form → Bool → List ℕ → Group
 group_in form foreign name = if is_xml form || foreign then Ordinary else group_of name
 

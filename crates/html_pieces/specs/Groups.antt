@@ -1,15 +1,10 @@
 -- Elements grouped by what they end where their end tags are left out. In HTML an element may end where another one begins.
--- Source: HTML Living Standard, 13.1.2 (void elements), 13.1.2.4 (optional tags), 13.2.4.2 (scopes of open elements), 13.2.6.4.4
+-- Source: HTML Living Standard, 13.1.2 (void elements), 13.1.2.4 (optional tags), 13.2.4.2 (scopes of open elements); 13.2.6.4.4
 -- and 13.2.6.4.7 to 16 (the start tags that close open elements).
 use Rattle.std.specs.Prelude.{ℕ, Bool, true, false, not, List, [], ◌∷◌, codes, if◌then◌else◌}
-use Rattle.std.specs.List.{list_any}
-use Rattle.html_pieces.specs.Bytes.{is_same_name}
+use Rattle.html_pieces.specs.Bytes.{is_same_name, is_one_of}
 use Rattle.html_pieces.specs.declared.groups.Group.{Group}
 use Rattle.html_pieces.specs.declared.groups.Group.TheVariants.{Ordinary, Formatting, Paragraph, Division, Heading, Listing, Block, Rule, Item, Term, Choice, Choices, Ruby, Cell, Row, Rows, Caption, Columns, Column, Table, Scope, Root, Head, HeadContent, HeadVoid, Template, Void}
-
--- The name is one of some, in HTML.
-abbrev pub is_one_of : List (List ℕ) → List ℕ → Bool
-is_one_of names name = list_any (λ other. is_same_name name other) names
 
 -- Sections, and what is around them. Their start tags end a paragraph: "close a p element".
 abbrev pub section_names : List (List ℕ)

@@ -9,4 +9,5 @@ pub mod Forms
 pub mod Languages
 pub mod Readings
 pub mod Laws
+pub mod Grammar
 pub mod Private

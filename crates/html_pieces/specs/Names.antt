@@ -23,7 +23,7 @@ raw_end_tag Iframe = codes "</iframe"
 raw_end_tag Noembed = codes "</noembed"
 raw_end_tag Noframes = codes "</noframes"
 
--- The elements whose start tag leaves the data state (13.2.6.4.4 The "in head" insertion mode, 13.2.6.4.7 "in body").
+-- The elements whose start tag leaves the data state. (13.2.6.4.4 The "in head" insertion mode, 13.2.6.4.7 "in body".)
 unfoldable pub raw_element : List ℕ → Option RawElement
 raw_element name =
     if is_same_name name (codes "script") then Some Script

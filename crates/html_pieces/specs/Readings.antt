@@ -1,20 +1,20 @@
 -- How far a page is read alike by all parsers: those of HTML with scripting on and off, and for XML those of XML too.
 -- Source: HTML Living Standard, 13.2.4.1 (the insertion mode), 13.2.5 and 13.2.6; Extensible Markup Language 1.0, 2.4 to 2.8.
 -- From the first piece on that may be read otherwise without the whole tree, the page is uncertain up to its end.
-use Rattle.std.specs.Prelude.{ℕ, ◌-◌, ◌==◌, ◌||◌, ◌&&◌, Bool, true, false, not, List, [], ◌∷◌, length, take, codes, nat_eq, nat_lt, Option, Some, None, if◌then◌else◌}
+use Rattle.std.specs.Prelude.{ℕ, ◌-◌, ◌==◌, ◌||◌, ◌&&◌, Bool, true, false, not, List, [], ◌∷◌, length, take, drop, codes, nat_eq, nat_lt, Option, Some, None, if◌then◌else◌}
 use Rattle.std.specs.Option.{is_some, option_map_or}
 use Rattle.std.specs.List.{starts_with, ends_with}
 use Rattle.std.specs.Cmp.Lexicographic.{pointwise}
-use Rattle.html_pieces.specs.Bytes.{is_white_space, is_alpha, is_same_name, is_xml}
+use Rattle.html_pieces.specs.Bytes.{is_white_space, is_alpha, is_same_name, is_one_of, is_xml}
 use Rattle.html_pieces.specs.Names.{name_of, raw_element, raw_end_tag, is_foreign_root}
 use Rattle.html_pieces.specs.Forms.{after_order_mark, is_start}
 use Rattle.html_pieces.specs.Pieces.{Piece, is_script}
 use Rattle.html_pieces.specs.References.{has_ampersand}
-use Rattle.html_pieces.specs.Groups.{is_one_of, heading_names, ends, stops, bounds, is_table_part, is_heading, is_root, is_special, is_void}
+use Rattle.html_pieces.specs.Groups.{heading_names, ends, stops, bounds, is_table_part, is_heading, is_root, is_special, is_void}
 use Rattle.html_pieces.specs.Elements.{Element, as_elements, innermost, before_new, elements_by, group_by, depth_limit}
 use Rattle.html_pieces.specs.declared.bytes.Form.{Form}
 use Rattle.html_pieces.specs.declared.groups.Group.{Group}
-use Rattle.html_pieces.specs.declared.groups.Group.TheVariants.{Ordinary, Formatting, Paragraph, Division, Heading, Listing, Block, Rule, Item, Term, Choice, Choices, Ruby, Cell, Row, Rows, Caption, Columns, Column, Table, Scope, Root, Head, HeadContent, HeadVoid, Template, Void}
+use Rattle.html_pieces.specs.declared.groups.Group.TheVariants.{Ordinary, Formatting, Paragraph, Heading, Block, Item, Term, Choice, Choices, Ruby, Cell, Row, Rows, Caption, Columns, Column, Table, Scope, Root, Head, HeadContent, HeadVoid, Template}
 use Rattle.html_pieces.specs.declared.readings.Phase.{Phase}
 use Rattle.html_pieces.specs.declared.readings.Phase.TheVariants as reached
 use Rattle.html_pieces.specs.declared.readings.Reading as declared
@@ -95,11 +95,16 @@ is_doctype bytes = begins_with_word (codes "<!doctype") bytes
 abbrev pub is_html_doctype : List ℕ → Bool
 is_html_doctype bytes = is_same_name bytes (codes "<!doctype html>")
 
+-- "--!>" is somewhere in bytes. It ends a comment only in HTML.
+abbrev pub has_odd_end : List ℕ → Bool
+has_odd_end [] = false
+has_odd_end (b ∷ bs) = starts_with nat_eq (b ∷ bs) (codes "--!>") || has_odd_end bs
+
 -- A comment that ends in HTML where it does in XML.
 abbrev pub is_comment_alike : List ℕ → Bool
 is_comment_alike bytes =
     not (starts_with nat_eq bytes (codes "<!-->")) && not (starts_with nat_eq bytes (codes "<!--->"))
-    && not (ends_with nat_eq bytes (codes "--!>"))
+    && not (has_odd_end (drop 4 bytes))
 
 -- A piece that is neither text nor tag ends in HTML where it does in XML, outside of raw text. A "<" that begins nothing in
 -- HTML may begin a tag in XML.
@@ -356,8 +361,8 @@ abbrev pub is_content_alike : Element → List ℕ → Bool
 is_content_alike around name =
     not (around.is_in_drawing && is_read_raw name) && not (around.is_in_noscript && is_same_name name (codes "noscript"))
 
--- The end tag of a formatting element around an element of a group may put its text elsewhere, where a language is named
--- between the two. (13.2.6.4.7, the adoption agency algorithm.)
+-- The end tag of a formatting element around an element of a group may put its text elsewhere. It counts where a language is
+-- named between the two. (13.2.6.4.7, the adoption agency algorithm.)
 abbrev pub may_be_adopted : Element → Group → List ℕ → Bool
 may_be_adopted within new name =
     within.is_altered && not within.is_in_drawing && is_special new && not (is_void new) && not (is_foreign_root name)

@@ -1,5 +1,5 @@
 -- Character references in the values of attributes.
--- Source: HTML Living Standard, 13.2.5.72 (Character reference state) to 13.2.5.80 (Numeric character reference end state),
+-- Source: HTML Living Standard, 13.2.5.72 (Character reference state) to 13.2.5.80 (Numeric character reference end state);
 -- and 13.5 (Named character references). A named one is read where it names one character of ASCII.
 use Rattle.std.specs.Prelude.{ℕ, zero, suc, ◌+◌, ◌-◌, ◌==◌, ◌||◌, ◌&&◌, Bool, true, false, List, [], ◌∷◌, ◌++◌, codes, length, map, take_while, slice_index, nat_eq, nat_le, nat_lt, Option, Some, None, if◌then◌else◌}
 use Rattle.std.specs.Option.{option_map, option_map_or}
@@ -69,7 +69,7 @@ number_at (b ∷ bs) = if b == 120 || b == 88 then digits_at true 2 bs else digi
 
 -- ---- named references
 
--- A name is this one; capitals and small letters are told apart.
+-- A name is this one, capital for capital.
 abbrev pub is_named : List ℕ → List ℕ → Bool
 is_named name other = pointwise nat_eq name other
 

@@ -1,8 +1,8 @@
 //! The form of a page, kinds of bytes, and names.
 
-ghost use Rattle.std.specs.Prelude.{◌≡◌};
+ghost use Rattle.std.specs.Prelude.{◌≡◌, map};
 ghost use Rattle.html_pieces.specs.Bytes.{is_white_space, is_alpha, is_alphanumeric, is_continuation, ends_name};
-ghost use Rattle.html_pieces.specs.Bytes.{is_same_name, is_xml, is_name_start, is_same_in};
+ghost use Rattle.html_pieces.specs.Bytes.{is_same_name, is_xml, is_name_start, is_same_in, is_one_of};
 
 /// The form of a page.
 #[derive(Clone, Copy, Debug, PartialEq, Eq)]
@@ -57,11 +57,36 @@ pub const fn ends_name(byte: u8) -> bool
     is_white_space(byte) || byte == b'/' || byte == b'>'
 }
 
-/// Reports whether two names are one, where ASCII capitals and small letters are alike.
-pub fn is_same_name(a: &[u8], b: &[u8]) -> bool
+// Reports whether two names of one length are one.
+fn is_same_by_letters(a: &[u8], b: &[u8]) -> bool
     ensures { result ≡ is_same_name a.now b.now }
 {
     a.eq_ignore_ascii_case(b)
+}
+
+/// Reports whether two names are one, where ASCII capitals and small letters are alike.
+// It is laid into its callers: most names differ in length, and there that of one name is known.
+#[inline(always)]
+pub fn is_same_name(a: &[u8], b: &[u8]) -> bool
+    ensures { result ≡ is_same_name a.now b.now }
+{
+    if a.len() != b.len() {
+        return false;
+    }
+    is_same_by_letters(a, b)
+}
+
+/// Reports whether a name is one of a table, where ASCII capitals and small letters are alike.
+#[inline]
+pub fn is_one_of(name: &[u8], table: &[&[u8]]) -> bool
+    ensures { result ≡ is_one_of (map (λ other. other.now) table.now) name.now }
+{
+    for other in table {
+        if is_same_name(name, other) {
+            return true;
+        }
+    }
+    false
 }
 
 /// Reports whether a byte begins the name of a tag.

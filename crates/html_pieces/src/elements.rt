@@ -2,18 +2,18 @@
 
 ghost use Rattle.std.specs.Prelude.{◌≡◌, ◌≤◌, ◌&&◌, ◌||◌, ◌++◌, ◌∷◌, [], map, take, length, IfOk, OnOk, OnErr};
 ghost use Rattle.std.specs.Option.{option_map};
-ghost use Rattle.html_pieces.specs.Groups.{is_one_of};
 ghost use Rattle.html_pieces.specs.References.{read_value};
 ghost use Rattle.html_pieces.specs.Tags.{as_attribute};
-ghost use Rattle.html_pieces.specs.Elements.{as_element, as_elements, left_alone_names, integration_names};
+ghost use Rattle.html_pieces.specs.Bytes.{is_one_of};
+ghost use Rattle.html_pieces.specs.Elements.{as_element, as_elements};
 ghost use Rattle.html_pieces.specs.Elements.{has_word, has_class, translated_by, is_translated, value_of_either};
 ghost use Rattle.html_pieces.specs.Elements.{language_value, held_language, language_by, language_of};
 ghost use Rattle.html_pieces.specs.Elements.{is_formatting, names_other, group_in, holds_foreign, opened, innermost, before_new, closed_as};
-ghost use Rattle.html_pieces.specs.Elements.{begun_as, is_closed_by_slash, group_by, Passes};
+ghost use Rattle.html_pieces.specs.Elements.{begun_as, is_closed_by_slash, group_by, left_alone_names, Passes};
 ghost use Rattle.html_pieces.specs.Pieces.{as_piece};
 ghost use Rattle.html_pieces.specs.Elements.{page_element};
 
-use crate::bytes::{Form, is_same_in, is_same_name, is_white_space};
+use crate::bytes::{Form, is_one_of, is_same_in, is_same_name, is_white_space};
 use crate::groups::{Group, bounds, ends, group_of, is_heading, is_root, is_void, stops};
 use crate::references::{has_ampersand, read, read_plain};
 use crate::tags::{Attribute, attributes, value_of};
@@ -49,53 +49,13 @@ pub struct Element<'t> {
     pub is_left_alone: bool,
 }
 
-/// A value of more bytes is taken for a language as it is written.
+// A value of more bytes is taken for a language as it is written.
 const LONGEST_LANGUAGE: usize = 256;
 
-/// The number of open elements that are looked at, the innermost ones.
+// The number of open elements that are looked at, the innermost ones.
 pub(crate) const DEPTH_LIMIT: usize = 512;
 
-/// Whether an element of this name is one whose text is left as it is.
-fn is_left_alone(name: &[u8]) -> bool
-    ensures { result ≡ is_one_of left_alone_names name.now }
-{
-    is_same_name(name, b"code")
-        || is_same_name(name, b"iframe")
-        || is_same_name(name, b"kbd")
-        || is_same_name(name, b"listing")
-        || is_same_name(name, b"math")
-        || is_same_name(name, b"noembed")
-        || is_same_name(name, b"noframes")
-        || is_same_name(name, b"noscript")
-        || is_same_name(name, b"option")
-        || is_same_name(name, b"plaintext")
-        || is_same_name(name, b"pre")
-        || is_same_name(name, b"samp")
-        || is_same_name(name, b"script")
-        || is_same_name(name, b"style")
-        || is_same_name(name, b"svg")
-        || is_same_name(name, b"template")
-        || is_same_name(name, b"textarea")
-        || is_same_name(name, b"title")
-        || is_same_name(name, b"tt")
-        || is_same_name(name, b"var")
-        || is_same_name(name, b"xmp")
-}
-
-fn is_integration_point(name: &[u8]) -> bool
-    ensures { result ≡ is_one_of integration_names name.now }
-{
-    is_same_name(name, b"desc")
-        || is_same_name(name, b"foreignObject")
-        || is_same_name(name, b"mi")
-        || is_same_name(name, b"mn")
-        || is_same_name(name, b"mo")
-        || is_same_name(name, b"ms")
-        || is_same_name(name, b"mtext")
-        || is_same_name(name, b"title")
-}
-
-/// Reports whether `word` is one of the words of `text` between white space.
+// Reports whether `word` is one of the words of `text` between white space.
 fn has_word(word: &[u8], text: &[u8]) -> bool
     ensures { result ≡ has_word word.now text.now }
 {
@@ -111,7 +71,7 @@ fn has_word(word: &[u8], text: &[u8]) -> bool
     &text[start..] == word
 }
 
-/// Whether a value, when it is read, has this class among its words.
+// Whether a value, when it is read, has this class among its words.
 fn has_class_in(alloc: Global, class: &[u8], value: &[u8]) -> Result<bool, AllocError>
     ensures { IfOk result (λ has. has ≡ has_word class.now (read_value value.now)) }
 {
@@ -123,7 +83,7 @@ fn has_class_in(alloc: Global, class: &[u8], value: &[u8]) -> Result<bool, Alloc
     }
 }
 
-/// Whether attributes give a class of this name.
+// Whether attributes give a class of this name.
 fn has_class(
     alloc: Global,
     form: Form,
@@ -138,7 +98,7 @@ fn has_class(
     }
 }
 
-/// Whether text may be translated by a value that has been read, or else as around.
+// Whether text may be translated by a value that has been read, or else as around.
 fn translated_by(around: bool, value: &[u8]) -> bool
     ensures { result ≡ translated_by around value.now }
 {
@@ -151,7 +111,7 @@ fn translated_by(around: bool, value: &[u8]) -> bool
     }
 }
 
-/// Whether text may be translated by a value as it is written, or else as around.
+// Whether text may be translated by a value as it is written, or else as around.
 fn translated_in(alloc: Global, around: bool, value: &[u8]) -> Result<bool, AllocError>
     ensures { IfOk result (λ is. is ≡ translated_by around (read_value value.now)) }
 {
@@ -163,7 +123,7 @@ fn translated_in(alloc: Global, around: bool, value: &[u8]) -> Result<bool, Allo
     }
 }
 
-/// Whether text may be translated by attributes, or else by those around.
+// Whether text may be translated by attributes, or else by those around.
 fn is_translated(
     alloc: Global,
     form: Form,
@@ -178,7 +138,7 @@ fn is_translated(
     }
 }
 
-/// The value of the first of two names that an attribute has.
+// The value of the first of two names that an attribute has.
 fn value_of_either<'t>(
     form: Form,
     name: &[u8],
@@ -193,7 +153,7 @@ fn value_of_either<'t>(
     }
 }
 
-/// The value that names the language.
+// The value that names the language.
 pub(crate) fn language_value<'t>(form: Form, attributes: &[Attribute<'t>]) -> Option<&'t [u8]>
     ensures { option_map (λ value. value.now) result ≡ language_value form (map as_attribute attributes.now) }
 {
@@ -204,14 +164,14 @@ pub(crate) fn language_value<'t>(form: Form, attributes: &[Attribute<'t>]) -> Op
     }
 }
 
-/// A language as it is written, whose references, if it may have some, are read when it is asked for.
+// A language as it is written, whose references, if it may have some, are read when it is asked for.
 #[derive(Clone, Copy)]
 pub(crate) struct Language<'t> {
     pub(crate) written: &'t [u8],
     pub(crate) has_references: bool,
 }
 
-/// The language that a value names, whose references are read.
+// The language that a value names, whose references are read.
 fn language_read(value: &[u8]) -> Language<'_>
     ensures { held_language result.has_references result.written.now ≡ read_value value.now }
 {
@@ -221,7 +181,7 @@ fn language_read(value: &[u8]) -> Language<'_>
     }
 }
 
-/// The language that a value names.
+// The language that a value names.
 pub(crate) fn language_by(value: &[u8]) -> Language<'_>
     ensures { held_language result.has_references result.written.now ≡ language_by value.now }
 {
@@ -235,7 +195,7 @@ pub(crate) fn language_by(value: &[u8]) -> Language<'_>
     }
 }
 
-/// The language that attributes name, or else the one around.
+// The language that attributes name, or else the one around.
 fn language_of<'t>(form: Form, attributes: &[Attribute<'t>], around: Element<'t>) -> Language<'t>
     ensures { held_language result.has_references result.written.now
         ≡ language_of form (map as_attribute attributes.now) (as_element around.entry).language }
@@ -249,7 +209,7 @@ fn language_of<'t>(form: Form, attributes: &[Attribute<'t>], around: Element<'t>
     }
 }
 
-/// The group of an element that begins or ends.
+// The group of an element that begins or ends.
 fn group_in(form: Form, foreign: bool, name: &[u8]) -> Group
     ensures { result ≡ group_in form foreign name.now }
 {
@@ -266,35 +226,79 @@ const fn is_formatting(group: Group) -> bool
     matches!(group, Group::Formatting)
 }
 
-/// Whether attributes name a language, or whether the text may be translated.
+// Whether attributes name a language, or whether the text may be translated.
 fn names_other(form: Form, attributes: &[Attribute<'_>]) -> bool
     ensures { result ≡ names_other form (map as_attribute attributes.now) }
 {
     language_value(form, attributes).is_some() || value_of(form, attributes, b"translate").is_some()
 }
 
-/// Whether an element is a formatting element, or is in one.
+// Whether an element is a formatting element, or is in one.
 fn is_in_formatting(around: bool, group: Group) -> bool
     ensures { result ≡ (around || is_formatting group) }
 {
     around || is_formatting(group)
 }
 
-/// Whether a language or `translate` is named from a formatting element on, by an element or one around it.
+// Whether a language or `translate` is named from a formatting element on, by an element or one around it.
 fn is_altered(form: Form, in_formatting: bool, around: bool, attributes: &[Attribute<'_>]) -> bool
     ensures { result ≡ (in_formatting && (around || names_other form (map as_attribute attributes.now))) }
 {
     in_formatting && (around || names_other(form, attributes))
 }
 
-/// Whether the content of an element is SVG or MathML.
+// Elements of SVG and MathML whose content is HTML.
+const INTEGRATION_NAMES: [&[u8]; 8] = [
+    b"desc",
+    b"foreignObject",
+    b"mi",
+    b"mn",
+    b"mo",
+    b"ms",
+    b"mtext",
+    b"title",
+];
+
+// Whether the content of an element is SVG or MathML.
 fn holds_foreign(foreign: bool, name: &[u8]) -> bool
     ensures { result ≡ holds_foreign foreign name.now }
 {
-    (foreign || is_foreign_root(name)) && !is_integration_point(name)
+    (foreign || is_foreign_root(name)) && !is_one_of(name, &INTEGRATION_NAMES)
 }
 
-/// The element that a start tag opens.
+// Elements whose text is left as it is.
+const LEFT_ALONE_NAMES: [&[u8]; 21] = [
+    b"code",
+    b"iframe",
+    b"kbd",
+    b"listing",
+    b"math",
+    b"noembed",
+    b"noframes",
+    b"noscript",
+    b"option",
+    b"plaintext",
+    b"pre",
+    b"samp",
+    b"script",
+    b"style",
+    b"svg",
+    b"template",
+    b"textarea",
+    b"title",
+    b"tt",
+    b"var",
+    b"xmp",
+];
+
+// Whether the text of an element of this name is left as it is.
+fn is_left_alone_name(name: &[u8]) -> bool
+    ensures { result ≡ is_one_of left_alone_names name.now }
+{
+    is_one_of(name, &LEFT_ALONE_NAMES)
+}
+
+// The element that a start tag opens.
 #[tactic(auto, unfolding(crate::specs::Elements::opened))]
 fn opened<'t>(
     alloc: Global,
@@ -308,7 +312,7 @@ fn opened<'t>(
     let attributes = attributes(alloc, form, tag)?;
     let name = name_of(tag);
     let has_class = has_class(alloc, form, class, &attributes)?;
-    let is_apart = around.is_apart || is_left_alone(name) || has_class;
+    let is_apart = around.is_apart || is_left_alone_name(name) || has_class;
     let is_translated = is_translated(alloc, form, &attributes, around.is_translated)?;
     let language = language_of(form, &attributes, around);
     let group = group_in(form, around.is_foreign, name);
@@ -330,7 +334,7 @@ fn opened<'t>(
     })
 }
 
-/// The number of elements that stay open where one of a group begins.
+// The number of elements that stay open where one of a group begins.
 #[tactic(auto, using(crate::proofs::Limits::kept_at_limit))]
 pub(crate) fn before_new(elements: &[Element<'_>], new: Group) -> usize
     ensures kept { as_elements (take result elements.now) ≡ before_new new (as_elements elements.now) }
@@ -354,7 +358,7 @@ pub(crate) fn before_new(elements: &[Element<'_>], new: Group) -> usize
     kept
 }
 
-/// The number of elements that stay open after an end tag.
+// The number of elements that stay open after an end tag.
 fn around_first(form: Form, elements: &[Element<'_>], name: &[u8], tag: Group) -> usize
     ensures kept { as_elements (take result elements.now) ≡ closed_as form name.now tag (as_elements elements.now) }
     ensures within { result ≤ length elements.now }
@@ -391,7 +395,7 @@ pub fn innermost<'t>(page: Element<'t>, elements: &[Element<'t>]) -> Element<'t>
     }
 }
 
-/// Puts an element after the first ones of a list, in place of those after them.
+// Puts an element after the first ones of a list, in place of those after them.
 fn put_after<'t>(
     nest: &mut Vec<Element<'t>>,
     kept: usize,
@@ -410,7 +414,7 @@ fn put_after<'t>(
     Ok(())
 }
 
-/// Opens the element of a start tag, and closes those that it ends.
+// Opens the element of a start tag, and closes those that it ends.
 fn begin<'t>(
     nest: &mut Vec<Element<'t>>,
     alloc: Global,
@@ -433,14 +437,14 @@ fn begin<'t>(
     put_after(nest, kept, element)
 }
 
-/// Whether a tag with `/>` opens no element.
+// Whether a tag with `/>` opens no element.
 fn is_closed_by_slash(form: Form, foreign: bool, name: &[u8]) -> bool
     ensures { result ≡ is_closed_by_slash form foreign name.now }
 {
     form.is_xml() || foreign || is_foreign_root(name)
 }
 
-/// The group of the element that a tag begins or ends, within another one.
+// The group of the element that a tag begins or ends, within another one.
 pub(crate) fn group_by(form: Form, around: Element<'_>, piece: Piece<'_>) -> Group
     ensures { result ≡ group_by form (as_element around.entry) piece.entry.kind piece.entry.text.now }
 {
@@ -452,10 +456,10 @@ pub(crate) fn group_by(form: Form, around: Element<'_>, piece: Piece<'_>) -> Gro
     }
 }
 
-/// Opens and closes elements of `nest`, as a piece says whose element is of a group.
-///
-/// The text of elements with the class `class` is left as it is. The only error is that memory was refused; `nest` is
-/// then unchanged.
+// Opens and closes elements of `nest`, as a piece says whose element is of a group.
+//
+// The text of elements with the class `class` is left as it is. The only error is that memory was refused; `nest` is
+// then unchanged.
 pub(crate) fn pass<'t>(
     nest: &mut Vec<Element<'t>>,
     alloc: Global,

@@ -24,7 +24,7 @@ pub fn begins_with_order_mark(bytes: &[u8]) -> bool
     bytes.starts_with(b"\xef\xbb\xbf")
 }
 
-/// The bytes of a page without a byte order mark.
+// The bytes of a page without a byte order mark.
 pub(crate) fn after_order_mark(page: &[u8]) -> &[u8]
     ensures { result.now ≡ after_order_mark page.now }
 {
@@ -41,7 +41,7 @@ fn begins_with_declaration(page: &[u8]) -> bool
     page.starts_with(b"<?xml") && page.len() > 5 && is_white_space(page[5])
 }
 
-/// Reports whether a page begins with an XML declaration.
+// Reports whether a page begins with an XML declaration.
 fn has_declaration(page: &[u8]) -> bool
     ensures { result ≡ has_declaration page.now }
 {
@@ -54,7 +54,7 @@ pub(crate) const fn is_start(kind: Kind) -> bool
     matches!(kind, Kind::StartTag | Kind::EmptyTag)
 }
 
-/// The first start tag; nothing where there is none.
+// The first start tag; nothing where there is none.
 fn root_tag<'t>(pieces: &[Piece<'t>]) -> &'t [u8]
     ensures { result.now ≡ root_tag (map as_piece pieces.now) }
 {
@@ -66,7 +66,7 @@ fn root_tag<'t>(pieces: &[Piece<'t>]) -> &'t [u8]
     &[]
 }
 
-/// Reports whether a tag has the attribute `xmlns`.
+// Reports whether a tag has the attribute `xmlns`.
 fn has_namespace(alloc: Global, tag: &[u8]) -> Result<bool, AllocError>
     ensures { IfOk result (λ has. has ≡ has_namespace tag.now) }
 {

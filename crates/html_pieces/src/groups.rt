@@ -1,14 +1,13 @@
 //! Elements grouped by what they end where their end tags are left out.
 
 ghost use Rattle.std.specs.Prelude.{◌≡◌};
-ghost use Rattle.html_pieces.specs.Groups.{is_one_of, section_names, heading_names, block_names, formatting_names};
-ghost use Rattle.html_pieces.specs.Groups.{scope_names, void_names, head_void_names, head_names, group_of, is_void};
+ghost use Rattle.html_pieces.specs.Groups.{group_of, is_void};
 ghost use Rattle.html_pieces.specs.Groups.{ends_paragraph, is_in_head, is_table_part, ends_row, ends_rows};
 ghost use Rattle.html_pieces.specs.Groups.{ends_columns, ends_choice, ends_choices, ends, is_boundary};
 ghost use Rattle.html_pieces.specs.Groups.{is_passed_by_items, stops, is_table, ends_table_scope, ends_scope};
 ghost use Rattle.html_pieces.specs.Groups.{ends_item_scope, is_special, bounds, is_heading, is_root};
 
-use crate::bytes::is_same_name;
+use crate::bytes::{is_one_of, is_same_name};
 
 /// A group of elements, by the elements that they end and those that end them, where end tags are left out.
 #[derive(Clone, Copy, Debug, PartialEq, Eq)]
@@ -69,117 +68,55 @@ pub enum Group {
     Void,
 }
 
-fn is_section(name: &[u8]) -> bool
-    ensures { result ≡ is_one_of section_names name.now }
-{
-    is_same_name(name, b"article")
-        || is_same_name(name, b"aside")
-        || is_same_name(name, b"footer")
-        || is_same_name(name, b"header")
-        || is_same_name(name, b"hgroup")
-        || is_same_name(name, b"main")
-        || is_same_name(name, b"nav")
-        || is_same_name(name, b"search")
-        || is_same_name(name, b"section")
-}
+// Sections, and what is around them.
+const SECTION_NAMES: [&[u8]; 9] = [
+    b"article", b"aside", b"footer", b"header", b"hgroup", b"main", b"nav", b"search", b"section",
+];
 
-pub(crate) fn is_heading_name(name: &[u8]) -> bool
-    ensures { result ≡ is_one_of heading_names name.now }
-{
-    is_same_name(name, b"h1")
-        || is_same_name(name, b"h2")
-        || is_same_name(name, b"h3")
-        || is_same_name(name, b"h4")
-        || is_same_name(name, b"h5")
-        || is_same_name(name, b"h6")
-}
+// Headings.
+pub(crate) const HEADING_NAMES: [&[u8]; 6] = [b"h1", b"h2", b"h3", b"h4", b"h5", b"h6"];
 
-fn is_block(name: &[u8]) -> bool
-    ensures { result ≡ is_one_of block_names name.now }
-{
-    is_same_name(name, b"blockquote")
-        || is_same_name(name, b"center")
-        || is_same_name(name, b"details")
-        || is_same_name(name, b"dir")
-        || is_same_name(name, b"dl")
-        || is_same_name(name, b"fieldset")
-        || is_same_name(name, b"figcaption")
-        || is_same_name(name, b"figure")
-        || is_same_name(name, b"form")
-        || is_same_name(name, b"listing")
-        || is_same_name(name, b"menu")
-        || is_same_name(name, b"plaintext")
-        || is_same_name(name, b"pre")
-        || is_same_name(name, b"summary")
-        || is_same_name(name, b"xmp")
-}
+// The other elements that end a paragraph, without those of a group of their own.
+const BLOCK_NAMES: [&[u8]; 15] = [
+    b"blockquote",
+    b"center",
+    b"details",
+    b"dir",
+    b"dl",
+    b"fieldset",
+    b"figcaption",
+    b"figure",
+    b"form",
+    b"listing",
+    b"menu",
+    b"plaintext",
+    b"pre",
+    b"summary",
+    b"xmp",
+];
 
-fn is_formatting(name: &[u8]) -> bool
-    ensures { result ≡ is_one_of formatting_names name.now }
-{
-    is_same_name(name, b"a")
-        || is_same_name(name, b"b")
-        || is_same_name(name, b"big")
-        || is_same_name(name, b"code")
-        || is_same_name(name, b"em")
-        || is_same_name(name, b"font")
-        || is_same_name(name, b"i")
-        || is_same_name(name, b"nobr")
-        || is_same_name(name, b"s")
-        || is_same_name(name, b"small")
-        || is_same_name(name, b"strike")
-        || is_same_name(name, b"strong")
-        || is_same_name(name, b"tt")
-        || is_same_name(name, b"u")
-}
+// Formatting elements.
+const FORMATTING_NAMES: [&[u8]; 14] = [
+    b"a", b"b", b"big", b"code", b"em", b"font", b"i", b"nobr", b"s", b"small", b"strike",
+    b"strong", b"tt", b"u",
+];
 
-fn is_scope(name: &[u8]) -> bool
-    ensures { result ≡ is_one_of scope_names name.now }
-{
-    is_same_name(name, b"applet")
-        || is_same_name(name, b"button")
-        || is_same_name(name, b"marquee")
-        || is_same_name(name, b"math")
-        || is_same_name(name, b"object")
-        || is_same_name(name, b"select")
-        || is_same_name(name, b"svg")
-}
+// Elements with a scope of their own.
+const SCOPE_NAMES: [&[u8]; 7] = [
+    b"applet", b"button", b"marquee", b"math", b"object", b"select", b"svg",
+];
 
-fn is_void_name(name: &[u8]) -> bool
-    ensures { result ≡ is_one_of void_names name.now }
-{
-    is_same_name(name, b"area")
-        || is_same_name(name, b"br")
-        || is_same_name(name, b"embed")
-        || is_same_name(name, b"frame")
-        || is_same_name(name, b"img")
-        || is_same_name(name, b"input")
-        || is_same_name(name, b"keygen")
-        || is_same_name(name, b"param")
-        || is_same_name(name, b"source")
-        || is_same_name(name, b"track")
-        || is_same_name(name, b"wbr")
-}
+// Void elements, without those of a group of their own.
+const VOID_NAMES: [&[u8]; 11] = [
+    b"area", b"br", b"embed", b"frame", b"img", b"input", b"keygen", b"param", b"source", b"track",
+    b"wbr",
+];
 
-fn is_head_void_name(name: &[u8]) -> bool
-    ensures { result ≡ is_one_of head_void_names name.now }
-{
-    is_same_name(name, b"base")
-        || is_same_name(name, b"basefont")
-        || is_same_name(name, b"bgsound")
-        || is_same_name(name, b"link")
-        || is_same_name(name, b"meta")
-}
+// Void elements that a head may have.
+const HEAD_VOID_NAMES: [&[u8]; 5] = [b"base", b"basefont", b"bgsound", b"link", b"meta"];
 
-fn is_head_name(name: &[u8]) -> bool
-    ensures { result ≡ is_one_of head_names name.now }
-{
-    is_same_name(name, b"noframes")
-        || is_same_name(name, b"noscript")
-        || is_same_name(name, b"script")
-        || is_same_name(name, b"style")
-        || is_same_name(name, b"title")
-}
+// The other elements that a head may have.
+const HEAD_NAMES: [&[u8]; 5] = [b"noframes", b"noscript", b"script", b"style", b"title"];
 
 /// Returns the group of the elements of a name.
 #[tactic(auto, unfolding(crate::specs::Groups::group_of))]
@@ -228,23 +165,23 @@ pub fn group_of(name: &[u8]) -> Group
         Group::Root
     } else if is_same_name(name, b"template") {
         Group::Template
-    } else if is_void_name(name) {
+    } else if is_one_of(name, &VOID_NAMES) {
         Group::Void
-    } else if is_head_void_name(name) {
+    } else if is_one_of(name, &HEAD_VOID_NAMES) {
         Group::HeadVoid
-    } else if is_head_name(name) {
+    } else if is_one_of(name, &HEAD_NAMES) {
         Group::HeadContent
-    } else if is_scope(name) {
+    } else if is_one_of(name, &SCOPE_NAMES) {
         Group::Scope
-    } else if is_section(name) {
+    } else if is_one_of(name, &SECTION_NAMES) {
         Group::Block
-    } else if is_heading_name(name) {
+    } else if is_one_of(name, &HEADING_NAMES) {
         Group::Heading
     } else if is_same_name(name, b"ol") || is_same_name(name, b"ul") {
         Group::Listing
-    } else if is_block(name) {
+    } else if is_one_of(name, &BLOCK_NAMES) {
         Group::Block
-    } else if is_formatting(name) {
+    } else if is_one_of(name, &FORMATTING_NAMES) {
         Group::Formatting
     } else {
         Group::Ordinary

@@ -16,7 +16,7 @@ use crate::tokenizer::Piece;
 use std::alloc::{AllocError, Global};
 use std::collections::BTreeSet;
 
-/// The language that a piece names.
+// The language that a piece names.
 fn language_named<'t>(
     alloc: Global,
     form: Form,
@@ -34,7 +34,7 @@ fn language_named<'t>(
     }
 }
 
-/// Appends a text to the languages so far, and adds it to the set of them.
+// Appends a text to the languages so far, and adds it to the set of them.
 fn push_new(
     all: &mut Vec<String>,
     set: &mut BTreeSet<String>,
@@ -50,7 +50,7 @@ fn push_new(
     Ok(())
 }
 
-/// Appends a language to those so far, if it is there not yet.
+// Appends a language to those so far, if it is there not yet.
 fn push_language(
     all: &mut Vec<String>,
     set: &mut BTreeSet<String>,
@@ -73,7 +73,7 @@ fn push_language(
     }
 }
 
-/// Appends a language that may be named to those so far, with its references read.
+// Appends a language that may be named to those so far, with its references read.
 fn push_named(
     all: &mut Vec<String>,
     set: &mut BTreeSet<String>,

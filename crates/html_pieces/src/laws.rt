@@ -3,7 +3,9 @@
 ghost use Rattle.std.specs.Prelude.{◌≡◌, ℕ, List, IsUtf8};
 ghost use Rattle.html_pieces.specs.declared.bytes.Form.{Form};
 ghost use Rattle.html_pieces.specs.Pieces.{Piece, pieces_of};
-ghost use Rattle.html_pieces.specs.Laws.{joined_pieces, AreUtf8, HaveOtherTexts};
+ghost use Rattle.html_pieces.specs.declared.tokenizer.State.TheVariants.{Data};
+ghost use Rattle.html_pieces.specs.Grammar.{AreInGrammar};
+ghost use Rattle.html_pieces.specs.Laws.{joined_pieces, AreUtf8, HaveOtherTexts, FormStays};
 
 /// The pieces of each page join to it: nothing of it is lost.
 ///
@@ -19,6 +21,16 @@ pub fn pieces_are_utf8()
     ensures { (form : Form) (page : List ℕ) → IsUtf8 page → AreUtf8 (pieces_of form page) }
 {}
 
+/// Each piece of a page of UTF-8 is what the grammar says of its kind.
+///
+/// So a comment goes from `<!--` to the first `-->`, or in HTML `--!>`, or to the end of the page. A tag goes from `<` or
+/// `</` and the first byte of a name to `>`, and each `>` before that is in a quoted value. A raw text goes on to its end
+/// tag. A text has no `<` and no `&`, and goes on to the next of these. The grammar is in `specs/Grammar.antt`, and knows no
+/// states. It is a law of all pages, and the call does nothing.
+pub fn pieces_are_in_grammar()
+    ensures { (form : Form) (page : List ℕ) → IsUtf8 page → AreInGrammar form 0 Data (pieces_of form page) }
+{}
+
 /// A page with other texts in the places of its texts is cut into the same pieces, with these texts.
 ///
 /// The other texts have no `<` and no `&`, and begin as those of the page do, or with the first byte of U+00AD. So soft
@@ -26,4 +38,13 @@ pub fn pieces_are_utf8()
 /// does nothing.
 pub fn other_texts_are_cut_alike()
     ensures { (form : Form) (page : List ℕ) (others : List Piece) → HaveOtherTexts (pieces_of form page) others → pieces_of form (joined_pieces others) ≡ others }
+{}
+
+/// A page with other texts in the places of its texts has the form of the page.
+///
+/// The other texts are those of [`other_texts_are_cut_alike`], and a byte order mark stays. A page of XML is read alike by
+/// all parsers up to its first start tag. So HTML and XML find the same tag there, which tells the form. It is a law of all
+/// pages, and the call does nothing.
+pub fn other_texts_leave_the_form()
+    ensures { FormStays }
 {}

@@ -1,20 +1,18 @@
 //! How far a page is read alike by all parsers, whatever its tree is.
 
-ghost use Rattle.std.specs.Prelude.{◌≡◌, ◌==◌, ◌||◌, ◌&&◌, not, map, Bool, OnOk, OnErr};
+ghost use Rattle.std.specs.Prelude.{◌≡◌, ◌==◌, ◌||◌, ◌&&◌, not, drop, map, Bool, OnOk, OnErr};
 ghost use Rattle.std.specs.Option.{option_map_or};
-ghost use Rattle.html_pieces.specs.Groups.{is_one_of};
 ghost use Rattle.html_pieces.specs.Elements.{as_element, as_elements, depth_limit};
 ghost use Rattle.html_pieces.specs.Readings.{as_reading, at_start, has_text, may_be_adopted, is_read_text, is_root_start, has_late_root};
 ghost use Rattle.html_pieces.specs.Readings.{begins_with_word, mentions, begins_with_letter, has_content};
 ghost use Rattle.html_pieces.specs.Readings.{ends_at_first, quote_after, has_closed_quotes, is_doctype, is_html_doctype};
-ghost use Rattle.html_pieces.specs.Readings.{is_comment_alike, is_other_alike, is_sign, is_open, is_in_svg, is_read_raw};
+ghost use Rattle.html_pieces.specs.Readings.{has_odd_end, is_comment_alike, is_other_alike, is_sign, is_open, is_in_svg, is_read_raw};
 ghost use Rattle.html_pieces.specs.Readings.{holds_no_text, may_be_left_out, is_paragraph, is_whole_table, is_left_out_before};
-ghost use Rattle.html_pieces.specs.Readings.{ends_alike, ends_alike_from, svg_points, math_points, may_hold_html};
-ghost use Rattle.html_pieces.specs.Readings.{leaving_phrase_names, leaving_block_names, is_leaving};
-ghost use Rattle.html_pieces.specs.Readings.{is_foreign_start_alike, odd_names, is_choice, takes_content, is_template, is_head};
+ghost use Rattle.html_pieces.specs.Readings.{ends_alike, ends_alike_from, may_hold_html};
+ghost use Rattle.html_pieces.specs.Readings.{is_leaving};
+ghost use Rattle.html_pieces.specs.Readings.{is_foreign_start_alike, is_choice, takes_content, is_template, is_head};
 ghost use Rattle.html_pieces.specs.Readings.{takes_head_content, takes_cells, takes_rows, takes_row_groups, takes_columns};
 ghost use Rattle.html_pieces.specs.Readings.{is_before_root, is_before_head, is_before_body, takes_root, is_alone, is_expected};
-ghost use Rattle.html_pieces.specs.Readings.{button_names, form_names, link_names};
 ghost use Rattle.html_pieces.specs.Readings.{is_content_alike, is_html_start_alike, is_start_alike, closes_blocks, closes_cells};
 ghost use Rattle.html_pieces.specs.Readings.{closes_rows, is_left_out_in, closes_alike_from, is_passed_by, is_hidden};
 ghost use Rattle.html_pieces.specs.Readings.{is_html_end_alike, is_end_alike, is_content_here, is_odd_section, is_html_other_alike};
@@ -22,13 +20,14 @@ ghost use Rattle.html_pieces.specs.Readings.{is_html_alike, stays_raw, is_xml_st
 ghost use Rattle.html_pieces.specs.Readings.{is_xml_alike, is_in_raw_noscript, stays_in_noscript, is_alike_by, body_unless, head_from};
 ghost use Rattle.html_pieces.specs.Readings.{phase_after_start, phase_after_other, phase_after, reading_after};
 ghost use Rattle.html_pieces.specs.Readings.{standard_after_other, standard_after, is_unread, standing};
+ghost use Rattle.html_pieces.specs.Names.{name_of};
 ghost use Rattle.html_pieces.specs.Pieces.{as_piece, is_script};
 
-use crate::bytes::{Form, is_alpha, is_same_name, is_white_space};
+use crate::bytes::{Form, is_alpha, is_one_of, is_same_name, is_white_space};
 use crate::elements::{DEPTH_LIMIT, Element, before_new, group_by, innermost};
 use crate::forms::{after_order_mark, is_start};
 use crate::groups::{
-    Group, bounds, ends, is_heading, is_heading_name, is_root, is_special, is_table_part, is_void,
+    Group, HEADING_NAMES, bounds, ends, is_heading, is_root, is_special, is_table_part, is_void,
     stops,
 };
 use crate::references::has_ampersand;
@@ -88,7 +87,7 @@ fn begins_with_word(word: &[u8], bytes: &[u8]) -> bool
     }
 }
 
-/// Reports whether a word is somewhere in bytes.
+// Reports whether a word is somewhere in bytes.
 fn mentions(word: &[u8], bytes: &[u8]) -> bool
     ensures { result ≡ mentions word.now bytes.now }
 {
@@ -109,7 +108,7 @@ fn begins_with_letter(bytes: &[u8]) -> bool
     }
 }
 
-/// Reports whether a byte other than white space is in a text.
+// Reports whether a byte other than white space is in a text.
 fn has_content(text: &[u8]) -> bool
     ensures { result ≡ has_content text.now }
 {
@@ -121,14 +120,14 @@ fn has_content(text: &[u8]) -> bool
     false
 }
 
-/// Reports whether a text has more than white space after the byte order mark that it may begin with.
+// Reports whether a text has more than white space after the byte order mark that it may begin with.
 fn has_text(text: &[u8]) -> bool
     ensures { result ≡ has_text text.now }
 {
     has_content(after_order_mark(text))
 }
 
-/// Reports whether the first `>` is the last byte.
+// Reports whether the first `>` is the last byte.
 fn ends_at_first(bytes: &[u8]) -> bool
     ensures { result ≡ ends_at_first bytes.now }
 {
@@ -156,7 +155,7 @@ fn quote_after(quote: u8, byte: u8) -> u8
     }
 }
 
-/// Reports whether a document type has no part in brackets, and each of its identifiers ends before it does.
+// Reports whether a document type has no part in brackets, and each of its identifiers ends before it does.
 fn has_closed_quotes(bytes: &[u8]) -> bool
     ensures { result ≡ has_closed_quotes 0 bytes.now }
 {
@@ -184,13 +183,25 @@ fn is_html_doctype(bytes: &[u8]) -> bool
     is_same_name(bytes, b"<!doctype html>")
 }
 
+// Reports whether `--!>` is somewhere after the first four bytes of a comment.
+fn has_odd_end(comment: &[u8]) -> bool
+    ensures { result ≡ has_odd_end (drop 4 comment.now) }
+{
+    for i in 4..comment.len() {
+        if comment[i..].starts_with(b"--!>") {
+            return true;
+        }
+    }
+    false
+}
+
 fn is_comment_alike(bytes: &[u8]) -> bool
     ensures { result ≡ is_comment_alike bytes.now }
 {
-    !bytes.starts_with(b"<!-->") && !bytes.starts_with(b"<!--->") && !bytes.ends_with(b"--!>")
+    !bytes.starts_with(b"<!-->") && !bytes.starts_with(b"<!--->") && !has_odd_end(bytes)
 }
 
-/// Reports whether a piece that is neither text nor tag ends in HTML where it does in XML.
+// Reports whether a piece that is neither text nor tag ends in HTML where it does in XML.
 #[tactic(auto, unfolding(crate::specs::Readings::is_other_alike))]
 fn is_other_alike(bytes: &[u8]) -> bool
     ensures { result ≡ is_other_alike bytes.now }
@@ -206,7 +217,7 @@ fn is_other_alike(bytes: &[u8]) -> bool
     }
 }
 
-/// Reports whether a piece is only a `<`.
+// Reports whether a piece is only a `<`.
 fn is_sign(bytes: &[u8]) -> bool
     ensures { result ≡ is_sign bytes.now }
 {
@@ -215,7 +226,7 @@ fn is_sign(bytes: &[u8]) -> bool
 
 // ---- elements
 
-/// Reports whether an element of a name is open, or a heading where the name is that of one.
+// Reports whether an element of a name is open, or a heading where the name is that of one.
 fn is_open(name: &[u8], group: Group, elements: &[Element<'_>]) -> bool
     ensures { result ≡ is_open name.now group (as_elements elements.now) }
 {
@@ -231,7 +242,7 @@ fn is_open(name: &[u8], group: Group, elements: &[Element<'_>]) -> bool
     false
 }
 
-/// Reports whether the nearest drawing or formula around is a drawing.
+// Reports whether the nearest drawing or formula around is a drawing.
 fn is_in_svg(elements: &[Element<'_>]) -> bool
     ensures { result ≡ is_in_svg (as_elements elements.now) }
 {
@@ -248,7 +259,7 @@ fn is_in_svg(elements: &[Element<'_>]) -> bool
     false
 }
 
-/// Reports whether the content of an element of this name is raw text, in HTML at least with scripting on.
+// Reports whether the content of an element of this name is raw text, in HTML at least with scripting on.
 fn is_read_raw(name: &[u8]) -> bool
     ensures { result ≡ is_read_raw name.now }
 {
@@ -298,14 +309,14 @@ const fn is_whole_table(group: Group) -> bool
     matches!(group, Group::Table)
 }
 
-/// Reports whether the end tag of an open element may be left out where one of a group begins.
+// Reports whether the end tag of an open element may be left out where one of a group begins.
 const fn is_left_out_before(standard: bool, new: Group, other: Group) -> bool
     ensures { result ≡ is_left_out_before standard new other }
 {
     may_be_left_out(other) && (standard || !(is_paragraph(other) && is_whole_table(new)))
 }
 
-/// Reports whether all that an element of a group ends where it begins has end tags that may be left out.
+// Reports whether all that an element of a group ends where it begins has end tags that may be left out.
 #[tactic(auto, using(crate::proofs::Limits::so_far_at_limit))]
 fn ends_alike(standard: bool, new: Group, elements: &[Element<'_>]) -> bool
     ensures { result ≡ ends_alike standard new (as_elements elements.now) }
@@ -333,116 +344,88 @@ fn ends_alike(standard: bool, new: Group, elements: &[Element<'_>]) -> bool
 
 // ---- start tags of HTML
 
-/// Reports whether a tag of an element within a line ends SVG and MathML.
-fn is_leaving_phrase(name: &[u8]) -> bool
-    ensures { result ≡ is_one_of leaving_phrase_names name.now }
-{
-    is_same_name(name, b"b")
-        || is_same_name(name, b"big")
-        || is_same_name(name, b"br")
-        || is_same_name(name, b"code")
-        || is_same_name(name, b"em")
-        || is_same_name(name, b"embed")
-        || is_same_name(name, b"font")
-        || is_same_name(name, b"i")
-        || is_same_name(name, b"img")
-        || is_same_name(name, b"nobr")
-        || is_same_name(name, b"ruby")
-        || is_same_name(name, b"s")
-        || is_same_name(name, b"small")
-        || is_same_name(name, b"span")
-        || is_same_name(name, b"strike")
-        || is_same_name(name, b"strong")
-        || is_same_name(name, b"sub")
-        || is_same_name(name, b"sup")
-        || is_same_name(name, b"tt")
-        || is_same_name(name, b"u")
-        || is_same_name(name, b"var")
-}
+// Elements within a line whose tags end SVG and MathML.
+const LEAVING_PHRASE_NAMES: [&[u8]; 21] = [
+    b"b", b"big", b"br", b"code", b"em", b"embed", b"font", b"i", b"img", b"nobr", b"ruby", b"s",
+    b"small", b"span", b"strike", b"strong", b"sub", b"sup", b"tt", b"u", b"var",
+];
 
-/// Reports whether a tag of another element ends SVG and MathML.
-fn is_leaving_block(name: &[u8]) -> bool
-    ensures { result ≡ is_one_of leaving_block_names name.now }
-{
-    is_same_name(name, b"blockquote")
-        || is_same_name(name, b"body")
-        || is_same_name(name, b"center")
-        || is_same_name(name, b"dd")
-        || is_same_name(name, b"div")
-        || is_same_name(name, b"dl")
-        || is_same_name(name, b"dt")
-        || is_same_name(name, b"head")
-        || is_same_name(name, b"hr")
-        || is_same_name(name, b"li")
-        || is_same_name(name, b"listing")
-        || is_same_name(name, b"menu")
-        || is_same_name(name, b"meta")
-        || is_same_name(name, b"ol")
-        || is_same_name(name, b"p")
-        || is_same_name(name, b"pre")
-        || is_same_name(name, b"table")
-        || is_same_name(name, b"ul")
-}
+// The other elements whose tags end SVG and MathML, without headings.
+const LEAVING_BLOCK_NAMES: [&[u8]; 18] = [
+    b"blockquote",
+    b"body",
+    b"center",
+    b"dd",
+    b"div",
+    b"dl",
+    b"dt",
+    b"head",
+    b"hr",
+    b"li",
+    b"listing",
+    b"menu",
+    b"meta",
+    b"ol",
+    b"p",
+    b"pre",
+    b"table",
+    b"ul",
+];
 
-/// Reports whether a tag of a name ends SVG and MathML.
+// Reports whether a tag of a name ends SVG and MathML.
 fn is_leaving(name: &[u8]) -> bool
     ensures { result ≡ is_leaving name.now }
 {
-    is_leaving_phrase(name) || is_leaving_block(name) || is_heading_name(name)
+    is_one_of(name, &LEAVING_PHRASE_NAMES)
+        || is_one_of(name, &LEAVING_BLOCK_NAMES)
+        || is_one_of(name, &HEADING_NAMES)
 }
 
-fn is_svg_point(name: &[u8]) -> bool
-    ensures { result ≡ is_one_of svg_points name.now }
-{
-    is_same_name(name, b"desc")
-        || is_same_name(name, b"foreignObject")
-        || is_same_name(name, b"title")
-}
+// Elements of SVG whose content is HTML.
+const SVG_POINTS: [&[u8]; 3] = [b"desc", b"foreignObject", b"title"];
 
-fn is_math_point(name: &[u8]) -> bool
-    ensures { result ≡ is_one_of math_points name.now }
-{
-    is_same_name(name, b"mi")
-        || is_same_name(name, b"mn")
-        || is_same_name(name, b"mo")
-        || is_same_name(name, b"ms")
-        || is_same_name(name, b"mtext")
-}
+// Elements of MathML whose content is HTML.
+const MATH_POINTS: [&[u8]; 5] = [b"mi", b"mn", b"mo", b"ms", b"mtext"];
 
-/// Reports whether a tag is that of an annotation of MathML whose content may be HTML.
+// Reports whether a tag is that of an annotation of MathML whose content may be HTML.
 fn may_hold_html(name: &[u8], tag: &[u8]) -> bool
     ensures { result ≡ may_hold_html name.now tag.now }
 {
     is_same_name(name, b"annotation-xml") && (mentions(b"html", tag) || has_ampersand(tag))
 }
 
-/// Reports whether a start tag in SVG or MathML opens an element there.
+// Reports whether a start tag in SVG or MathML opens an element there.
 #[tactic(auto, unfolding(crate::specs::Readings::is_foreign_start_alike))]
 fn is_foreign_start_alike(elements: &[Element<'_>], name: &[u8], tag: &[u8]) -> bool
     ensures { result ≡ is_foreign_start_alike (as_elements elements.now) name.now tag.now }
 {
     if is_leaving(name) {
         false
-    } else if is_svg_point(name) {
+    } else if is_one_of(name, &SVG_POINTS) {
         is_in_svg(elements)
-    } else if is_math_point(name) {
+    } else if is_one_of(name, &MATH_POINTS) {
         !is_in_svg(elements)
     } else {
         !may_hold_html(name, tag)
     }
 }
 
-/// Reports whether HTML reads elements of a name otherwise than others of their group.
-fn is_odd(name: &[u8]) -> bool
-    ensures { result ≡ is_one_of odd_names name.now }
-{
-    is_same_name(name, b"frameset")
-        || is_same_name(name, b"image")
-        || is_same_name(name, b"malignmark")
-        || is_same_name(name, b"mglyph")
-        || is_same_name(name, b"rb")
-        || is_same_name(name, b"rtc")
-}
+// Elements that HTML reads otherwise than others of their group.
+const ODD_NAMES: [&[u8]; 6] = [
+    b"frameset",
+    b"image",
+    b"malignmark",
+    b"mglyph",
+    b"rb",
+    b"rtc",
+];
+
+// Buttons, forms and links, which end an element of their own name.
+const BUTTON_NAMES: [&[u8]; 1] = [b"button"];
+
+const FORM_NAMES: [&[u8]; 1] = [b"form"];
+
+const LINK_NAMES: [&[u8]; 2] = [b"a", b"nobr"];
 
 const fn is_choice(group: Group) -> bool
     ensures { result ≡ is_choice group }
@@ -462,7 +445,7 @@ const fn is_head(group: Group) -> bool
     matches!(group, Group::Head)
 }
 
-/// Reports whether elements may begin that are no parts of tables or selections.
+// Reports whether elements may begin that are no parts of tables or selections.
 fn takes_content(around: Element<'_>, within: Element<'_>) -> bool
     ensures { result ≡ takes_content (as_element around.entry) (as_element within.entry) }
 {
@@ -471,7 +454,7 @@ fn takes_content(around: Element<'_>, within: Element<'_>) -> bool
         && !is_same_name(within.name, b"select")
 }
 
-/// Reports whether an element that a head may have may begin.
+// Reports whether an element that a head may have may begin.
 fn takes_head_content(around: Element<'_>, within: Element<'_>, new: Group, name: &[u8]) -> bool
     ensures { result ≡ takes_head_content (as_element around.entry) (as_element within.entry) new name.now }
 {
@@ -529,7 +512,7 @@ const fn is_before_body(phase: Phase) -> bool
     !matches!(phase, Phase::Body)
 }
 
-/// Reports whether the element of the page or its body may begin.
+// Reports whether the element of the page or its body may begin.
 fn takes_root(phase: Phase, within: Element<'_>, name: &[u8]) -> bool
     ensures { result ≡ takes_root phase (as_element within.entry) name.now }
 {
@@ -540,29 +523,14 @@ fn takes_root(phase: Phase, within: Element<'_>, name: &[u8]) -> bool
     }
 }
 
-/// Reports whether no button is around, where the name is that of one.
-fn is_button_alone(name: &[u8], elements: &[Element<'_>]) -> bool
-    ensures { result ≡ is_alone button_names name.now (as_elements elements.now) }
+// Reports whether no element of a name is around, where the name is one of a table.
+fn is_alone(names: &[&[u8]], name: &[u8], elements: &[Element<'_>]) -> bool
+    ensures { result ≡ is_alone (map (λ other. other.now) names.now) name.now (as_elements elements.now) }
 {
-    !(is_same_name(name, b"button") && is_open(name, Group::Ordinary, elements))
+    !(is_one_of(name, names) && is_open(name, Group::Ordinary, elements))
 }
 
-/// Reports whether no form is around, where the name is that of one.
-fn is_form_alone(name: &[u8], elements: &[Element<'_>]) -> bool
-    ensures { result ≡ is_alone form_names name.now (as_elements elements.now) }
-{
-    !(is_same_name(name, b"form") && is_open(name, Group::Ordinary, elements))
-}
-
-/// Reports whether no element of the name is around, where the name is one that ends an element of its own name.
-fn is_link_alone(name: &[u8], elements: &[Element<'_>]) -> bool
-    ensures { result ≡ is_alone link_names name.now (as_elements elements.now) }
-{
-    !((is_same_name(name, b"a") || is_same_name(name, b"nobr"))
-        && is_open(name, Group::Ordinary, elements))
-}
-
-/// Reports whether an element of a group may begin where it does: all parsers put it there.
+// Reports whether an element of a group may begin where it does: all parsers put it there.
 #[tactic(auto, unfolding(crate::specs::Readings::is_expected))]
 fn is_expected(
     phase: Phase,
@@ -589,15 +557,15 @@ fn is_expected(
         Group::Choices => is_same_name(within.name, b"select"),
         Group::Ruby => is_same_name(within.name, b"ruby"),
         Group::Heading => takes_content(around, within) && !is_heading(within.group),
-        Group::Scope => takes_content(around, within) && is_button_alone(name, elements),
-        Group::Block => takes_content(around, within) && is_form_alone(name, elements),
-        Group::Formatting => takes_content(around, within) && is_link_alone(name, elements),
-        Group::Ordinary => takes_content(around, within) && !is_odd(name),
+        Group::Scope => takes_content(around, within) && is_alone(&BUTTON_NAMES, name, elements),
+        Group::Block => takes_content(around, within) && is_alone(&FORM_NAMES, name, elements),
+        Group::Formatting => takes_content(around, within) && is_alone(&LINK_NAMES, name, elements),
+        Group::Ordinary => takes_content(around, within) && !is_one_of(name, &ODD_NAMES),
         _ => takes_content(around, within),
     }
 }
 
-/// Reports whether the content of an element is read alike by all.
+// Reports whether the content of an element is read alike by all.
 fn is_content_alike(around: Element<'_>, name: &[u8]) -> bool
     ensures { result ≡ is_content_alike (as_element around.entry) name.now }
 {
@@ -605,7 +573,7 @@ fn is_content_alike(around: Element<'_>, name: &[u8]) -> bool
         && !(around.is_in_noscript && is_same_name(name, b"noscript"))
 }
 
-/// Reports whether the text of an element may be put elsewhere by the end tag of a formatting element around it.
+// Reports whether the text of an element may be put elsewhere by the end tag of a formatting element around it.
 fn may_be_adopted(within: Element<'_>, new: Group, name: &[u8]) -> bool
     ensures { result ≡ may_be_adopted (as_element within.entry) new name.now }
 {
@@ -616,7 +584,7 @@ fn may_be_adopted(within: Element<'_>, new: Group, name: &[u8]) -> bool
         && !is_foreign_root(name)
 }
 
-/// Reports whether a start tag of HTML is read alike by all parsers, outside of SVG and MathML.
+// Reports whether a start tag of HTML is read alike by all parsers, outside of SVG and MathML.
 fn is_html_start_alike<'t>(
     page: Element<'t>,
     reading: &Reading<'t>,
@@ -635,7 +603,7 @@ fn is_html_start_alike<'t>(
         && is_expected(reading.phase, around, within, elements, new, name)
 }
 
-/// Reports whether a start tag of a page in HTML is read alike by all parsers.
+// Reports whether a start tag of a page in HTML is read alike by all parsers.
 fn is_start_alike<'t>(page: Element<'t>, reading: &Reading<'t>, new: Group, tag: &[u8]) -> bool
     ensures { result ≡ is_start_alike (as_element page.entry) (as_reading reading.now) new tag.now }
 {
@@ -673,7 +641,7 @@ const fn closes_rows(tag: Group) -> bool
     matches!(tag, Group::Rows | Group::Table | Group::Template)
 }
 
-/// Reports whether an end tag of a group closes an element in its own that has no end tag.
+// Reports whether an end tag of a group closes an element in its own that has no end tag.
 #[tactic(auto, unfolding(crate::specs::Readings::is_left_out_in))]
 fn is_left_out_in(tag: Group, other: Group) -> bool
     ensures { result ≡ is_left_out_in tag other }
@@ -688,7 +656,7 @@ fn is_left_out_in(tag: Group, other: Group) -> bool
     }
 }
 
-/// Reports whether all that an end tag closes in its element has no end tag by these rules; none where the element is not found.
+// Reports whether all that an end tag closes in its element has no end tag by these rules; none where the element is not found.
 #[tactic(auto, using(crate::proofs::Limits::none_alike_at_limit))]
 fn closes_alike(elements: &[Element<'_>], name: &[u8], tag: Group) -> Option<bool>
     ensures { result ≡ closes_alike_from name.now tag depth_limit Bool.true (as_elements elements.now) }
@@ -714,7 +682,7 @@ fn closes_alike(elements: &[Element<'_>], name: &[u8], tag: Group) -> Option<boo
     None
 }
 
-/// Reports whether an end tag without an element is passed by.
+// Reports whether an end tag without an element is passed by.
 fn is_passed_by(around: Element<'_>, tag: Group, name: &[u8], elements: &[Element<'_>]) -> bool
     ensures { result ≡ is_passed_by (as_element around.entry) tag name.now (as_elements elements.now) }
 {
@@ -730,7 +698,7 @@ fn is_hidden(element: Element<'_>) -> bool
     element.is_in_noscript || element.is_in_template
 }
 
-/// Reports whether an end tag of HTML is read alike by all parsers, outside of SVG and MathML.
+// Reports whether an end tag of HTML is read alike by all parsers, outside of SVG and MathML.
 fn is_html_end_alike(around: Element<'_>, tag: Group, name: &[u8], elements: &[Element<'_>]) -> bool
     ensures { result ≡ is_html_end_alike (as_element around.entry) tag name.now (as_elements elements.now) }
 {
@@ -743,7 +711,7 @@ fn is_html_end_alike(around: Element<'_>, tag: Group, name: &[u8], elements: &[E
     }
 }
 
-/// Reports whether an end tag of a page in HTML is read alike by all parsers.
+// Reports whether an end tag of a page in HTML is read alike by all parsers.
 fn is_end_alike<'t>(page: Element<'t>, reading: &Reading<'t>, tag: Group, name: &[u8]) -> bool
     ensures { result ≡ is_end_alike (as_element page.entry) (as_reading reading.now) tag name.now }
 {
@@ -764,14 +732,14 @@ fn is_content_here(around: Element<'_>) -> bool
     !holds_no_text(around.group)
 }
 
-/// Reports whether a piece is a section of CDATA in a drawing's text in HTML, which is none there.
+// Reports whether a piece is a section of CDATA in a drawing's text in HTML, which is none there.
 fn is_odd_section(around: Element<'_>, bytes: &[u8]) -> bool
     ensures { result ≡ is_odd_section (as_element around.entry) bytes.now }
 {
     around.is_in_drawing && !around.is_foreign && bytes.starts_with(b"<![CDATA[")
 }
 
-/// Reports whether a piece of HTML that is neither text nor tag is read alike by all parsers.
+// Reports whether a piece of HTML that is neither text nor tag is read alike by all parsers.
 fn is_html_other_alike(around: Element<'_>, phase: Phase, bytes: &[u8]) -> bool
     ensures { result ≡ is_html_other_alike (as_element around.entry) phase bytes.now }
 {
@@ -784,7 +752,7 @@ fn is_html_other_alike(around: Element<'_>, phase: Phase, bytes: &[u8]) -> bool
     }
 }
 
-/// Reports whether a piece of a page in HTML is read alike by all parsers.
+// Reports whether a piece of a page in HTML is read alike by all parsers.
 fn is_html_alike<'t>(
     page: Element<'t>,
     reading: &Reading<'t>,
@@ -806,7 +774,7 @@ fn is_html_alike<'t>(
 
 // ---- pieces of XML
 
-/// Reports whether raw text in HTML goes on over a piece.
+// Reports whether raw text in HTML goes on over a piece.
 fn stays_raw(element: RawElement, bytes: &[u8]) -> bool
     ensures { result ≡ stays_raw element bytes.now }
 {
@@ -814,7 +782,7 @@ fn stays_raw(element: RawElement, bytes: &[u8]) -> bool
         && !(element == RawElement::Script && mentions(b"<script", bytes))
 }
 
-/// Reports whether a start tag of XML begins as one of HTML does, and opens no content there that it does not hold here.
+// Reports whether a start tag of XML begins as one of HTML does, and opens no content there that it does not hold here.
 fn is_xml_start_alike(around: Element<'_>, name: &[u8]) -> bool
     ensures { result ≡ is_xml_start_alike (as_element around.entry) name.now }
 {
@@ -840,7 +808,7 @@ fn is_xml_other_alike(around: Element<'_>, bytes: &[u8]) -> bool
     }
 }
 
-/// Reports whether a piece of XML is read alike by all parsers.
+// Reports whether a piece of XML is read alike by all parsers.
 fn is_xml_alike(around: Element<'_>, piece: Piece<'_>) -> bool
     ensures { result ≡ is_xml_alike (as_element around.entry) piece.entry.kind piece.entry.text.now }
 {
@@ -856,14 +824,14 @@ fn is_xml_alike(around: Element<'_>, piece: Piece<'_>) -> bool
 
 // ---- all pieces
 
-/// Reports whether the text of a `noscript` goes on over a piece with scripting on.
+// Reports whether the text of a `noscript` goes on over a piece with scripting on.
 fn is_in_raw_noscript(around: Element<'_>, bytes: &[u8]) -> bool
     ensures { result ≡ is_in_raw_noscript (as_element around.entry) bytes.now }
 {
     !(around.is_in_noscript && mentions(b"</noscript", bytes))
 }
 
-/// Reports whether the text of a `noscript` goes on over a piece with scripting on, or ends with its end tag.
+// Reports whether the text of a `noscript` goes on over a piece with scripting on, or ends with its end tag.
 fn stays_in_noscript(around: Element<'_>, piece: Piece<'_>) -> bool
     ensures { result ≡ stays_in_noscript (as_element around.entry) piece.entry.kind piece.entry.text.now }
 {
@@ -877,7 +845,7 @@ fn stays_in_noscript(around: Element<'_>, piece: Piece<'_>) -> bool
     }
 }
 
-/// Reports whether a piece is read alike by all parsers.
+// Reports whether a piece is read alike by all parsers.
 #[tactic(auto, using(crate::proofs::Limits::as_many))]
 fn is_alike<'t>(
     form: Form,
@@ -916,13 +884,13 @@ const fn head_from(phase: Phase) -> Phase
     }
 }
 
-/// The phase after a start tag, whose element is of a group.
-fn phase_after_start(hidden: bool, phase: Phase, group: Group, name: &[u8]) -> Phase
-    ensures { result ≡ phase_after_start hidden phase group name.now }
+// The phase after a start tag, whose element is of a group.
+fn phase_after_start(hidden: bool, phase: Phase, group: Group, tag: &[u8]) -> Phase
+    ensures { result ≡ phase_after_start hidden phase group (name_of tag.now) }
 {
     match group {
         Group::Root => {
-            if is_same_name(name, b"html") {
+            if is_same_name(name_of(tag), b"html") {
                 Phase::Root
             } else {
                 Phase::Body
@@ -936,7 +904,7 @@ fn phase_after_start(hidden: bool, phase: Phase, group: Group, name: &[u8]) -> P
     }
 }
 
-/// The phase after a piece that is neither text nor tag.
+// The phase after a piece that is neither text nor tag.
 fn phase_after_other(around: Element<'_>, phase: Phase, bytes: &[u8]) -> Phase
     ensures { result ≡ phase_after_other (as_element around.entry) phase bytes.now }
 {
@@ -955,7 +923,7 @@ fn phase_after_other(around: Element<'_>, phase: Phase, bytes: &[u8]) -> Phase
     }
 }
 
-/// The phase after a piece.
+// The phase after a piece.
 fn phase_after(around: Element<'_>, phase: Phase, group: Group, piece: Piece<'_>) -> Phase
     ensures { result ≡ phase_after (as_element around.entry) phase group piece.entry.kind piece.entry.text.now }
 {
@@ -964,14 +932,14 @@ fn phase_after(around: Element<'_>, phase: Phase, group: Group, piece: Piece<'_>
         Kind::Text => body_unless(is_hidden(around) || !has_text(bytes), phase),
         Kind::Reference => body_unless(is_hidden(around), phase),
         Kind::StartTag | Kind::EmptyTag => {
-            phase_after_start(is_hidden(around), phase, group, name_of(bytes))
+            phase_after_start(is_hidden(around), phase, group, bytes)
         }
         Kind::EndTag => body_unless(!is_root(group), phase),
         Kind::Other => phase_after_other(around, phase, bytes),
     }
 }
 
-/// Reports whether the document type of HTML has come, after a piece that is neither text nor tag.
+// Reports whether the document type of HTML has come, after a piece that is neither text nor tag.
 fn standard_after_other(standard: bool, phase: Phase, bytes: &[u8]) -> bool
     ensures { result ≡ standard_after_other standard phase bytes.now }
 {
@@ -981,7 +949,7 @@ fn standard_after_other(standard: bool, phase: Phase, bytes: &[u8]) -> bool
     }
 }
 
-/// Reports whether the document type of HTML has come, before all else.
+// Reports whether the document type of HTML has come, before all else.
 fn standard_after(standard: bool, phase: Phase, piece: Piece<'_>) -> bool
     ensures { result ≡ standard_after standard phase piece.entry.kind piece.entry.text.now }
 {
@@ -1028,7 +996,7 @@ pub fn pass<'t>(
     Ok(())
 }
 
-/// Reports whether a piece is text of the body, whatever is around it.
+// Reports whether a piece is text of the body, whatever is around it.
 fn is_read_text(piece: Piece<'_>) -> bool
     ensures { result ≡ is_read_text piece.entry.kind piece.entry.text.now }
 {
@@ -1039,15 +1007,18 @@ fn is_read_text(piece: Piece<'_>) -> bool
     }
 }
 
-/// Reports whether a piece is a start tag of the element of the page, or of its body.
+// Reports whether a piece is a start tag of the element of the page, or of its body.
 fn is_root_start(piece: Piece<'_>) -> bool
     ensures { result ≡ is_root_start piece.entry.kind piece.entry.text.now }
 {
+    if !is_start(piece.kind) {
+        return false;
+    }
     let name = name_of(piece.text.as_bytes());
-    is_start(piece.kind) && (is_same_name(name, b"html") || is_same_name(name, b"body"))
+    is_same_name(name, b"html") || is_same_name(name, b"body")
 }
 
-/// Reports whether the start tag of the page or its body comes after text.
+// Reports whether the start tag of the page or its body comes after text.
 fn has_late_root(pieces: &[Piece<'_>]) -> bool
     ensures { result ≡ has_late_root Bool.false (map as_piece pieces.now) }
 {
@@ -1061,7 +1032,7 @@ fn has_late_root(pieces: &[Piece<'_>]) -> bool
     false
 }
 
-/// Reports whether a text is left alone where it is, by a reading.
+// Reports whether a text is left alone where it is, by a reading.
 fn is_unread(form: Form, reading: &Reading<'_>, around: Element<'_>) -> bool
     ensures { result ≡ is_unread form (as_reading reading.now) (as_element around.entry) }
 {

@@ -13,17 +13,17 @@ ghost use Rattle.html_pieces.specs.Private.Read.{as_reference, reference_after};
 use crate::bytes::is_alphanumeric;
 use std::alloc::{AllocError, Global};
 
-/// A reference that has been read: its character, and how many bytes it has after its `&`.
+// A reference that has been read: its character, and how many bytes it has after its `&`.
 #[derive(Clone, Copy)]
 struct Reference {
     character: char,
     size: usize,
 }
 
-/// All numbers from this one on mean no character.
+// All numbers from this one on mean no character.
 const NO_CHARACTER: u32 = 0x11_0000;
 
-/// The characters of windows-1252, that the numbers 0x80 to 0x9F mean.
+// The characters of windows-1252, that the numbers 0x80 to 0x9F mean.
 const WINDOWS_1252: [char; 32] = [
     '\u{20AC}', '\u{81}', '\u{201A}', '\u{192}', '\u{201E}', '\u{2026}', '\u{2020}', '\u{2021}',
     '\u{2C6}', '\u{2030}', '\u{160}', '\u{2039}', '\u{152}', '\u{8D}', '\u{17D}', '\u{8F}',
@@ -38,7 +38,7 @@ fn is_digit(hexadecimal: bool, byte: u8) -> bool
         || hexadecimal && (b'A' <= byte && byte <= b'F' || b'a' <= byte && byte <= b'f')
 }
 
-/// The digits that bytes begin with.
+// The digits that bytes begin with.
 fn digits_of(hexadecimal: bool, bytes: &[u8]) -> &[u8]
     ensures { result.now ≡ take_while (is_digit hexadecimal) bytes.now }
 {
@@ -50,7 +50,7 @@ fn digits_of(hexadecimal: bool, bytes: &[u8]) -> &[u8]
     bytes
 }
 
-/// The letters and digits that bytes begin with.
+// The letters and digits that bytes begin with.
 fn name_of(bytes: &[u8]) -> &[u8]
     ensures { result.now ≡ take_while is_alphanumeric bytes.now }
 {
@@ -62,7 +62,7 @@ fn name_of(bytes: &[u8]) -> &[u8]
     bytes
 }
 
-/// The value of a digit.
+// The value of a digit.
 fn digit_value(digit: u8) -> u32
     ensures within { result ≤ 36 }
     ensures value { result ≡ digit_value digit }
@@ -84,7 +84,7 @@ fn digit_value(digit: u8) -> u32
     }
 }
 
-/// The base in which digits write a number.
+// The base in which digits write a number.
 const fn base_of(hexadecimal: bool) -> u32
     ensures base { result ≡ base_of hexadecimal }
     ensures within { result ≤ 16 }
@@ -92,7 +92,7 @@ const fn base_of(hexadecimal: bool) -> u32
     if hexadecimal { 16 } else { 10 }
 }
 
-/// The number after one more digit. All numbers that mean no character are one.
+// The number after one more digit. All numbers that mean no character are one.
 fn number_on(hexadecimal: bool, number: u32, digit: u8) -> u32
     requires { number ≤ NO_CHARACTER }
     ensures { result ≡ min (number * base_of hexadecimal + digit_value digit) NO_CHARACTER }
@@ -100,7 +100,7 @@ fn number_on(hexadecimal: bool, number: u32, digit: u8) -> u32
     (number * base_of(hexadecimal) + digit_value(digit)).min(NO_CHARACTER)
 }
 
-/// The number that digits write. All numbers that mean no character are one.
+// The number that digits write. All numbers that mean no character are one.
 fn number_of(hexadecimal: bool, digits: &[u8]) -> u32
     ensures { result ≡ min (number_of hexadecimal digits.now) NO_CHARACTER }
 {
@@ -111,7 +111,7 @@ fn number_of(hexadecimal: bool, digits: &[u8]) -> u32
     number
 }
 
-/// The character of windows-1252 that a number from 0x80 to 0x9F means.
+// The character of windows-1252 that a number from 0x80 to 0x9F means.
 fn of_windows(number: u32) -> char
     requires low { 0x80 ≤ number }
     requires high { number ≤ 0x9F }
@@ -120,7 +120,7 @@ fn of_windows(number: u32) -> char
     WINDOWS_1252[(number - 0x80) as usize]
 }
 
-/// The character of a number, or U+FFFD where it has none.
+// The character of a number, or U+FFFD where it has none.
 fn of_number(number: u32) -> char
     ensures { result ≡ (if is_character number then number else 0xFFFD) }
 {
@@ -133,7 +133,7 @@ fn of_number(number: u32) -> char
     }
 }
 
-/// The character that a number means.
+// The character that a number means.
 fn character_of(number: u32) -> char
     ensures { result ≡ character_of number }
 {
@@ -144,21 +144,21 @@ fn character_of(number: u32) -> char
     }
 }
 
-/// The character whose number digits write.
+// The character whose number digits write.
 fn character_by(hexadecimal: bool, digits: &[u8]) -> char
     ensures { result ≡ character_of (number_of hexadecimal digits.now) }
 {
     character_of(number_of(hexadecimal, digits))
 }
 
-/// The byte at a place; 0 past the end.
+// The byte at a place; 0 past the end.
 fn byte_at(bytes: &[u8], place: usize) -> u8
     ensures { result ≡ slice_index bytes.now place }
 {
     if place < bytes.len() { bytes[place] } else { 0 }
 }
 
-/// The reference whose digits are those that bytes begin with.
+// The reference whose digits are those that bytes begin with.
 fn digits_at(hexadecimal: bool, before: usize, bytes: &[u8]) -> Option<Reference>
     requires { before ≤ 2 }
     ensures { option_map as_reference result ≡ digits_at hexadecimal before bytes.now }
@@ -178,7 +178,7 @@ fn digits_at(hexadecimal: bool, before: usize, bytes: &[u8]) -> Option<Reference
     })
 }
 
-/// The reference that goes on after `&#`.
+// The reference that goes on after `&#`.
 fn number_at(bytes: &[u8]) -> Option<Reference>
     ensures { option_map as_reference result ≡ number_at bytes.now }
 {
@@ -195,7 +195,7 @@ fn is_named(name: &[u8], other: &[u8]) -> bool
     name == other
 }
 
-/// The character that is named without `;` too.
+// The character that is named without `;` too.
 #[tactic(auto, unfolding(crate::specs::References::old_named))]
 fn old_named(name: &[u8]) -> Option<char>
     ensures { result ≡ old_named name.now }
@@ -213,7 +213,7 @@ fn old_named(name: &[u8]) -> Option<char>
     }
 }
 
-/// White space or a bracket by its name.
+// White space or a bracket by its name.
 #[tactic(auto, unfolding(crate::specs::References::bracket_named))]
 fn bracket_named(name: &[u8]) -> Option<char>
     ensures { result ≡ bracket_named name.now }
@@ -239,7 +239,7 @@ fn bracket_named(name: &[u8]) -> Option<char>
     }
 }
 
-/// A mark of sentences by its name.
+// A mark of sentences by its name.
 #[tactic(auto, unfolding(crate::specs::References::sentence_named))]
 fn sentence_named(name: &[u8]) -> Option<char>
     ensures { result ≡ sentence_named name.now }
@@ -267,7 +267,7 @@ fn sentence_named(name: &[u8]) -> Option<char>
     }
 }
 
-/// Another sign by its name.
+// Another sign by its name.
 #[tactic(auto, unfolding(crate::specs::References::sign_named))]
 fn sign_named(name: &[u8]) -> Option<char>
     ensures { result ≡ sign_named name.now }
@@ -291,7 +291,7 @@ fn sign_named(name: &[u8]) -> Option<char>
     }
 }
 
-/// An accent or a line by its name.
+// An accent or a line by its name.
 #[tactic(auto, unfolding(crate::specs::References::line_named))]
 fn line_named(name: &[u8]) -> Option<char>
     ensures { result ≡ line_named name.now }
@@ -321,7 +321,7 @@ fn first_of(first: Option<char>, other: Option<char>) -> Option<char>
     }
 }
 
-/// The character of ASCII that has a name.
+// The character of ASCII that has a name.
 fn named(name: &[u8]) -> Option<char>
     ensures { result ≡ named name.now }
 {
@@ -339,7 +339,7 @@ fn of_size(size: usize, character: Option<char>) -> Option<Reference>
     }
 }
 
-/// The reference whose name bytes begin with.
+// The reference whose name bytes begin with.
 fn name_at(bytes: &[u8]) -> Option<Reference>
     ensures { option_map as_reference result ≡ name_at bytes.now }
 {
@@ -351,7 +351,7 @@ fn name_at(bytes: &[u8]) -> Option<Reference>
     }
 }
 
-/// The reference that goes on after `&`.
+// The reference that goes on after `&`.
 fn reference_at(bytes: &[u8]) -> Option<Reference>
     ensures { option_map as_reference result ≡ reference_at bytes.now }
 {
@@ -362,7 +362,7 @@ fn reference_at(bytes: &[u8]) -> Option<Reference>
     }
 }
 
-/// The reference that a byte begins; none by another byte than `&`.
+// The reference that a byte begins; none by another byte than `&`.
 fn reference_after(byte: u8, rest: &[u8]) -> Option<Reference>
     ensures { option_map as_reference result ≡ reference_after byte rest.now }
 {
@@ -385,7 +385,7 @@ pub fn has_ampersand(value: &[u8]) -> bool
     false
 }
 
-/// A value without `&`, which is read as it is.
+// A value without `&`, which is read as it is.
 pub(crate) fn read_plain(value: &[u8]) -> &[u8]
     requires { has_ampersand value.now ≡ false }
     ensures { result.now ≡ read_value value.now }
@@ -393,7 +393,7 @@ pub(crate) fn read_plain(value: &[u8]) -> &[u8]
     value
 }
 
-/// Appends a character.
+// Appends a character.
 fn push_character(bytes: &mut Vec<u8>, alloc: Global, character: char) -> Result<(), AllocError>
     ensures { OnOk result (bytes.new.items ≡ bytes.old.items ++ encode_utf8 character) }
 {

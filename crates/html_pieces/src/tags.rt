@@ -41,7 +41,7 @@ const fn is_value(state: State) -> bool
     )
 }
 
-/// A part of a tag that ends at a place, with the byte that is there.
+// A part of a tag that ends at a place, with the byte that is there.
 fn grown<'t>(tag: &'t [u8], part: &[u8], i: usize) -> &'t [u8]
     requires within { i < length tag.now }
     requires part { EndsAt tag.now part.now i }
@@ -50,7 +50,7 @@ fn grown<'t>(tag: &'t [u8], part: &[u8], i: usize) -> &'t [u8]
     &tag[i - part.len()..i + 1]
 }
 
-/// The name of the attribute that is being read, after a byte.
+// The name of the attribute that is being read, after a byte.
 fn name_on<'t>(tag: &'t [u8], i: usize, state: State, after: State, name: &'t [u8]) -> &'t [u8]
     requires within { i < length tag.now }
     requires part { IsTrue (is_name state) → EndsAt tag.now name.now i }
@@ -65,7 +65,7 @@ fn name_on<'t>(tag: &'t [u8], i: usize, state: State, after: State, name: &'t [u
     }
 }
 
-/// Its value, after a byte.
+// Its value, after a byte.
 fn value_on<'t>(tag: &'t [u8], i: usize, state: State, after: State, value: &'t [u8]) -> &'t [u8]
     requires within { i < length tag.now }
     requires part { IsTrue (is_value state) → EndsAt tag.now value.now i }
@@ -84,7 +84,7 @@ fn value_on<'t>(tag: &'t [u8], i: usize, state: State, after: State, value: &'t 
     }
 }
 
-/// Appends the attribute that has been read, if one has begun.
+// Appends the attribute that has been read, if one has begun.
 fn push_read<'t>(
     attributes: &mut Vec<Attribute<'t>>,
     name: &'t [u8],
@@ -99,7 +99,7 @@ fn push_read<'t>(
     Ok(())
 }
 
-/// Appends the attribute that ends where another one begins.
+// Appends the attribute that ends where another one begins.
 fn push_ended<'t>(
     attributes: &mut Vec<Attribute<'t>>,
     state: State,
@@ -116,7 +116,7 @@ fn push_ended<'t>(
     Ok(())
 }
 
-/// The state after a byte of a tag; at its end, that of a tag that ended.
+// The state after a byte of a tag; at its end, that of a tag that ended.
 fn next_in_tag(form: Form, state: State, byte: u8) -> State
     ensures { result ≡ unwrap_or (next form false state [] byte) TagEnd }
 {
@@ -127,7 +127,7 @@ fn next_in_tag(form: Form, state: State, byte: u8) -> State
     }
 }
 
-/// The first place from one on whose byte may end a value; outside of values the place where it is asked.
+// The first place from one on whose byte may end a value; outside of values the place where it is asked.
 #[tactic(auto, using(crate::proofs::QuietSteps::none_passed))]
 fn after_value(state: State, tag: &[u8], from: usize) -> usize
     requires { from ≤ length tag.now }
@@ -143,7 +143,7 @@ fn after_value(state: State, tag: &[u8], from: usize) -> usize
     }
 }
 
-/// The value that is being read, after more bytes of it.
+// The value that is being read, after more bytes of it.
 fn value_past<'t>(tag: &'t [u8], from: usize, to: usize, state: State, value: &'t [u8]) -> &'t [u8]
     requires order { from ≤ to }
     requires within { to ≤ length tag.now }

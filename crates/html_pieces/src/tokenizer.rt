@@ -1,19 +1,23 @@
 //! A page, cut into pieces.
 
-ghost use Rattle.std.specs.Prelude.{◌≡◌, ◌==◌, ◌+◌, ◌<◌, ◌≤◌, ◌^◌, length, map, take_while, not, IfOk};
-ghost use Rattle.html_pieces.specs.Bytes.{ends_name};
+ghost use Rattle.std.specs.Prelude.{◌≡◌, ◌==◌, ◌&&◌, ◌+◌, ◌<◌, ◌≤◌, ◌^◌, [], false, None, Some, length, map, take_while, not, IfOk, if◌then◌else◌};
+ghost use Rattle.html_pieces.specs.Bytes.{ends_name, is_xml};
+ghost use Rattle.html_pieces.specs.declared.bytes.Form.TheVariants.{Html};
 ghost use Rattle.html_pieces.specs.Names.{is_end_tag, name_of, raw_end_tag, raw_element, is_foreign_root};
 ghost use Rattle.html_pieces.specs.Pieces.{in_tag, in_attribute, before_value, in_unquoted_value, ends_tag, in_raw};
 ghost use Rattle.html_pieces.specs.Pieces.{in_escaped, in_double_escaped, next, state_after, kind_of, content_of};
 ghost use Rattle.html_pieces.specs.Pieces.{content_after_tag, content_after, depth_after, begin, pieces_of};
 ghost use Rattle.html_pieces.specs.Pieces.{as_piece};
 ghost use Rattle.html_pieces.specs.Laws.{ends_text};
-ghost use Rattle.html_pieces.specs.declared.tokenizer.State.TheVariants.{Data};
-ghost use Rattle.html_pieces.specs.Private.Quiet.{is_quiet, AreQuiet, AreOthers};
+ghost use Rattle.html_pieces.specs.declared.tokenizer.State.TheVariants.{Data, CharacterReference, ReferenceName};
+ghost use Rattle.html_pieces.specs.declared.tokenizer.State.TheVariants.{TagOpen, EndTagOpen, SelfClosingTag, MarkupEnd};
+ghost use Rattle.html_pieces.specs.declared.tokenizer.State.TheVariants.{BogusComment, DoctypeSubsetEnd, Comment, CommentEnd};
+ghost use Rattle.html_pieces.specs.Private.Quiet.{is_quiet, AreAlphanumeric, AreQuiet, AreOthers};
 
 use crate::bytes::{
     Form, ends_name, is_alphanumeric, is_continuation, is_name_start, is_same_name, is_white_space,
 };
+use memchr::memchr2;
 use std::alloc::{AllocError, Global};
 
 /// An element whose content is no markup.
@@ -95,7 +99,7 @@ pub struct Piece<'t> {
 }
 
 impl RawElement {
-    /// The element's end tag, as far as its name.
+    // The element's end tag, as far as its name.
     pub(crate) const fn end_tag(self) -> &'static [u8]
         ensures { result.now ≡ raw_end_tag self }
     {
@@ -170,14 +174,14 @@ fn in_unquoted_value(byte: u8) -> State
     }
 }
 
-/// Whether the byte ends the name of this tag, of which the front of the piece is the rest.
+// Whether the byte ends the name of this tag, of which the front of the piece is the rest.
 fn ends_tag(tag: &[u8], front: &[u8], byte: u8) -> bool
     ensures { result ≡ ends_tag tag.now front.now byte }
 {
     ends_name(byte) && is_same_name(front, tag)
 }
 
-/// Within a script or the like.
+// Within a script or the like.
 #[tactic(auto, unfolding(crate::specs::Pieces::in_raw))]
 fn in_raw(element: RawElement, front: &[u8], byte: u8) -> Option<State>
     ensures { result ≡ in_raw element front.now byte }
@@ -193,7 +197,7 @@ fn in_raw(element: RawElement, front: &[u8], byte: u8) -> Option<State>
     }
 }
 
-/// Within a script, after `<!--`.
+// Within a script, after `<!--`.
 #[tactic(auto, unfolding(crate::specs::Pieces::in_escaped))]
 fn in_escaped(front: &[u8], byte: u8) -> Option<State>
     ensures { result ≡ in_escaped front.now byte }
@@ -211,7 +215,7 @@ fn in_escaped(front: &[u8], byte: u8) -> Option<State>
     }
 }
 
-/// Within a script, after `<!--` and `<script>`.
+// Within a script, after `<!--` and `<script>`.
 #[tactic(auto, unfolding(crate::specs::Pieces::in_double_escaped))]
 fn in_double_escaped(front: &[u8], byte: u8) -> Option<State>
     ensures { result ≡ in_double_escaped front.now byte }
@@ -227,6 +231,191 @@ fn in_double_escaped(front: &[u8], byte: u8) -> Option<State>
     }
 }
 
+// One state after a byte, and another one after all others.
+const fn on_byte(byte: u8, stop: u8, there: State, other: State) -> Option<State>
+    ensures { result ≡ (if byte == stop then Some there else Some other) }
+{
+    Some(if byte == stop { there } else { other })
+}
+
+// A state after each of two bytes, and another one after all others.
+const fn on_either(
+    byte: u8,
+    first: u8,
+    there: State,
+    second: u8,
+    next_there: State,
+    other: State,
+) -> Option<State>
+    ensures { result ≡ (if byte == first then Some there else if byte == second then Some next_there else Some other) }
+{
+    Some(if byte == first {
+        there
+    } else if byte == second {
+        next_there
+    } else {
+        other
+    })
+}
+
+// In a text.
+fn in_data(byte: u8) -> Option<State>
+    ensures { result ≡ (if ends_text byte then None else Some Data) }
+{
+    if ends_text(byte) {
+        None
+    } else {
+        Some(State::Data)
+    }
+}
+
+// In a reference, after its `&`.
+#[tactic(auto, unfolding(crate::specs::Pieces::next))]
+fn in_reference(byte: u8) -> Option<State>
+    ensures { result ≡ next Html false CharacterReference [] byte }
+{
+    if is_alphanumeric(byte) || byte == b'#' {
+        Some(State::ReferenceName)
+    } else {
+        None
+    }
+}
+
+// In the name of a reference.
+#[tactic(auto, unfolding(crate::specs::Pieces::next))]
+fn in_reference_name(byte: u8) -> Option<State>
+    ensures { result ≡ next Html false ReferenceName [] byte }
+{
+    if is_alphanumeric(byte) {
+        Some(State::ReferenceName)
+    } else if byte == b';' {
+        Some(State::ReferenceEnd)
+    } else {
+        None
+    }
+}
+
+// After `<`.
+#[tactic(auto, unfolding(crate::specs::Pieces::next))]
+fn in_tag_open(form: Form, byte: u8) -> Option<State>
+    ensures { result ≡ next form false TagOpen [] byte }
+{
+    if is_name_start(form, byte) {
+        Some(State::TagName)
+    } else if byte == b'/' {
+        Some(State::EndTagOpen)
+    } else if byte == b'!' {
+        Some(State::MarkupDeclarationOpen)
+    } else if byte == b'?' {
+        Some(if form.is_xml() {
+            State::ProcessingInstruction
+        } else {
+            State::BogusComment
+        })
+    } else {
+        None
+    }
+}
+
+// After `</`.
+#[tactic(auto, unfolding(crate::specs::Pieces::next))]
+fn in_end_tag_open(form: Form, byte: u8) -> Option<State>
+    ensures { result ≡ next form false EndTagOpen [] byte }
+{
+    if is_name_start(form, byte) {
+        Some(State::TagName)
+    } else if byte == b'>' {
+        Some(State::MarkupEnd)
+    } else {
+        Some(State::BogusComment)
+    }
+}
+
+// After a `/` between the attributes of a tag.
+#[tactic(auto, unfolding(crate::specs::Pieces::next))]
+fn in_self_closing_tag(byte: u8) -> Option<State>
+    ensures { result ≡ next Html false SelfClosingTag [] byte }
+{
+    if byte == b'>' {
+        Some(State::EmptyTagEnd)
+    } else {
+        Some(in_tag(byte, State::AttributeName))
+    }
+}
+
+// After `<!`, or a dash more, where one leads to a state.
+const fn in_declaration(byte: u8, dash: State) -> Option<State>
+    ensures { result ≡ (if byte == 45 then Some dash else if byte == 62 then Some MarkupEnd else Some BogusComment) }
+{
+    on_either(
+        byte,
+        b'-',
+        dash,
+        b'>',
+        State::MarkupEnd,
+        State::BogusComment,
+    )
+}
+
+// In a declaration that is no comment.
+#[tactic(auto, unfolding(crate::specs::Pieces::next))]
+fn in_bogus_comment(form: Form, foreign: bool, front: &[u8], byte: u8) -> Option<State>
+    ensures { result ≡ next form foreign BogusComment front.now byte }
+{
+    if byte == b'>' {
+        Some(State::MarkupEnd)
+    } else if byte == b'[' && (form.is_xml() || foreign) && front == b"<![CDATA".as_slice() {
+        Some(State::CdataSection)
+    } else if byte == b'[' && form.is_xml() {
+        Some(State::DoctypeSubset)
+    } else {
+        Some(State::BogusComment)
+    }
+}
+
+// In a document type, after a `]` that may end its part in brackets.
+#[tactic(auto, unfolding(crate::specs::Pieces::next))]
+fn in_doctype_subset_end(byte: u8) -> Option<State>
+    ensures { result ≡ next Html false DoctypeSubsetEnd [] byte }
+{
+    if byte == b'>' {
+        Some(State::MarkupEnd)
+    } else if byte == b']' || is_white_space(byte) {
+        Some(State::DoctypeSubsetEnd)
+    } else {
+        Some(State::DoctypeSubset)
+    }
+}
+
+// After `<!--`, or a dash more, where one leads to a state.
+const fn in_comment_start(form: Form, byte: u8, dash: State) -> Option<State>
+    ensures { result ≡ (if byte == 45 then Some dash else if byte == 62 && not (is_xml form) then Some MarkupEnd else Some Comment) }
+{
+    Some(if byte == b'-' {
+        dash
+    } else if byte == b'>' && !form.is_xml() {
+        State::MarkupEnd
+    } else {
+        State::Comment
+    })
+}
+
+// In a comment, after two dashes.
+#[tactic(auto, unfolding(crate::specs::Pieces::next))]
+fn in_comment_end(form: Form, byte: u8) -> Option<State>
+    ensures { result ≡ next form false CommentEnd [] byte }
+{
+    Some(if byte == b'>' {
+        State::MarkupEnd
+    } else if byte == b'!' && !form.is_xml() {
+        State::CommentEndBang
+    } else if byte == b'-' {
+        State::CommentEnd
+    } else {
+        State::Comment
+    })
+}
+
 /// Returns the state after a byte, where `front` is what the piece has before it; none where the piece ended before the
 /// byte.
 ///
@@ -236,186 +425,80 @@ pub fn next(form: Form, foreign: bool, state: State, front: &[u8], byte: u8) -> 
     ensures { result ≡ next form foreign state front.now byte }
 {
     match state {
-        State::Data => if byte == b'<' || byte == b'&' {
-            None
-        } else {
-            Some(State::Data)
-        },
-        State::CharacterReference => {
-            if is_alphanumeric(byte) || byte == b'#' {
-                Some(State::ReferenceName)
-            } else {
-                None
-            }
-        }
-        State::ReferenceName => {
-            if is_alphanumeric(byte) {
-                Some(State::ReferenceName)
-            } else if byte == b';' {
-                Some(State::ReferenceEnd)
-            } else {
-                None
-            }
-        }
-        State::TagOpen => {
-            if is_name_start(form, byte) {
-                Some(State::TagName)
-            } else if byte == b'/' {
-                Some(State::EndTagOpen)
-            } else if byte == b'!' {
-                Some(State::MarkupDeclarationOpen)
-            } else if byte == b'?' {
-                Some(if form.is_xml() {
-                    State::ProcessingInstruction
-                } else {
-                    State::BogusComment
-                })
-            } else {
-                None
-            }
-        }
-        State::EndTagOpen => {
-            if is_name_start(form, byte) {
-                Some(State::TagName)
-            } else if byte == b'>' {
-                Some(State::MarkupEnd)
-            } else {
-                Some(State::BogusComment)
-            }
-        }
+        State::Data => in_data(byte),
+        State::CharacterReference => in_reference(byte),
+        State::ReferenceName => in_reference_name(byte),
+        State::TagOpen => in_tag_open(form, byte),
+        State::EndTagOpen => in_end_tag_open(form, byte),
         State::TagName => Some(in_tag(byte, State::TagName)),
         State::BeforeAttributeName => Some(in_tag(byte, State::AttributeName)),
-        State::AttributeName => Some(in_attribute(byte)),
-        State::AfterAttributeName => Some(in_attribute(byte)),
+        State::AttributeName | State::AfterAttributeName => Some(in_attribute(byte)),
         State::BeforeAttributeValue => Some(before_value(byte)),
         State::DoubleQuotedValue => {
-            Some(if byte == b'"' {
-                State::AfterQuotedValue
-            } else {
-                State::DoubleQuotedValue
-            })
+            on_byte(
+                byte,
+                b'"',
+                State::AfterQuotedValue,
+                State::DoubleQuotedValue,
+            )
         }
         State::SingleQuotedValue => {
-            Some(if byte == b'\'' {
-                State::AfterQuotedValue
-            } else {
-                State::SingleQuotedValue
-            })
+            on_byte(
+                byte,
+                b'\'',
+                State::AfterQuotedValue,
+                State::SingleQuotedValue,
+            )
         }
         State::UnquotedValue => Some(in_unquoted_value(byte)),
         State::AfterQuotedValue => Some(in_tag(byte, State::AttributeName)),
-        State::SelfClosingTag => {
-            if byte == b'>' {
-                Some(State::EmptyTagEnd)
-            } else {
-                Some(in_tag(byte, State::AttributeName))
-            }
-        }
-        State::MarkupDeclarationOpen => Some(match byte {
-            b'-' => State::MarkupDeclarationDash,
-            b'>' => State::MarkupEnd,
-            _ => State::BogusComment,
-        }),
-        State::MarkupDeclarationDash => Some(match byte {
-            b'-' => State::CommentStart,
-            b'>' => State::MarkupEnd,
-            _ => State::BogusComment,
-        }),
-        State::BogusComment => {
-            if byte == b'>' {
-                Some(State::MarkupEnd)
-            } else if byte == b'['
-                && (form.is_xml() || foreign)
-                && front == b"<![CDATA".as_slice()
-            {
-                Some(State::CdataSection)
-            } else if byte == b'[' && form.is_xml() {
-                Some(State::DoctypeSubset)
-            } else {
-                Some(State::BogusComment)
-            }
-        }
-        State::DoctypeSubset => Some(if byte == b']' {
-            State::DoctypeSubsetEnd
-        } else {
-            State::DoctypeSubset
-        }),
-        State::DoctypeSubsetEnd => {
-            if byte == b'>' {
-                Some(State::MarkupEnd)
-            } else if byte == b']' || is_white_space(byte) {
-                Some(State::DoctypeSubsetEnd)
-            } else {
-                Some(State::DoctypeSubset)
-            }
-        }
-        State::ProcessingInstruction => Some(if byte == b'?' {
-            State::ProcessingInstructionMark
-        } else {
-            State::ProcessingInstruction
-        }),
-        State::ProcessingInstructionMark => Some(match byte {
-            b'>' => State::MarkupEnd,
-            b'?' => State::ProcessingInstructionMark,
-            _ => State::ProcessingInstruction,
-        }),
-        State::CommentStart => Some(if byte == b'-' {
-            State::CommentStartDash
-        } else if byte == b'>' && !form.is_xml() {
-            State::MarkupEnd
-        } else {
-            State::Comment
-        }),
-        State::CommentStartDash => Some(if byte == b'-' {
-            State::CommentEnd
-        } else if byte == b'>' && !form.is_xml() {
-            State::MarkupEnd
-        } else {
-            State::Comment
-        }),
-        State::Comment => Some(if byte == b'-' {
-            State::CommentEndDash
-        } else {
-            State::Comment
-        }),
-        State::CommentEndDash => Some(if byte == b'-' {
-            State::CommentEnd
-        } else {
-            State::Comment
-        }),
-        State::CommentEnd => Some(if byte == b'>' {
-            State::MarkupEnd
-        } else if byte == b'!' && !form.is_xml() {
-            State::CommentEndBang
-        } else if byte == b'-' {
-            State::CommentEnd
-        } else {
-            State::Comment
-        }),
-        State::CommentEndBang => Some(match byte {
-            b'-' => State::CommentEndDash,
-            b'>' => State::MarkupEnd,
-            _ => State::Comment,
-        }),
+        State::SelfClosingTag => in_self_closing_tag(byte),
+        State::MarkupDeclarationOpen => in_declaration(byte, State::MarkupDeclarationDash),
+        State::MarkupDeclarationDash => in_declaration(byte, State::CommentStart),
+        State::BogusComment => in_bogus_comment(form, foreign, front, byte),
+        State::DoctypeSubset => on_byte(byte, b']', State::DoctypeSubsetEnd, State::DoctypeSubset),
+        State::DoctypeSubsetEnd => in_doctype_subset_end(byte),
+        State::ProcessingInstruction => on_byte(
+            byte,
+            b'?',
+            State::ProcessingInstructionMark,
+            State::ProcessingInstruction,
+        ),
+        State::ProcessingInstructionMark => on_either(
+            byte,
+            b'>',
+            State::MarkupEnd,
+            b'?',
+            State::ProcessingInstructionMark,
+            State::ProcessingInstruction,
+        ),
+        State::CommentStart => in_comment_start(form, byte, State::CommentStartDash),
+        State::CommentStartDash => in_comment_start(form, byte, State::CommentEnd),
+        State::Comment => on_byte(byte, b'-', State::CommentEndDash, State::Comment),
+        State::CommentEndDash => on_byte(byte, b'-', State::CommentEnd, State::Comment),
+        State::CommentEnd => in_comment_end(form, byte),
+        State::CommentEndBang => on_either(
+            byte,
+            b'-',
+            State::CommentEndDash,
+            b'>',
+            State::MarkupEnd,
+            State::Comment,
+        ),
         State::CdataSection => {
-            Some(if byte == b']' {
-                State::CdataSectionBracket
-            } else {
-                State::CdataSection
-            })
+            on_byte(byte, b']', State::CdataSectionBracket, State::CdataSection)
         }
         State::CdataSectionBracket => {
-            Some(if byte == b']' {
-                State::CdataSectionEnd
-            } else {
-                State::CdataSection
-            })
+            on_byte(byte, b']', State::CdataSectionEnd, State::CdataSection)
         }
-        State::CdataSectionEnd => Some(match byte {
-            b']' => State::CdataSectionEnd,
-            b'>' => State::MarkupEnd,
-            _ => State::CdataSection,
-        }),
+        State::CdataSectionEnd => on_either(
+            byte,
+            b']',
+            State::CdataSectionEnd,
+            b'>',
+            State::MarkupEnd,
+            State::CdataSection,
+        ),
         State::Raw(element) => in_raw(element, front, byte),
         State::ScriptEscaped => in_escaped(front, byte),
         State::ScriptDoubleEscaped => in_double_escaped(front, byte),
@@ -431,7 +514,7 @@ pub fn is_end_tag(tag: &[u8]) -> bool
     tag.len() > 1 && tag[1] == b'/'
 }
 
-/// The bytes before the first one that ends a name.
+// The bytes before the first one that ends a name.
 fn before_name_end(bytes: &[u8]) -> &[u8]
     ensures { result.now ≡ take_while (λ b. not (ends_name b)) bytes.now }
 {
@@ -457,7 +540,7 @@ pub fn name_of(tag: &[u8]) -> &[u8]
     }
 }
 
-/// The element of this name, if its content is no markup.
+// The element of this name, if its content is no markup.
 #[tactic(auto, unfolding(crate::specs::Names::raw_element))]
 pub(crate) fn raw_element(name: &[u8]) -> Option<RawElement>
     ensures { result ≡ raw_element name.now }
@@ -483,7 +566,7 @@ pub(crate) fn raw_element(name: &[u8]) -> Option<RawElement>
     }
 }
 
-/// The kind of a piece, by the state at its end.
+// The kind of a piece, by the state at its end.
 #[tactic(auto, unfolding(crate::specs::Pieces::kind_of))]
 fn kind_of(state: State, front: &[u8]) -> Kind
     ensures { result ≡ kind_of state front.now }
@@ -513,7 +596,7 @@ pub fn is_foreign_root(name: &[u8]) -> bool
     is_same_name(name, b"svg") || is_same_name(name, b"math")
 }
 
-/// The state in which the content of an element begins in HTML.
+// The state in which the content of an element begins in HTML.
 fn content_of(name: &[u8]) -> State
     ensures { result ≡ content_of name.now }
 {
@@ -526,7 +609,7 @@ fn content_of(name: &[u8]) -> State
     }
 }
 
-/// The state after a tag.
+// The state after a tag.
 fn content_after_tag(form: Form, foreign: bool, tag: &[u8]) -> State
     ensures { result ≡ content_after_tag form foreign tag.now }
 {
@@ -537,7 +620,7 @@ fn content_after_tag(form: Form, foreign: bool, tag: &[u8]) -> State
     }
 }
 
-/// The state in which the piece after this one begins.
+// The state in which the piece after this one begins.
 #[tactic(auto, unfolding(crate::specs::Pieces::content_after))]
 fn content_after(form: Form, foreign: bool, state: State, front: &[u8]) -> State
     ensures { result ≡ content_after form foreign state front.now }
@@ -552,7 +635,7 @@ fn content_after(form: Form, foreign: bool, state: State, front: &[u8]) -> State
     }
 }
 
-/// How many elements `svg` and `math` are open after a piece, where `depth` are open before it.
+// How many elements `svg` and `math` are open after a piece, where `depth` are open before it.
 #[tactic(auto, unfolding(crate::specs::Pieces::depth_after))]
 fn depth_after(depth: usize, state: State, front: &[u8]) -> usize
     requires room { depth + 1 < 2 ^ 64 }
@@ -579,7 +662,7 @@ fn depth_after(depth: usize, state: State, front: &[u8]) -> usize
     }
 }
 
-/// The state after the first byte of a piece.
+// The state after the first byte of a piece.
 #[tactic(auto, unfolding(crate::specs::Pieces::begin))]
 fn begin(content: State, byte: u8) -> State
     ensures { result ≡ begin content byte }
@@ -598,7 +681,7 @@ fn begin(content: State, byte: u8) -> State
     }
 }
 
-/// Whether a byte leaves a state as it is, by a quick test of the most common bytes.
+// Whether a byte leaves a state as it is, by a quick test of the most common bytes.
 pub(crate) fn is_quiet(state: State, byte: u8) -> bool
     ensures { result ≡ is_quiet state byte }
 {
@@ -612,7 +695,7 @@ pub(crate) fn is_quiet(state: State, byte: u8) -> bool
     }
 }
 
-/// The state after a byte, which stays within a character.
+// The state after a byte, which stays within a character.
 fn state_after(form: Form, foreign: bool, state: State, front: &[u8], byte: u8) -> Option<State>
     ensures { result ≡ state_after form foreign state front.now byte }
 {
@@ -631,16 +714,29 @@ const fn ends_text(byte: u8) -> bool
     byte == b'<' || byte == b'&'
 }
 
-/// The first place from one on whose byte ends a text; the end where there is none.
-#[tactic(auto, using(crate::proofs::QuietSteps::none_passed))]
+// The first place from one on whose byte ends a text; the end where there is none.
 fn after_text(bytes: &[u8], from: usize) -> usize
     requires { from ≤ length bytes.now }
     ensures passed { from ≤ result }
     ensures within { result ≤ length bytes.now }
     ensures quiet { AreQuiet Data bytes.now from result }
 {
+    match memchr2(b'<', b'&', &bytes[from..]) {
+        Some(passed) => from + passed,
+        None => bytes.len(),
+    }
+}
+
+// The first place from one on whose byte is no ASCII letter or digit; the end where there is none.
+#[tactic(auto, using(crate::proofs::QuietSteps::none_alphanumeric))]
+fn after_alphanumerics(bytes: &[u8], from: usize) -> usize
+    requires { from ≤ length bytes.now }
+    ensures passed { from ≤ result }
+    ensures within { result ≤ length bytes.now }
+    ensures alphanumeric { AreAlphanumeric bytes.now from result }
+{
     for i in from..bytes.len() {
-        if ends_text(bytes[i]) {
+        if !is_alphanumeric(bytes[i]) {
             return i;
         }
     }
@@ -653,7 +749,7 @@ const fn is_byte(byte: u8, other: u8) -> bool
     byte == other
 }
 
-/// The first place of a byte from one on; the end where there is none.
+// The first place of a byte from one on; the end where there is none.
 #[tactic(auto, using(crate::proofs::QuietSteps::none_before))]
 fn after_others(stop: u8, bytes: &[u8], from: usize) -> usize
     requires { from ≤ length bytes.now }
@@ -669,9 +765,9 @@ fn after_others(stop: u8, bytes: &[u8], from: usize) -> usize
     bytes.len()
 }
 
-/// The first place from one on whose byte may change a state; at most the end.
-///
-/// It goes on in texts, comments and values in quotes, which are most of a page.
+// The first place from one on whose byte may change a state; at most the end.
+//
+// It goes on in texts, comments, names and values in quotes, which are most of a page.
 #[tactic(auto, using(crate::proofs::QuietSteps::none_passed))]
 pub(crate) fn after_quiet(state: State, bytes: &[u8], from: usize) -> usize
     requires { from ≤ length bytes.now }
@@ -684,6 +780,7 @@ pub(crate) fn after_quiet(state: State, bytes: &[u8], from: usize) -> usize
         State::DoubleQuotedValue => after_others(b'"', bytes, from),
         State::SingleQuotedValue => after_others(b'\'', bytes, from),
         State::Comment => after_others(b'-', bytes, from),
+        State::TagName | State::AttributeName | State::Raw(_) => after_alphanumerics(bytes, from),
         _ => from,
     }
 }

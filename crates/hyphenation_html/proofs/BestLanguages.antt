@@ -1,4 +1,4 @@
--- The best language is the same, whatever stands beside the codes.
+-- The best language is the same, whatever is beside the codes.
 use Rattle.std.proofs.Common.{◌≡◌, ℕ, ◌&&◌, Bool, true, false, List, [], ◌∷◌, map, length, nat_lt, refl, ap, sym, ◌∙◌, Option, Some, None, if◌then◌else◌}
 use Rattle.std.specs.Option.{option_map}
 use Rattle.hyphenation_html.specs.Languages.{coded, breaking, languages_by, code_length, better, best_from, best_of, serves}
@@ -6,7 +6,9 @@ use Rattle.any_dictionary.specs.declared.AnyDictionary.{AnyDictionary}
 use Rattle.hyphenation_html.specs.declared.languages.LanguageDictionary.{LanguageDictionary}
 use Rattle.hyphenation_html.specs.Words.{within_limits}
 use Rattle.any_dictionary.specs.Dictionaries.{places_by}
-use Rattle.hyphenation_html.specs.Private.Marked.{marked_text}
+use Rattle.html_pieces.specs.Elements.{Element}
+use Rattle.hyphenation_html.specs.Places.{is_left_alone}
+use Rattle.hyphenation_html.specs.Private.Marked.{dictionary_in, marked_in, marked_text}
 use Rattle.std.specs.Option.{option_map_or}
 use Rattle.hyphenation_html.specs.declared.settings.Settings.{Settings}
 
@@ -36,16 +38,28 @@ pub best_alike : (settings : Settings) (tag : List ℕ) (languages : List Langua
     → best_of tag (languages_by settings languages) ≡ option_map (breaking settings) (best_of tag (map coded languages))
 best_alike settings tag languages = from_alike settings tag None languages
 
--- A text in a language that has this dictionary.
-pub in_language : (settings : Settings) (mark text tag : List ℕ) (before after : Bool) (languages : List LanguageDictionary) (language : LanguageDictionary)
-    → Some (coded language) ≡ best_of tag (map coded languages)
-    → option_map_or (λ l. marked_text l.1 mark before after text) (best_of tag (languages_by settings languages)) text
-    ≡ marked_text (within_limits settings.min_word settings.skip_capitals (places_by language.dictionary)) mark before after text
-in_language settings mark text tag before after languages language best =
-    ap (λ o. option_map_or (λ l. marked_text l.1 mark before after text) o text) (best_alike settings tag languages ∙ ap (option_map (breaking settings)) (sym best))
+-- A text with its marks by a dictionary, if there is one.
+abbrev by_found : Settings → List ℕ → List ℕ → Bool → Bool → Option (List ℕ × AnyDictionary) → List ℕ
+by_found settings mark text before after found =
+    option_map_or (λ l. marked_text (within_limits settings.min_word settings.skip_capitals (places_by l.1)) mark before after text) found text
 
--- A text in a language that has none.
-pub in_no_language : (settings : Settings) (mark text tag : List ℕ) (before after : Bool) (languages : List LanguageDictionary)
-    → None ≡ best_of tag (map coded languages) → option_map_or (λ l. marked_text l.1 mark before after text) (best_of tag (languages_by settings languages)) text ≡ text
-in_no_language settings mark text tag before after languages best =
-    ap (λ o. option_map_or (λ l. marked_text l.1 mark before after text) o text) (best_alike settings tag languages ∙ ap (option_map (breaking settings)) (sym best))
+breaking_found : (settings : Settings) (mark text : List ℕ) (before after : Bool) (found : Option (List ℕ × AnyDictionary))
+    → by_found settings mark text before after found ≡ option_map_or (λ l. marked_text l.1 mark before after text) (option_map (breaking settings) found) text
+breaking_found settings mark text before after None = refl
+breaking_found settings mark text before after (Some language) = refl
+
+unless_alone : (settings : Settings) (mark text tag : List ℕ) (before after : Bool) (languages : List LanguageDictionary) (c : Bool)
+    → by_found settings mark text before after (if c then None else best_of tag (map coded languages))
+    ≡ (if c then text else option_map_or (λ l. marked_text l.1 mark before after text) (best_of tag (languages_by settings languages)) text)
+unless_alone settings mark text tag before after languages true = refl
+unless_alone settings mark text tag before after languages false =
+    breaking_found settings mark text before after (best_of tag (map coded languages))
+    ∙ ap (λ o. option_map_or (λ l. marked_text l.1 mark before after text) o text) (sym (best_alike settings tag languages))
+
+-- A text in an element, by the dictionary that is found for it.
+pub marked_by_found : (settings : Settings) (mark text : List ℕ) (element : Element) (before after : Bool) (languages : List LanguageDictionary) (found : Option (List ℕ × AnyDictionary))
+    → found ≡ dictionary_in languages element text
+    → option_map_or (λ l. marked_text (within_limits settings.min_word settings.skip_capitals (places_by l.1)) mark before after text) found text
+    ≡ marked_in (languages_by settings languages) mark element before after text
+marked_by_found settings mark text element before after languages found is =
+    ap (by_found settings mark text before after) is ∙ unless_alone settings mark text element.language before after languages (is_left_alone element text)

@@ -1,5 +1,6 @@
 -- A text with its marks has more than white space where it has without them.
-use Rattle.std.proofs.Common.{◌≡◌, ℕ, nat_eq, ◌||◌, ◌&&◌, Bool, true, false, not, zero, suc, List, [], ◌∷◌, ◌++◌, length, take, drop, refl, ap, sym, ◌∙◌, Option, Some, None, if◌then◌else◌}
+use Rattle.std.proofs.Common.{◌≡◌, ℕ, nat_eq, ◌||◌, ◌&&◌, Bool, true, false, not, zero, suc, List, [], ◌∷◌, ◌++◌, take, drop, refl, ap, sym, ◌∙◌, Option, Some, None, if◌then◌else◌}
+use Rattle.std.proofs.lemmas.Bool.{or_right, and_right}
 use Rattle.std.specs.Option.{option_map_or}
 use Rattle.std.specs.Str.{chars}
 use Rattle.unicode_segmentation.specs.Segments.{segments, cut}
@@ -14,7 +15,6 @@ use Rattle.hyphenation_html.specs.Languages.{Language, best_of}
 use Rattle.hyphenation_html.specs.Laws.{soft_hyphen}
 use Rattle.hyphenation_html.specs.Words.{is_left_whole}
 use Rattle.hyphenation_html.specs.Places.{is_left_alone, shifted, words_places, token_places, tokens_places, text_places, places_in}
-use Rattle.hyphenation_html.proofs.SecondRun.{or_right}
 
 either_none : (c : Bool) (xs : List ℕ) → xs ≡ [] → (if c then [] else xs) ≡ []
 either_none true xs e = refl
@@ -68,18 +68,14 @@ same_content languages element before after text =
 
 -- ---- the byte order mark
 
-and_false : (c : Bool) → c && false ≡ false
-and_false true = refl
-and_false false = refl
-
-marks_begin_none : (text places : List ℕ) → begins_with_order_mark text ≡ false → begins_with_order_mark (with_marks soft_hyphen text places) ≡ false
+pub marks_begin_none : (text places : List ℕ) → begins_with_order_mark text ≡ false → begins_with_order_mark (with_marks soft_hyphen text places) ≡ false
 marks_begin_none text [] e = e
 marks_begin_none text (zero ∷ ps) e = refl
 marks_begin_none [] (suc p ∷ ps) e = refl
-marks_begin_none (b ∷ bs) (suc zero ∷ ps) e = and_false (nat_eq 0xEF b)
-marks_begin_none (b ∷ []) (suc (suc p) ∷ ps) e = and_false (nat_eq 0xEF b)
-marks_begin_none (b ∷ (c ∷ cs)) (suc (suc zero) ∷ ps) e = ap (λ x. nat_eq 0xEF b && x) (and_false (nat_eq 0xBB c)) ∙ and_false (nat_eq 0xEF b)
-marks_begin_none (b ∷ (c ∷ [])) (suc (suc (suc p)) ∷ ps) e = ap (λ x. nat_eq 0xEF b && x) (and_false (nat_eq 0xBB c)) ∙ and_false (nat_eq 0xEF b)
+marks_begin_none (b ∷ bs) (suc zero ∷ ps) e = and_right (nat_eq 0xEF b) false refl
+marks_begin_none (b ∷ []) (suc (suc p) ∷ ps) e = and_right (nat_eq 0xEF b) false refl
+marks_begin_none (b ∷ (c ∷ cs)) (suc (suc zero) ∷ ps) e = ap (λ x. nat_eq 0xEF b && x) (and_right (nat_eq 0xBB c) false refl) ∙ and_right (nat_eq 0xEF b) false refl
+marks_begin_none (b ∷ (c ∷ [])) (suc (suc (suc p)) ∷ ps) e = ap (λ x. nat_eq 0xEF b && x) (and_right (nat_eq 0xBB c) false refl) ∙ and_right (nat_eq 0xEF b) false refl
 marks_begin_none (b ∷ (c ∷ (d ∷ ds))) (suc (suc (suc p)) ∷ ps) e = e
 
 as_content : (text : List ℕ) → begins_with_order_mark text ≡ false → has_text text ≡ has_content text
@@ -95,7 +91,7 @@ same_cases languages element before after text false e =
     as_content (with_marks soft_hyphen text places) (marks_begin_none text places e)
     ∙ same_content languages element before after text ∙ sym (as_content text e)
 
--- A text with its marks has more than white space where it has without them, but for a byte order mark.
+-- A text with its marks has more than white space where it has without them, except for a byte order mark.
 pub same_text : (languages : List Language) (element : Element) (before after : Bool) (text : List ℕ)
     → has_text (with_marks soft_hyphen text (places_in languages element before after text)) ≡ has_text text
 same_text languages element before after text = same_cases languages element before after text (begins_with_order_mark text) refl

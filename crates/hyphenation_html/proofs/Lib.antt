@@ -4,6 +4,7 @@ pub mod TextSteps
 pub mod Limits
 pub mod BestLanguages
 pub mod WordMarks
+pub mod PassedWords
 pub mod PageSteps
 pub mod Marks
 pub mod MarkedTexts
@@ -13,3 +14,4 @@ pub mod WordEdges
 pub mod SecondRun
 pub mod Contents
 pub mod SecondPages
+pub mod KeptForms

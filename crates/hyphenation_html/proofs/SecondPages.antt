@@ -1,5 +1,6 @@
 -- A page that has its marks has no places left, where it is cut as it was without them.
 use Rattle.std.proofs.Common.{◌≡◌, ℕ, ◌==◌, ◌||◌, ◌&&◌, Bool, true, false, not, nat_lt, List, [], ◌∷◌, ◌++◌, length, take, drop, suc, zero, arith, refl, ap, sym, ◌∙◌, subst, Option, Some, None, if◌then◌else◌}
+use Rattle.std.proofs.lemmas.Bool.{or_left, or_right}
 use Rattle.std.specs.Option.{option_map_or}
 use Rattle.std.proofs.lemmas.Bool.Decides.{nat_tests}
 use Rattle.std.specs.Str.{IsUtf8}
@@ -21,7 +22,7 @@ use Rattle.hyphenation_html.specs.Private.Marked.{marked_text, marked_in, marked
 use Rattle.hyphenation_html.proofs.MarkedPages.{IfChosen, chosen, piece_marked}
 use Rattle.hyphenation_html.proofs.Contents.{same_text}
 use Rattle.hyphenation_html.proofs.MarkedTexts.{Laws}
-use Rattle.hyphenation_html.proofs.SecondRun.{Implies, or_left, or_right, none_left}
+use Rattle.hyphenation_html.proofs.SecondRun.{Implies, none_left}
 use Rattle.hyphenation_html.proofs.WordEdges.{still_begins, still_ends}
 
 -- The pieces of a page, each with its marks.
@@ -247,7 +248,7 @@ other_text laws languages element before after EmptyTag bytes f u = refl
 other_text laws languages element before after EndTag bytes f u = refl
 other_text laws languages element before after Other bytes f u = refl
 
-other_texts : (laws : Laws) (languages : List Language) (form : Form) (class : List ℕ) (page : Element) (reading : Reading) (before : Bool) (ps : List Piece) → AllFit languages → AreUtf8 ps
+pub other_texts : (laws : Laws) (languages : List Language) (form : Form) (class : List ℕ) (page : Element) (reading : Reading) (before : Bool) (ps : List Piece) → AllFit languages → AreUtf8 ps
     → HaveOtherTexts ps (marked_list languages form class page reading before ps)
 other_texts laws languages form class page reading before [] f u = tt
 other_texts laws languages form class page reading before (p ∷ ps) f u = (

@@ -1,5 +1,6 @@
 -- A text that has its marks has no places left.
 use Rattle.std.proofs.Common.{◌≡◌, ℕ, ◌==◌, ◌&&◌, ◌||◌, Bool, true, false, List, [], ◌∷◌, ◌++◌, length, take, drop, refl, ap, sym, ◌∙◌, append_assoc, append-nil, subst, if◌then◌else◌, suc, zero, ◌<◌, arith}
+use Rattle.std.proofs.lemmas.Bool.{or_left, or_right}
 use Rattle.std.specs.Str.{IsUtf8}
 use Rattle.unicode_segmentation.specs.Word.{word_bounds}
 use Rattle.hyphenation_segments.specs.Laws.{with_marks}
@@ -43,14 +44,6 @@ no_white-marks text (p ∷ ps) w =
     (no_white-drop p (with_marks soft_hyphen text ps) (no_white-marks text ps w))
 
 -- ---- what stands between white space
-
-pub or_right : (a b : Bool) → b ≡ true → a || b ≡ true
-or_right true b e = refl
-or_right false b e = e
-
-pub or_left : (a b : Bool) → a ≡ true → a || b ≡ true
-or_left true b e = refl
-or_left false b e = cc
 
 marks_seen : (before : ℕ) (xs ys : List ℕ) → has_soft_hyphen_after before ((xs ++ soft_hyphen) ++ ys) ≡ true
 marks_seen before [] ys = or_right (before == 0xC2 && 0xC2 == 0xAD) (has_soft_hyphen_after 0xC2 (0xAD ∷ ys)) refl

@@ -29,7 +29,7 @@ token_ends breaks mark before after text start i lt e =
     ∙ ap (λ front. token ++ get_or text i 0 ∷ marked_tokens breaks mark false after front (drop (i + 1) text)) (sym (slice_none text (i + 1)))
     ∙ ap (λ space. token ++ (space ++ marked_tokens breaks mark false after (slice_range text (i + 1) (i + 1)) (drop (i + 1) text))) (sym (slice_one text i lt))
 
--- what is told of a text after i bytes of it
+-- the result of a text after i bytes of it
 pub record TextTold (breaks : Breaks) (mark whole text output : List ℕ) (before after : Bool) (start i : ℕ) : Type 0 where
   pub started : start ≤ i
   pub at_character : IsCharBoundary text start

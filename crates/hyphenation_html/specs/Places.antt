@@ -6,6 +6,7 @@ use Rattle.unicode_segmentation.specs.Word.{word_bounds}
 use Rattle.html_pieces.specs.Bytes.{is_white_space}
 use Rattle.html_pieces.specs.declared.bytes.Form.{Form}
 use Rattle.html_pieces.specs.Forms.{begins_with_order_mark, form_of}
+use Rattle.html_pieces.specs.Languages.{languages_of}
 use Rattle.html_pieces.specs.Pieces.{Piece, pieces_of}
 use Rattle.html_pieces.specs.Elements.{Element, page_element}
 use Rattle.html_pieces.specs.Readings.{Reading, at_start, standing, reading_after}
@@ -90,7 +91,7 @@ abbrev pub marked_page : Settings → List LanguageDictionary → List ℕ → L
 marked_page settings languages language page =
     with_marks settings.mark.now page (page_places settings languages language page)
 
--- A result of a page is done: read in the form of the page, it has no break left.
+-- A result of a page is done: read again as a page, it names the languages that the page names, and stays as it is.
 abbrev pub IsDone : Settings → List LanguageDictionary → List ℕ → List ℕ → List ℕ → Type 0
 IsDone settings languages language page output =
-    places_in_form settings languages (form_of page) language output ≡ []
+    (languages_of output ≡ languages_of page) × (marked_page settings languages language output ≡ output)

@@ -3,7 +3,7 @@ use Rattle.std.specs.Prelude.{ℕ, ◌-◌, ◌||◌, Bool, true, false, List, [
 use Rattle.std.specs.Option.{option_map_or}
 use Rattle.addresses.specs.Addresses.{is_of_word}
 use Rattle.html_pieces.specs.Names.{name_of}
-use Rattle.html_pieces.specs.Groups.{is_one_of}
+use Rattle.html_pieces.specs.Bytes.{is_one_of}
 use Rattle.html_pieces.specs.Pieces.{Piece}
 use Rattle.html_pieces.specs.declared.tokenizer.Kind.{Kind}
 use Rattle.html_pieces.specs.declared.tokenizer.Kind.TheVariants.{Text, Reference, StartTag, EmptyTag, EndTag, Other}

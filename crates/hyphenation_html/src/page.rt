@@ -1,102 +1,37 @@
 //! Whole pages.
 
 ghost use Rattle.std.specs.Prelude.{◌≡◌, ◌++◌, ◌<◌, ◌&&◌, [], All, Some, map, length, slice_get, IfOk, OnOk};
+ghost use Rattle.std.specs.Option.{option_map};
 ghost use Rattle.std.specs.String.{string_bytes};
 ghost use Rattle.html_pieces.specs.Pieces.{as_piece, pieces_of};
 ghost use Rattle.html_pieces.specs.Forms.{form_of};
 ghost use Rattle.html_pieces.specs.Elements.{as_element};
-ghost use Rattle.hyphenation_html.specs.Languages.{languages_by};
+ghost use Rattle.hyphenation_html.specs.Languages.{coded, languages_by};
 ghost use Rattle.hyphenation_html.specs.Places.{is_left_alone, page_places, marked_page, IsDone};
 ghost use Rattle.hyphenation_html.specs.Touching.{touched_after};
 ghost use Rattle.hyphenation_html.specs.Laws.{IsPageWithMarks, IsInText, soft_hyphen};
 ghost use Rattle.hyphenation_html.specs.Private.Fit.{AllFit};
-ghost use Rattle.hyphenation_html.specs.Private.Marked.{is_text, marked_in_language, marked_read_by, marked_in_by};
+ghost use Rattle.hyphenation_html.specs.Private.Marked.{so_far, dictionary_in, is_text, marked_in_by};
 ghost use Rattle.hyphenation_html.specs.Private.Marked.{marked_piece_by, marked_pieces_by, marked_page_by};
 
 use crate::cut::HtmlPage;
 use crate::dictionary::limited_breaks_fit;
 use crate::languages::{LanguageDictionary, best_of};
 use crate::settings::Settings;
-use crate::text::push_text;
+use crate::text::{Output, push_text};
 use crate::touching::{touched_after, touched_before};
 use html_pieces::bytes::Form;
 use html_pieces::elements::{Element, page_element};
 use html_pieces::forms::begins_with_order_mark;
-use html_pieces::laws::{other_texts_are_cut_alike, pieces_are_utf8, pieces_join};
+use html_pieces::laws::{
+    other_texts_are_cut_alike, other_texts_leave_the_form, pieces_are_utf8, pieces_join,
+};
 use html_pieces::readings::{Reading, pass, standing};
 use html_pieces::references::read;
 use html_pieces::tokenizer::{Kind, Piece};
 use hyphenation_hyphenator::hyphenator::laws::plain_breaks_fit_where_ascending;
 use hyphenation_segments::iter::laws::{marked_segments_join, segments_join};
 use std::alloc::{AllocError, Global};
-
-// Appends a text as it is.
-fn push_unmarked(output: &mut String, text: &str) -> Result<(), AllocError>
-    ensures { OnOk result (string_bytes output.new ≡ string_bytes output.old ++ text.now) }
-{
-    output.push_str(text)
-}
-
-// Appends a text in a language, with the mark at the breaks of its words by the dictionary of the language.
-fn push_in_language(
-    output: &mut String,
-    alloc: Global,
-    languages: &[LanguageDictionary],
-    settings: &Settings<'_>,
-    language: &[u8],
-    text: &str,
-    before: bool,
-    after: bool,
-) -> Result<(), AllocError>
-    ensures { OnOk result (string_bytes output.new ≡ string_bytes output.old
-        ++ marked_in_language settings.now languages.now language.now before after text.now) }
-{
-    match best_of(languages, language) {
-        Some(language) => push_text(
-            output,
-            alloc,
-            &language.dictionary,
-            settings,
-            text,
-            before,
-            after,
-        ),
-        None => push_unmarked(output, text),
-    }
-}
-
-// Appends a text in the language of an element, whose references are read first.
-fn push_read(
-    output: &mut String,
-    alloc: Global,
-    languages: &[LanguageDictionary],
-    settings: &Settings<'_>,
-    element: Element<'_>,
-    text: &str,
-    before: bool,
-    after: bool,
-) -> Result<(), AllocError>
-    ensures { OnOk result (string_bytes output.new ≡ string_bytes output.old
-        ++ marked_read_by settings.now languages.now element.entry before after text.now) }
-{
-    if element.has_references {
-        let language = read(alloc, element.language)?;
-        push_in_language(
-            output, alloc, languages, settings, &language, text, before, after,
-        )
-    } else {
-        push_in_language(
-            output,
-            alloc,
-            languages,
-            settings,
-            element.language,
-            text,
-            before,
-            after,
-        )
-    }
-}
 
 // Whether a text is left alone by its element, or begins with U+FEFF.
 fn is_left_alone(element: Element<'_>, text: &str) -> bool
@@ -105,10 +40,29 @@ fn is_left_alone(element: Element<'_>, text: &str) -> bool
     element.is_left_alone || begins_with_order_mark(text.as_bytes())
 }
 
-// Appends a text of an element, with the mark at the breaks of its words by the dictionary of its language.
-fn push_in(
-    output: &mut String,
+// Returns the dictionary for the words of a text in an element: none where the text is left alone.
+fn dictionary_in<'l>(
     alloc: Global,
+    languages: &'l [LanguageDictionary],
+    element: Element<'_>,
+    text: &str,
+) -> Result<Option<&'l LanguageDictionary>, AllocError>
+    ensures { IfOk result (λ found. option_map (λ l. coded l.now) found
+        ≡ dictionary_in languages.now (as_element element.entry) text.now) }
+{
+    if is_left_alone(element, text) {
+        Ok(None)
+    } else if element.has_references {
+        let language = read(alloc, element.language)?;
+        Ok(best_of(languages, &language))
+    } else {
+        Ok(best_of(languages, element.language))
+    }
+}
+
+// Appends a text in an element, with the mark at the breaks of its words by the dictionary of its language.
+fn push_in(
+    output: &mut Output,
     languages: &[LanguageDictionary],
     settings: &Settings<'_>,
     element: Element<'_>,
@@ -116,22 +70,21 @@ fn push_in(
     before: bool,
     after: bool,
 ) -> Result<(), AllocError>
-    ensures { OnOk result (string_bytes output.new ≡ string_bytes output.old
+    ensures { OnOk result (so_far output.new ≡ so_far output.old
         ++ marked_in_by settings.now languages.now element.entry before after text.now) }
 {
-    if is_left_alone(element, text) {
-        output.push_str(text)
-    } else {
-        push_read(
-            output, alloc, languages, settings, element, text, before, after,
-        )
+    match dictionary_in(output.alloc, languages, element, text)? {
+        Some(found) => push_text(output, &found.dictionary, settings, text, before, after),
+        None => {
+            output.text.push_str(text)?;
+            Ok(())
+        }
     }
 }
 
-// Appends a piece of an element; the mark comes into text alone.
+// Appends a piece in an element; the mark comes into text alone.
 fn push_piece(
-    output: &mut String,
-    alloc: Global,
+    output: &mut Output,
     languages: &[LanguageDictionary],
     settings: &Settings<'_>,
     element: Element<'_>,
@@ -139,14 +92,14 @@ fn push_piece(
     before: bool,
     after: bool,
 ) -> Result<(), AllocError>
-    ensures { OnOk result (string_bytes output.new ≡ string_bytes output.old
+    ensures { OnOk result (so_far output.new ≡ so_far output.old
         ++ marked_piece_by settings.now languages.now element.entry before after piece.entry) }
 {
     match piece.kind {
         Kind::Text => push_in(
-            output, alloc, languages, settings, element, piece.text, before, after,
+            output, languages, settings, element, piece.text, before, after,
         ),
-        _ => output.push_str(piece.text),
+        _ => output.text.push_str(piece.text),
     }
 }
 
@@ -174,29 +127,26 @@ fn text_touched_after(kind: Kind, rest: &[Piece<'_>]) -> bool
 
 // Appends the pieces of a page, each in the element that it is in.
 fn push_pieces<'t>(
-    output: &mut String,
-    alloc: Global,
+    output: &mut Output,
     languages: &[LanguageDictionary],
     settings: &Settings<'_>,
     form: Form,
     around: Element<'t>,
     pieces: &[Piece<'t>],
 ) -> Result<(), AllocError>
-    ensures { OnOk result (string_bytes output.new ≡ string_bytes output.old
+    ensures { OnOk result (so_far output.new ≡ so_far output.old
         ++ marked_pieces_by settings.now languages.now form around.entry pieces.now) }
 {
-    let mut reading = Reading::new(alloc, form, pieces);
+    let mut reading = Reading::new(output.alloc, form, pieces);
     let mut before = false;
     for i in 0..pieces.len() {
         let piece = piece_at(pieces, i);
         let after = text_touched_after(piece.kind, &pieces[i + 1..]);
         let element = standing(form, around, &reading);
-        push_piece(
-            output, alloc, languages, settings, element, piece, before, after,
-        )?;
+        push_piece(output, languages, settings, element, piece, before, after)?;
         pass(
             &mut reading,
-            alloc,
+            output.alloc,
             form,
             settings.class.as_bytes(),
             around,
@@ -218,18 +168,17 @@ fn written(
     ensures { IfOk result (λ output.
         string_bytes output ≡ marked_page_by settings.now languages.now language.now page.now) }
 {
-    let mut output = String::with_capacity(alloc, page.len())?;
+    let mut output = Output::with_capacity(alloc, page.len())?;
     let around = page_element(language.as_bytes());
     push_pieces(
         &mut output,
-        alloc,
         languages,
         settings,
         page.form(),
         around,
         page.pieces(),
     )?;
-    Ok(output)
+    Ok(output.text)
 }
 
 // Gives proofs that the breaks of each word, by each of some dictionaries, ascend on it.
@@ -250,13 +199,14 @@ fn all_fit(languages: &[LanguageDictionary], settings: &Settings<'_>)
 /// All that is not text stays as it is, byte for byte: tags, comments, scripts, character references. So do the texts
 /// of elements as `pre` and `code`, with `translate="no"`, or with the class of the settings. A part of a text between
 /// white space is left whole if it has a soft hyphen or is an address. So is one that goes on in a character reference,
-/// or over a tag within a line, as that of `b`.
+/// or over a tag within a line, as that of `b`. So with soft hyphens as marks a second run changes nothing of the result.
 ///
 /// An error says that memory was refused.
 ///
 /// ```text
 /// let page = HtmlPage::new(alloc, "<p>Firkin <code>firkin</code></p>")?;
-/// hyphenate_html(alloc, &languages, "en", &Settings::new(), &page)?
+/// let settings = Settings { mark: "-", ..Settings::new() };
+/// hyphenate_html(alloc, &languages, "en", &settings, &page)?    // <p>Fir-kin <code>firkin</code></p>
 /// ```
 pub fn hyphenate_html(
     alloc: Global,
@@ -280,6 +230,7 @@ pub fn hyphenate_html(
     pieces_join();
     pieces_are_utf8();
     other_texts_are_cut_alike();
+    other_texts_leave_the_form();
     all_fit(languages, settings);
     page.invariant();
     written(alloc, languages, language, settings, page)

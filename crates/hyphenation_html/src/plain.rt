@@ -9,7 +9,7 @@ ghost use Rattle.hyphenation_html.specs.Texts.{hyphenated};
 use crate::dictionary::limited_breaks_fit;
 use crate::laws::a_second_run_finds_no_break;
 use crate::settings::Settings;
-use crate::text::push_text;
+use crate::text::{Output, push_text};
 use any_dictionary::AnyDictionary;
 use hyphenation_hyphenator::hyphenator::laws::plain_breaks_fit_where_ascending;
 use hyphenation_segments::iter::laws::{marked_segments_join, segments_join};
@@ -25,9 +25,9 @@ fn written(
     ensures { IfOk result (λ output. string_bytes output
         ≡ marked_text_by settings.now dictionary.now false false text.now) }
 {
-    let mut output = String::with_capacity(alloc, text.len())?;
-    push_text(&mut output, alloc, dictionary, settings, text, false, false)?;
-    Ok(output)
+    let mut output = Output::with_capacity(alloc, text.len())?;
+    push_text(&mut output, dictionary, settings, text, false, false)?;
+    Ok(output.text)
 }
 
 /// Returns a text without markup with the mark at each break of its words that changes no letters.

@@ -1,104 +1,121 @@
 //! The words of a text between tags.
 
-ghost use Rattle.std.specs.Prelude.{◌≡◌, ◌++◌, OnOk};
+ghost use Rattle.std.specs.Prelude.{◌≡◌, ◌++◌, ◌&&◌, [], map, not, IfOk, IsTrue, OnOk};
 ghost use Rattle.std.specs.String.{string_bytes};
-ghost use Rattle.any_dictionary.specs.Dictionaries.{places_by};
-ghost use Rattle.hyphenation_html.specs.Private.Marked.{marked_word, marked_word_by, marked_token_by, token_unless, marked_text_by};
+ghost use Rattle.hyphenation_breaks.specs.Break.{plain_break};
+ghost use Rattle.hyphenation_segments.specs.Fits.{Fits};
+ghost use Rattle.hyphenation_html.specs.Languages.{breaks_under};
+ghost use Rattle.hyphenation_html.specs.Words.{is_left_whole};
+ghost use Rattle.hyphenation_html.specs.Private.Marked.{so_far, token_unless, marked_text_by};
 
 use crate::settings::Settings;
 use crate::words::{is_left_whole, is_passed_over};
 use any_dictionary::AnyDictionary;
 use html_pieces::bytes::is_white_space;
 use hyphenation_segments::iter::laws::marked_segments_join;
-use hyphenation_segments::iter::push_marked;
+use hyphenation_segments::iter::push_marked_text;
 use std::alloc::{AllocError, Global};
 use word_pieces::WordPieces;
+use word_pieces::laws::pieces_are_slices;
 
-// Appends a word with the mark at its breaks.
-fn push_breaking(
-    output: &mut String,
-    alloc: Global,
-    dictionary: &AnyDictionary,
-    word: &str,
-    mark: &str,
-) -> Result<(), AllocError>
-    ensures { OnOk result (string_bytes output.new
-        ≡ string_bytes output.old ++ marked_word (places_by dictionary.now) mark.now word.now) }
-{
-    marked_segments_join();
-    let word = dictionary.with_plain_breaks(alloc, word)?;
-    push_marked(output, &word, mark)
+// A text that is being written, and a list for the breaks of a word, for which memory is taken once.
+#[derive(Drop)]
+pub(crate) struct Output {
+    pub(crate) text: String,
+    pub(crate) alloc: Global,
+    breaks: Vec<usize>,
 }
 
-// Appends a word with the mark at its breaks, or as it is where it is passed over.
-fn push_word(
-    output: &mut String,
-    alloc: Global,
-    dictionary: &AnyDictionary,
-    settings: &Settings<'_>,
-    word: &str,
-) -> Result<(), AllocError>
-    ensures { OnOk result (string_bytes output.new
-        ≡ string_bytes output.old ++ marked_word_by settings.now dictionary.now word.now) }
-{
-    if is_passed_over(settings, word) {
-        output.push_str(word)
-    } else {
-        push_breaking(output, alloc, dictionary, word, settings.mark)
+impl Output {
+    // Begins with nothing written, and room for a number of bytes.
+    pub(crate) fn with_capacity(alloc: Global, bytes: usize) -> Result<Output, AllocError>
+        ensures { IfOk result (λ output. string_bytes output.text ≡ []) }
+    {
+        Ok(Output {
+            text: String::with_capacity(alloc, bytes)?,
+            alloc,
+            breaks: Vec::new(alloc),
+        })
+    }
+
+    // Puts the breaks of a word into the list, none where it is passed over. Returns whether there is one.
+    fn find_breaks(
+        &mut self,
+        dictionary: &AnyDictionary,
+        settings: &Settings<'_>,
+        word: &str,
+    ) -> Result<bool, AllocError>
+        ensures breaks { OnOk result (self.new.breaks.items ≡ breaks_under settings.now dictionary.now word.now) }
+        ensures fit { IfOk result (λ found. IsTrue found → Fits word.now (map plain_break self.new.breaks.items)) }
+        ensures none { IfOk result (λ found. IsTrue (not found) → breaks_under settings.now dictionary.now word.now ≡ []) }
+        ensures text { self.new.text ≡ self.old.text }
+    {
+        if is_passed_over(settings, word) {
+            self.breaks.clear();
+            return Ok(false);
+        }
+        dictionary.plain_places_into(self.alloc, word, &mut self.breaks)?;
+        Ok(!self.breaks.is_empty())
     }
 }
 
-// Appends a token, which is between white space, with the mark at the breaks of its words.
-#[tactic(auto, unfolding(crate::specs::Private::Marked::marked_token))]
+// Tests whether a token is left whole, unless that was asked before and it was not.
+fn is_whole(is_asked: bool, token: &str) -> bool
+    ensures { result ≡ (not is_asked && is_left_whole token.now) }
+{
+    !is_asked && is_left_whole(token)
+}
+
+// Appends a token, which is between white space, with the mark at the breaks of its words. It is appended as it is where
+// it is left whole, or where its word goes on outside of the text.
 fn push_token(
-    output: &mut String,
-    alloc: Global,
-    dictionary: &AnyDictionary,
-    settings: &Settings<'_>,
-    token: &str,
-) -> Result<(), AllocError>
-    ensures { OnOk result (string_bytes output.new
-        ≡ string_bytes output.old ++ marked_token_by settings.now dictionary.now token.now) }
-{
-    if is_left_whole(token) {
-        return output.push_str(token);
-    }
-    for word in WordPieces::new(token) {
-        push_word(output, alloc, dictionary, settings, word)?;
-    }
-    Ok(())
-}
-
-// Appends a token with its marks, or as it is where its word goes on outside of the text.
-fn push_token_unless(
-    output: &mut String,
-    alloc: Global,
+    output: &mut Output,
     dictionary: &AnyDictionary,
     settings: &Settings<'_>,
     token: &str,
     touches: bool,
 ) -> Result<(), AllocError>
-    ensures { OnOk result (string_bytes output.new
-        ≡ string_bytes output.old ++ token_unless touches settings.now dictionary.now token.now) }
+    ensures { OnOk result (so_far output.new
+        ≡ so_far output.old ++ token_unless touches settings.now dictionary.now token.now) }
 {
     if touches {
-        output.push_str(token)
-    } else {
-        push_token(output, alloc, dictionary, settings, token)
+        return output.text.push_str(token);
     }
+    pieces_are_slices();
+    marked_segments_join();
+    // A word without breaks is not appended by itself: the token from `start` on is still to be appended. Most tokens have
+    // no word with breaks, and need not be looked at for what leaves them whole.
+    let mut is_asked = false;
+    let mut start = 0;
+    let mut at = 0;
+    for word in WordPieces::new(token) {
+        let end = at + word.len();
+        if output.find_breaks(dictionary, settings, word)? {
+            if is_whole(is_asked, token) {
+                output.text.push_str(&token[start..])?;
+                return Ok(());
+            }
+            is_asked = true;
+            output.text.push_str(&token[start..at])?;
+            push_marked_text(&mut output.text, word, &output.breaks, settings.mark)?;
+            start = end;
+        }
+        at = end;
+    }
+    output.text.push_str(&token[start..])?;
+    Ok(())
 }
 
 // Appends a text with the mark at the breaks of its words, but of those that go on outside of it.
 pub(crate) fn push_text(
-    output: &mut String,
-    alloc: Global,
+    output: &mut Output,
     dictionary: &AnyDictionary,
     settings: &Settings<'_>,
     text: &str,
     touched_before: bool,
     touched_after: bool,
 ) -> Result<(), AllocError>
-    ensures { OnOk result (string_bytes output.new ≡ string_bytes output.old
+    ensures { OnOk result (so_far output.new ≡ so_far output.old
         ++ marked_text_by settings.now dictionary.now touched_before touched_after text.now) }
 {
     let bytes = text.as_bytes();
@@ -106,12 +123,12 @@ pub(crate) fn push_text(
     let mut start = 0;
     for i in 0..bytes.len() {
         if is_white_space(bytes[i]) {
-            push_token_unless(output, alloc, dictionary, settings, &text[start..i], before)?;
-            output.push_str(&text[i..i + 1])?;
+            push_token(output, dictionary, settings, &text[start..i], before)?;
+            output.text.push(char::from(bytes[i]))?;
             before = false;
             start = i + 1;
         }
     }
     let touches = before || touched_after;
-    push_token_unless(output, alloc, dictionary, settings, &text[start..], touches)
+    push_token(output, dictionary, settings, &text[start..], touches)
 }

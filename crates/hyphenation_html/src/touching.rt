@@ -1,65 +1,31 @@
 //! Words that go on beyond a text: over a tag within a line, or in a character reference.
 
 ghost use Rattle.std.specs.Prelude.{◌≡◌, map};
-ghost use Rattle.html_pieces.specs.Groups.{is_one_of};
 ghost use Rattle.html_pieces.specs.Pieces.{as_piece};
-ghost use Rattle.hyphenation_html.specs.Touching.{phrase_names, style_names, is_inline, goes_on_over, touched_after};
+ghost use Rattle.hyphenation_html.specs.Touching.{is_inline, goes_on_over, touched_after};
 ghost use Rattle.hyphenation_html.specs.Touching.{begins_in_word, ends_in_word, begins_touching, ends_touching, touched_before};
 
 use addresses::is_of_word;
-use html_pieces::bytes::is_same_name;
+use html_pieces::bytes::is_one_of;
 use html_pieces::tokenizer::{Kind, Piece, name_of};
 
-// Whether an element is within a line by what it means.
-fn is_phrase(name: &[u8]) -> bool
-    ensures { result ≡ is_one_of phrase_names name.now }
-{
-    is_same_name(name, b"a")
-        || is_same_name(name, b"abbr")
-        || is_same_name(name, b"acronym")
-        || is_same_name(name, b"bdi")
-        || is_same_name(name, b"bdo")
-        || is_same_name(name, b"cite")
-        || is_same_name(name, b"data")
-        || is_same_name(name, b"del")
-        || is_same_name(name, b"dfn")
-        || is_same_name(name, b"em")
-        || is_same_name(name, b"ins")
-        || is_same_name(name, b"mark")
-        || is_same_name(name, b"q")
-        || is_same_name(name, b"strong")
-        || is_same_name(name, b"time")
-        || is_same_name(name, b"wbr")
-}
+// Elements within a line by what they mean.
+const PHRASE_NAMES: [&[u8]; 16] = [
+    b"a", b"abbr", b"acronym", b"bdi", b"bdo", b"cite", b"data", b"del", b"dfn", b"em", b"ins",
+    b"mark", b"q", b"strong", b"time", b"wbr",
+];
 
-// Whether an element is within a line by how it looks.
-fn is_style(name: &[u8]) -> bool
-    ensures { result ≡ is_one_of style_names name.now }
-{
-    is_same_name(name, b"b")
-        || is_same_name(name, b"big")
-        || is_same_name(name, b"code")
-        || is_same_name(name, b"font")
-        || is_same_name(name, b"i")
-        || is_same_name(name, b"kbd")
-        || is_same_name(name, b"nobr")
-        || is_same_name(name, b"s")
-        || is_same_name(name, b"samp")
-        || is_same_name(name, b"small")
-        || is_same_name(name, b"span")
-        || is_same_name(name, b"strike")
-        || is_same_name(name, b"sub")
-        || is_same_name(name, b"sup")
-        || is_same_name(name, b"tt")
-        || is_same_name(name, b"u")
-        || is_same_name(name, b"var")
-}
+// Elements within a line by how they look.
+const STYLE_NAMES: [&[u8]; 17] = [
+    b"b", b"big", b"code", b"font", b"i", b"kbd", b"nobr", b"s", b"samp", b"small", b"span",
+    b"strike", b"sub", b"sup", b"tt", b"u", b"var",
+];
 
 // Whether an element is within a line.
 fn is_inline(name: &[u8]) -> bool
     ensures { result ≡ is_inline name.now }
 {
-    is_phrase(name) || is_style(name)
+    is_one_of(name, &PHRASE_NAMES) || is_one_of(name, &STYLE_NAMES)
 }
 
 // Whether a word goes on over a piece.

@@ -1,7 +1,7 @@
 -- The fronts of a tag, gone through from the longest to the shortest.
-use Rattle.std.proofs.Common.{◌≡◌, ◌≢◌, ℕ, ◌+◌, ◌==◌, Bool, true, false, List, [], ◌∷◌, ◌++◌, map, take, reverse, cond, refl, ap, sym, ◌∙◌, arith, append_assoc, append-nil}
+use Rattle.std.proofs.Common.{◌≡◌, ◌≢◌, ℕ, ◌+◌, ◌==◌, Bool, true, false, List, [], ◌∷◌, ◌++◌, map, take, reverse, cond, ap, sym, ◌∙◌, arith, append_assoc, append-nil}
 use Rattle.std.specs.List.{filter, range_with_len, slice_index}
-use Rattle.std.proofs.lemmas.Bool.{eq-eqb, eqb-true}
+use Rattle.std.proofs.lemmas.Bool.{eq-eqb, eqb-true, false_from_ne_true}
 use Rattle.std.proofs.lemmas.List.{map-id, reverse-append}
 use Rattle.std.proofs.lemmas.List.Elements.{filter-append}
 use Rattle.std.proofs.lemmas.List.FromFn.{filter_of_map_range_with_len_more}
@@ -25,10 +25,6 @@ places_without p n h =
     ap reverse (places_more p n) ∙ ap (λ b. reverse (filter p (range_with_len 0 n) ++ cond b (n ∷ []) [])) h
     ∙ ap reverse (append-nil (filter p (range_with_len 0 n)))
 
-is_false : (b : Bool) → (b ≡ true → ⊥) → b ≡ false
-is_false true h = absurd (h refl)
-is_false false h = refl
-
 abbrev fronts_at : List ℕ → List ℕ → List (List ℕ)
 fronts_at tag places = map (λ place. take place tag) places
 
@@ -38,7 +34,7 @@ before_hyphen tag n h = ap (fronts_at tag) (places_with (λ place. slice_index t
 pub before_other : (tag : List ℕ) (n : ℕ) → slice_index tag n ≢ hyphen → fronts_before tag (n + 1) ≡ fronts_before tag n
 before_other tag n h =
     ap (fronts_at tag)
-    (places_without (λ place. slice_index tag place == hyphen) n (is_false (slice_index tag n == hyphen) (λ e. h (eqb-true (slice_index tag n) hyphen e))))
+    (places_without (λ place. slice_index tag place == hyphen) n (false_from_ne_true (slice_index tag n == hyphen) (λ e. h (eqb-true (slice_index tag n) hyphen e))))
 
 pub place_with_hyphen : (tag : List ℕ) (n : ℕ) (old new : List (List ℕ)) → slice_index tag n ≡ hyphen → new ≡ old ++ filter is_code (take n tag ∷ [])
     → PassesPlace tag n old new

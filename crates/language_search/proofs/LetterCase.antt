@@ -1,7 +1,7 @@
 -- A tag has the same paths in capitals and in small letters.
 use Rattle.std.proofs.Common.{◌≡◌, ℕ, ◌==◌, Bool, true, false, List, [], ◌∷◌, map, refl, ap, sym, ◌∙◌, arith, if◌then◌else◌}
 use Rattle.std.specs.Char.{to_ascii_lowercase, to_ascii_uppercase}
-use Rattle.std.proofs.lemmas.Bool.{eqb-true, eqb-false}
+use Rattle.std.proofs.lemmas.Bool.{eqb-true, eqb-false, false_from_ne_true}
 use Rattle.std.proofs.lemmas.Bool.Decides.{nat_tests}
 use Rattle.std.proofs.lemmas.Str.Ascii.{lowercase-lowercase, lowercase-uppercase}
 use Rattle.std.specs.List.{filter, flat_map}
@@ -11,17 +11,13 @@ use Rattle.language_search.specs.Laws.{PathsHaveNoCase}
 use Rattle.language_search.specs.Paths.{paths_of_code}
 use Rattle.language_search.specs.Tags.{underscore, searched_byte, searched, fronts}
 
-is_false : (b : Bool) → (b ≡ true → ⊥) → b ≡ false
-is_false true h = absurd (h refl)
-is_false false h = refl
-
 searched_same : (f : ℕ → ℕ) → f underscore ≡ underscore → ((b : ℕ) → f b ≡ underscore → b ≡ underscore)
     → ((b : ℕ) → to_ascii_lowercase (f b) ≡ to_ascii_lowercase b) → (b : ℕ) (test : Bool) → (b == underscore) ≡ test → searched_byte (f b) ≡ searched_byte b
 searched_same f keeps back same b true h =
     let is : b ≡ underscore = eqb-true b underscore h in
     ap (λ x. searched_byte (f x)) is ∙ ap searched_byte keeps ∙ ap searched_byte (sym is)
 searched_same f keeps back same b false h =
-    let other : (f b == underscore) ≡ false = is_false (f b == underscore) (λ e. eqb-false b underscore h (back b (eqb-true (f b) underscore e))) in
+    let other : (f b == underscore) ≡ false = false_from_ne_true (f b == underscore) (λ e. eqb-false b underscore h (back b (eqb-true (f b) underscore e))) in
     ap (λ test. if test then hyphen else to_ascii_lowercase (f b)) other ∙ same b
     ∙ ap (λ test. if test then hyphen else to_ascii_lowercase b) (sym h)
 

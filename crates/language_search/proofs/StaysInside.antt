@@ -1,11 +1,12 @@
 -- No path leaves the folders.
-use Rattle.std.proofs.Common.{◌≡◌, ◌≢◌, ◌⊎◌, ℕ, Bool, true, false, List, [], ◌∷◌, ◌++◌, codes, refl, ap, ◌∙◌, All, Contains, Option, Some, None, IfSome, inl, inr, if◌then◌else◌}
+use Rattle.std.proofs.Common.{◌≡◌, ◌≢◌, ◌⊎◌, ℕ, Bool, true, false, List, [], ◌∷◌, ◌++◌, codes, refl, ap, ◌∙◌, All, Contains, Option, Some, None, IfSome, inl, inr, if◌then◌else◌, true≢false, sym}
 use Rattle.std.specs.List.{flat_map, list_all, AllByRecursion}
 use Rattle.std.specs.Str.{bytes_eq}
 use Rattle.std.proofs.lemmas.List.Elements.{All-nil, All-cons, All-head, All-tail, All-append, All-from_recursion, All-contains_itself, filter_passes}
+use Rattle.std.proofs.lemmas.Bool.{and_parts}
 use Rattle.hyphenation_breaks.specs.Ascii.{dot, slash}
 use Rattle.hyphenation_breaks.specs.Language.{is_code_byte, is_code, IsCode}
-use Rattle.language_search.proofs.Codes.{first_of, second_of, bytes_of_code}
+use Rattle.language_search.proofs.Codes.{bytes_of_code}
 use Rattle.language_search.specs.Laws.{IsPlainName, IsRightIn, PathsStayInFolders}
 use Rattle.language_search.specs.Names.{usual_variant, name_if_any, names_of}
 use Rattle.language_search.specs.Paths.{paths_in, paths_of_name, paths_of_code}
@@ -18,14 +19,11 @@ each_gives P Q f gives [] all = All-nil P
 each_gives P Q f gives (x ∷ xs) all =
     All-append P (f x) (flat_map f xs) (gives x (All-head Q x xs all)) (each_gives P Q f gives xs (All-tail Q x xs all))
 
-true_and_false : (b : Bool) → b ≡ true → b ≡ false → ⊥
-true_and_false b h k = cc
-
 lacks : (other : ℕ) → is_code_byte other ≡ false → (text : List ℕ) → list_all is_code_byte text ≡ true → AllByRecursion (λ byte. byte ≢ other) text
 lacks other is_none [] h = tt
 lacks other is_none (b ∷ bs) h = (
-  (λ e. true_and_false (is_code_byte b) (first_of (is_code_byte b) (list_all is_code_byte bs) h) (ap is_code_byte e ∙ is_none)),
-  lacks other is_none bs (second_of (is_code_byte b) (list_all is_code_byte bs) h),
+  (λ e. true≢false (sym (and_parts (is_code_byte b) (list_all is_code_byte bs) h).0 ∙ (ap is_code_byte e ∙ is_none))),
+  lacks other is_none bs (and_parts (is_code_byte b) (list_all is_code_byte bs) h).1,
 )
 
 plain_code : (name : List ℕ) → IsCode name → IsPlainName name

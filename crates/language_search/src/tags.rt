@@ -6,6 +6,7 @@ ghost use Rattle.language_search.specs.Private.Fronts.{PassesPlace};
 ghost use Rattle.language_search.specs.Tags.{codes_of, fronts, searched, searched_byte};
 
 use hyphenation_breaks::language::Language;
+use hyphenation_breaks::laws::codes_are_text;
 use std::alloc::{AllocError, Global};
 
 // A byte of a tag as it is searched.
@@ -30,7 +31,7 @@ fn searched_tag(alloc: Global, tag: &str) -> Result<Vec<u8>, AllocError>
 }
 
 // The language whose code a text is; `None` if it is no code.
-#[tactic(auto, using(crate::proofs::Codes::code_is_utf8, crate::proofs::Codes::code_is_short))]
+#[tactic(auto, using(crate::proofs::Codes::code_is_short))]
 fn language_of(text: &[u8]) -> Option<Language>
     ensures if_code { IsSome result ↔ IsCode text.now }
     ensures code { IfSome result (λ language. language ≡ text.now) }
@@ -39,6 +40,7 @@ fn language_of(text: &[u8]) -> Option<Language>
     if text.len() > 32 {
         return None;
     }
+    codes_are_text();
     match std::str::from_utf8(text) {
         Ok(text) => Language::from_code(text),
         Err(_) => None,

@@ -90,7 +90,7 @@ pub fn short_reads(left: &[u8], most: usize) -> ShortReader<'_> {
     }
 }
 
-/// A reader of two bytes a read, of which the read of this number alone fails, with this code.
+/// A reader of two bytes a read, of which only the read of this number fails, with this code.
 pub fn failing_once(left: &[u8], until: usize, code: i32) -> ShortReader<'_> {
     ShortReader {
         left,

@@ -1,5 +1,4 @@
-//! Tests of pages that are cut into pieces, of the elements that are open at their texts, and of texts that are cut at
-//! word bounds.
+//! Tests of pages in pieces, of the elements that are open at their texts, and of texts in pieces between word bounds.
 #![tactic(auto)]
 
 #[cfg(test)]

@@ -366,6 +366,12 @@ const UNCERTAIN: &[(&str, Form, &str, &str)] = &[
         "-[a]-(d)",
     ),
     (
+        "a comment of HTML ends at `--!>`",
+        Form::Xml,
+        "<a>a<!-- --!> -->b</a>",
+        "-[a]-(b)",
+    ),
+    (
         "a section of XML ends at its first `>` in HTML",
         Form::Xml,
         "<a>a<![CDATA[>]]>b</a>",
@@ -393,6 +399,12 @@ const UNCERTAIN: &[(&str, Form, &str, &str)] = &[
 
 // Pages that are read alike by all parsers, whose texts keep their marks.
 const CERTAIN: &[(&str, Form, &str, &str)] = &[
+    (
+        "a comment that begins with `!` ends in HTML as in XML",
+        Form::Xml,
+        "<a>a<!--!> -->b</a>",
+        "-[a]-[b]",
+    ),
     (
         "by the document type of HTML a table ends a paragraph",
         Form::Html,

@@ -175,7 +175,7 @@ const CUT: &[(&str, &[Form], &str, &str)] = &[
         "t[a]o[<]t[_b>c]o[<]t[é>]",
     ),
     (
-        "a comment of XML ends at `-->` alone",
+        "a comment of XML ends only at `-->`",
         XML,
         "a<!-->b--><!-- --!>c-->d",
         "t[a]o[<!-->b-->]o[<!-- --!>c-->]t[d]",

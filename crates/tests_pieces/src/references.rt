@@ -11,7 +11,7 @@ fn read_text(alloc: Global, value: &str) -> Result<String, AllocError> {
 }
 
 // Each row has its sentence, the value of an attribute, and the text that is read of it. `html.unescape` of Python
-// gives the same, but for those without `;` before a letter, a digit or `=`, and `&eacute;`.
+// gives the same, except for those without `;` before a letter, a digit or `=`, and `&eacute;`.
 const READ: &[(&str, &str, &str)] = &[
     ("an empty value is empty", "", ""),
     (

@@ -4,7 +4,7 @@ use crate::faults::{Fault, PERMISSION_DENIED};
 use crate::harness::{FailingRun, FileList, Program, Run, expect_failing_runs, expect_runs};
 use crate::text::show;
 use command_line::Messages;
-use html_command::{Recorded, answer};
+use html_command::{Call, Recorded, answer};
 use std::alloc::Global;
 use std::fs::Files;
 use std::io::{Read, Write};
@@ -31,16 +31,11 @@ impl Program for Html<'_> {
         let mut written = Recorded {
             files: Vec::new(alloc),
         };
-        let status = answer(
-            files,
-            &mut written,
-            alloc,
+        let call = Call {
             args,
-            self.folders,
-            input,
-            output,
-            messages,
-        );
+            folders: self.folders,
+        };
+        let status = answer(files, &mut written, alloc, &call, input, output, messages);
         show(&written, output);
         status
     }
@@ -75,7 +70,7 @@ const FILES: FileList<'static> = &[
     ("given=2", ENGLISH),
     ("both/hu.txt", STANDARD_HUNGARIAN),
     ("both/hu.extended.txt", HUNGARIAN),
-    // each usual variant has its own breaks, and stands beside another variant
+    // each usual variant has its own breaks, and is beside another variant
     (
         "variants/de-1996.txt",
         b"hyphenation 1 standard\nlanguage de-1996\nminima 2 2\ne firkin 2\n",

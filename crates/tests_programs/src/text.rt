@@ -8,7 +8,7 @@ use std::fs::Files;
 use std::io::{Read, Write};
 use std::test::Fail;
 use test_support::io_errors::CONNECTION_RESET;
-use text_command::{Recorded, answer};
+use text_command::{Call, Recorded, answer};
 
 /// The program. It shows each file that it writes in brackets after its output: the path, a colon and the bytes.
 pub(crate) struct Text;
@@ -26,16 +26,11 @@ impl Program for Text {
         let mut written = Recorded {
             files: Vec::new(alloc),
         };
-        let status = answer(
-            files,
-            &mut written,
-            alloc,
+        let call = Call {
             args,
-            &["found"],
-            input,
-            output,
-            messages,
-        );
+            folders: &["found"],
+        };
+        let status = answer(files, &mut written, alloc, &call, input, output, messages);
         show(&written, output);
         status
     }

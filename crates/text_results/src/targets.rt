@@ -67,15 +67,19 @@ fn copied<'w>(alloc: Global, names: &[&'w str]) -> Result<Vec<&'w str>, AllocErr
     ensures { IfOk result (λ copies. texts_now copies.items ≡ texts_now names.now) }
 {
     let mut copies = Vec::new(alloc);
-    for name in names {
-        push(&mut copies, *name)?;
-    }
+    copies.extend_from_slice(names)?;
     Ok(copies)
 }
 
-// Returns the names of the texts.
+/// Returns the names of texts: those that are given, or standard input, `-`, if none is.
+///
+/// The only error is out of memory.
+///
+/// ```text
+/// inputs_of(alloc, &[])?      // "-"
+/// ```
 #[tactic(auto, using(crate::proofs::Names::some_inputs))]
-fn inputs_of<'w>(alloc: Global, names: &[&'w str]) -> Result<Vec<&'w str>, AllocError>
+pub fn inputs_of<'w>(alloc: Global, names: &[&'w str]) -> Result<Vec<&'w str>, AllocError>
     ensures { IfOk result (λ inputs. texts_now inputs.items ≡ inputs_of (texts_now names.now)) }
 {
     if names.is_empty() {

@@ -17,7 +17,7 @@ as_next OperandsInCode = OperandsAlone
 abbrev pub IsReader : Reader → ReadArguments → Next → Type 0
 IsReader reader read next = (as_read reader.arguments ≡ read) × (as_next reader.next ≡ next)
 
--- One more argument was read as wanted, or the step has such an error.
+-- One more argument was read as wanted, or the step has this error.
 abbrev pub IsStep : Result (Unit {0}) ReadError → Result (ReadArguments × Next) RefusedArgument → Reader → Type 0
 IsStep (Ok done) wanted reader = wanted ≡ Ok (as_read reader.arguments, as_next reader.next)
 IsStep (Err e) wanted reader = IsReadError wanted e

@@ -12,7 +12,7 @@ use Rattle.html_command.proofs.answer_by.Goals as goal
 
 pub returns-in-Err-Memory-clause-ended : goal.returns-in-Err-Memory-clause-ended
 returns-in-Err-Memory-clause-ended g c =
-    ends_no_memory (parsed_by c.args.expected.now c.args.forms.now c.args.args.now) (g.F.NamedFiles.bytes c.args.files.now) (texts_now c.args.folders.now) (g.I.Read.remaining c.args.input.now)
+    ends_no_memory (parsed_by c.args.reading.now.expected.now c.args.reading.now.forms.now c.args.reading.now.args.now) (g.F.NamedFiles.bytes c.args.files.now) (texts_now c.args.reading.now.folders.now) (g.I.Read.remaining c.args.input.now)
     (EndsBy NAME.now c.report.result (Tells g.E.Write.contents c.args.errors.now c.report.new.errors)) g.O.Write.contents c.args.output.now g.S.ReplaceFiles.written c.args.store.now c.report.ensures
 
 pub returns-in-Ok-run-clause-ended : goal.returns-in-Ok-run-clause-ended
@@ -22,6 +22,6 @@ returns-in-Ok-run-clause-ended g c =
     subst (λ (ns : List PageNote). Told (notes_text NAME.now (texts_now c.deref.result.now) ns)) c.deref-in-Ok-run.ensures.value c.write_notes.ensures in
     let told : Told (notes_text NAME.now (texts_now c.in-Ok.request.inputs.items) c.in-Ok-run.notes.items) =
     subst (λ (names : List (Bor (List ℕ))). Told (notes_text NAME.now (texts_now names) c.in-Ok-run.notes.items)) c.deref.ensures.value notes in
-    ends_done (parsed_by c.args.expected.now c.args.forms.now c.args.args.now) (parsed_request c.in-Ok.request) (g.F.NamedFiles.bytes c.args.files.now) (texts_now c.args.folders.now)
+    ends_done (parsed_by c.args.reading.now.expected.now c.args.reading.now.forms.now c.args.reading.now.args.now) (parsed_request c.in-Ok.request) (g.F.NamedFiles.bytes c.args.files.now) (texts_now c.args.reading.now.folders.now)
     (g.I.Read.remaining c.args.input.now) (EndsBy NAME.now 0 Told) g.O.Write.contents c.args.output.now c.run.new.output g.S.ReplaceFiles.written c.args.store.now c.run.new.store
     c.in-Ok-run.notes.items c.in-Ok.ensures.parsed (refl, told) c.in-Ok-run.ensures.written

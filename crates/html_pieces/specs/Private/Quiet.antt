@@ -20,6 +20,10 @@ is_quiet _ b = false
 abbrev pub AreQuiet : State → List ℕ → ℕ → ℕ → Type 0
 AreQuiet state bytes from to = (k : ℕ) → from ≤ k → k < to → is_quiet state (slice_index bytes k) ≡ true
 
+-- The bytes from a place up to another one are ASCII letters and digits.
+abbrev pub AreAlphanumeric : List ℕ → ℕ → ℕ → Type 0
+AreAlphanumeric bytes from to = (k : ℕ) → from ≤ k → k < to → is_alphanumeric (slice_index bytes k) ≡ true
+
 -- The bytes from a place up to another one are none of these.
 abbrev pub AreOthers : ℕ → List ℕ → ℕ → ℕ → Type 0
 AreOthers stop bytes from to = (k : ℕ) → from ≤ k → k < to → not (slice_index bytes k == stop) ≡ true

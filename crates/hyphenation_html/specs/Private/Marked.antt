@@ -1,7 +1,9 @@
 -- A page with marks, piece by piece, as it is written.
-use Rattle.std.specs.Prelude.{ℕ, ◌||◌, Bool, true, false, List, [], ◌∷◌, ◌++◌, map, if◌then◌else◌}
+use Rattle.std.specs.Prelude.{ℕ, ◌||◌, Bool, true, false, List, [], ◌∷◌, ◌++◌, map, Option, None, if◌then◌else◌}
 use Rattle.std.specs.Option.{option_map_or}
 use Rattle.std.specs.List.{flat_map}
+use Rattle.std.specs.String.{string_bytes}
+use Rattle.hyphenation_html.specs.declared.text.Output.{Output}
 use Rattle.unicode_segmentation.specs.Word.{word_bounds}
 use Rattle.html_pieces.specs.Bytes.{is_white_space}
 use Rattle.html_pieces.specs.declared.bytes.Form.{Form}
@@ -15,13 +17,17 @@ use Rattle.html_pieces.specs.declared.tokenizer.Kind.{Kind}
 use Rattle.html_pieces.specs.declared.tokenizer.Kind.TheVariants.{Text}
 use Rattle.hyphenation_segments.specs.Laws.{with_marks}
 use Rattle.hyphenation_html.specs.Dictionaries.{Breaks}
-use Rattle.hyphenation_html.specs.Languages.{Language, best_of, breaks_under, languages_by}
+use Rattle.hyphenation_html.specs.Languages.{Language, best_of, breaks_under, coded, languages_by}
 use Rattle.hyphenation_html.specs.Places.{is_left_alone}
 use Rattle.hyphenation_html.specs.Touching.{touched_after, touched_before}
 use Rattle.hyphenation_html.specs.Words.{is_left_whole}
 use Rattle.any_dictionary.specs.declared.AnyDictionary.{AnyDictionary}
 use Rattle.hyphenation_html.specs.declared.languages.LanguageDictionary.{LanguageDictionary}
 use Rattle.hyphenation_html.specs.declared.settings.Settings.{Settings}
+
+-- The text that is written so far.
+abbrev pub so_far : Output → List ℕ
+so_far output = string_bytes output.text
 
 -- A word with the mark at its breaks.
 abbrev pub marked_word : Breaks → List ℕ → List ℕ → List ℕ
@@ -70,33 +76,19 @@ marked_pieces languages mark form class page reading before (p ∷ ps) =
 
 -- ---- the same by the settings and dictionaries of a call
 
--- A word with its marks.
-abbrev pub marked_word_by : Settings → AnyDictionary → List ℕ → List ℕ
-marked_word_by settings dictionary word = marked_word (breaks_under settings dictionary) settings.mark.now word
-
--- A token with its marks.
-abbrev pub marked_token_by : Settings → AnyDictionary → List ℕ → List ℕ
-marked_token_by settings dictionary token = marked_token (breaks_under settings dictionary) settings.mark.now token
-
 -- A token with its marks, or as it is where its word goes on outside of the text.
 abbrev pub token_unless : Bool → Settings → AnyDictionary → List ℕ → List ℕ
-token_unless touches settings dictionary token = if touches then token else marked_token_by settings dictionary token
+token_unless touches settings dictionary token =
+    if touches then token else marked_token (breaks_under settings dictionary) settings.mark.now token
 
 -- A text with its marks.
 abbrev pub marked_text_by : Settings → AnyDictionary → Bool → Bool → List ℕ → List ℕ
 marked_text_by settings dictionary before after text =
     marked_text (breaks_under settings dictionary) settings.mark.now before after text
 
--- A text in a language with its marks.
-abbrev pub marked_in_language : Settings → List LanguageDictionary → List ℕ → Bool → Bool → List ℕ → List ℕ
-marked_in_language settings languages language before after text =
-    option_map_or (λ found. marked_text found.1 settings.mark.now before after text)
-    (best_of language (languages_by settings languages)) text
-
--- A text in the language of an element with its marks.
-abbrev pub marked_read_by : Settings → List LanguageDictionary → held.Element → Bool → Bool → List ℕ → List ℕ
-marked_read_by settings languages element before after text =
-    marked_in_language settings languages (as_element element).language before after text
+-- The dictionary, with its code, for a text in an element; none where the text is left alone.
+abbrev pub dictionary_in : List LanguageDictionary → Element → List ℕ → Option (List ℕ × AnyDictionary)
+dictionary_in languages element text = if is_left_alone element text then None else best_of element.language (map coded languages)
 
 -- A text of an element with its marks.
 abbrev pub marked_in_by : Settings → List LanguageDictionary → held.Element → Bool → Bool → List ℕ → List ℕ

@@ -9,10 +9,10 @@ use Rattle.text_command.proofs.answer.Goals as goal
 pub returns-clause-ended : goal.returns-clause-ended
 returns-clause-ended g c = λ asked.
     let kept = (c.write_help_or_version.ensures.other asked).1 in
-    let ends : EndsFor (parsed_by c.option_forms-forms.result c.args.args.now) (g.F.NamedFiles.bytes c.args.files.now) (texts_now c.args.folders.now) (g.I.Read.remaining c.args.input.now)
+    let ends : EndsFor (parsed_by c.option_forms-forms.result c.args.call.now.args.now) (g.F.NamedFiles.bytes c.args.files.now) (texts_now c.args.call.now.folders.now) (g.I.Read.remaining c.args.input.now)
     (EndsBy NAME.now c.answer_by.result (Tells g.E.Write.contents c.args.errors.now c.answer_by.new.errors)) g.O.Write.contents c.args.output.now c.answer_by.new.output
     g.S.ReplaceFiles.written c.args.store.now c.answer_by.new.store =
     rw kept at c.answer_by.ensures.ended in
-    parsed_ends c.args.args.now c.option_forms-forms.result (g.F.NamedFiles.bytes c.args.files.now) (texts_now c.args.folders.now) (g.I.Read.remaining c.args.input.now)
+    parsed_ends c.args.call.now.args.now c.option_forms-forms.result (g.F.NamedFiles.bytes c.args.files.now) (texts_now c.args.call.now.folders.now) (g.I.Read.remaining c.args.input.now)
     c.args.input.now c.answer_by.new.input (EndsBy NAME.now c.answer_by.result (Tells g.E.Write.contents c.args.errors.now c.answer_by.new.errors)) g.O.Write.contents c.args.output.now c.answer_by.new.output
     g.S.ReplaceFiles.written c.args.store.now c.answer_by.new.store c.option_forms-forms.ensures ends c.answer_by.ensures.unread

@@ -1,4 +1,4 @@
-use Rattle.std.proofs.Common.{◌∙◌, ap, sym, [], false}
+use Rattle.std.proofs.Common.{◌∙◌, ap, sym, false}
 use Rattle.std.specs.String.{string_bytes}
 use Rattle.html_pieces.specs.Forms.{form_of}
 use Rattle.html_pieces.specs.Elements.{page_element}
@@ -9,7 +9,11 @@ use Rattle.hyphenation_segments.specs.Laws.{with_marks}
 use Rattle.hyphenation_html.specs.Languages.{languages_by}
 use Rattle.hyphenation_html.proofs.MarkedTexts.{Laws}
 use Rattle.hyphenation_html.proofs.MarkedPages.{page_marked, page_without}
+use Rattle.hyphenation_html.proofs.KeptForms.{form_kept, languages_kept}
 use Rattle.hyphenation_html.proofs.SecondPages.{page_done}
+use Rattle.hyphenation_html.specs.Places.{places_of}
+use Rattle.std.proofs.lemmas.Str.{IsUtf8-string_bytes}
+use Rattle.html_pieces.specs.declared.bytes.Form.TheVariants.{Xml}
 use Rattle.hyphenation_html.specs.Private.Marked.{marked_pieces}
 use Rattle.hyphenation_html.proofs.MarksInText.{page_in_text}
 use Rattle.hyphenation_html.proofs.page.hyphenate_html.Goals as goal
@@ -42,9 +46,17 @@ pub returns-clause-twice : goal.returns-clause-twice
 returns-clause-twice c = λ e.
     let laws : Laws = record { join = c.segments_join.ensures; joins = c.marked_segments_join.ensures; fit = c.plain_breaks_fit_where_ascending.ensures } in
     let settings = c.args.settings.now in
-    let pieces = pieces_of (form_of c.args.page.now) c.args.page.now in
-    let around = page_element c.args.language.now in
+    let page = c.args.page.now in
+    let language = c.args.language.now in
+    let languages = languages_by settings c.args.languages.now in
+    let pieces = pieces_of (form_of page) page in
+    let utf8 = c.pieces_are_utf8.ensures (form_of page) page c.invariant.ensures in
     IfOk-weaker c.written.result _ _
-    (λ output is. page_done laws _ (form_of c.args.page.now) settings.class.now c.args.language.now c.args.page.now (string_bytes output) c.all_fit.ensures
-    (c.pieces_are_utf8.ensures (form_of c.args.page.now) c.args.page.now c.invariant.ensures) (c.other_texts_are_cut_alike.ensures (form_of c.args.page.now) c.args.page.now)
-    (is ∙ ap (λ m. marked_pieces (languages_by settings c.args.languages.now) m (form_of c.args.page.now) settings.class.now around (at_start (form_of c.args.page.now) pieces) false pieces) e)) c.written.ensures
+    (λ output is.
+    let bytes = string_bytes output in
+    let by_soft = is ∙ ap (λ m. marked_pieces languages m (form_of page) settings.class.now (page_element language) (at_start (form_of page) pieces) false pieces) e in
+    let done = page_done laws languages (form_of page) settings.class.now language page bytes c.all_fit.ensures utf8 (c.other_texts_are_cut_alike.ensures (form_of page) page) by_soft in
+    let form = form_kept laws c.other_texts_leave_the_form.ensures languages settings.class.now language page bytes c.all_fit.ensures utf8 c.invariant.ensures (IsUtf8-string_bytes output) (c.pieces_join.ensures Xml page) by_soft in (
+      languages_kept laws languages settings.class.now language page bytes c.all_fit.ensures utf8 (c.other_texts_are_cut_alike.ensures (form_of page) page) form by_soft,
+      ap (λ f. with_marks settings.mark.now bytes (places_of languages f settings.class.now language bytes)) form ∙ ap (with_marks settings.mark.now bytes) done,
+    )) c.written.ensures

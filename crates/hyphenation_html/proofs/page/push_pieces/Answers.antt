@@ -6,7 +6,7 @@ use Rattle.hyphenation_html.specs.Languages.{languages_by}
 use Rattle.hyphenation_html.specs.Touching.{touched_after}
 use Rattle.hyphenation_html.specs.Private.Marked.{is_text}
 use Rattle.html_pieces.specs.Elements.{as_element}
-use Rattle.html_pieces.specs.Readings.{as_reading, at_start, reading_after}
+use Rattle.html_pieces.specs.Readings.{as_reading, reading_after}
 use Rattle.hyphenation_html.proofs.PageSteps.{piece_written, all_written, found_at}
 use Rattle.hyphenation_html.proofs.page.push_pieces.Goals as goal
 
@@ -14,7 +14,7 @@ pub loop-i-preserved : goal.loop-i-preserved
 loop-i-preserved c =
     let rest = drop (c.loop-i.i + 1) c.args.pieces.now in
     piece_written (languages_by c.args.settings.now c.args.languages.now) c.args.settings.now.mark.now c.args.form c.args.settings.now.class.now (as_element c.args.around) (as_element c.standing-element.result) (as_reading c.loop-i.reading) (as_reading c.pass.new.reading)
-    c.loop-i.before _ c.text_touched_after-after.result (string_bytes c.loop-i.output) _ _ c.args.pieces.now c.loop-i.i c.piece_at-piece.result
+    c.loop-i.before _ c.text_touched_after-after.result (string_bytes c.loop-i.output.text) _ _ c.args.pieces.now c.loop-i.i c.piece_at-piece.result
     c.loop-i.invariant c.loop-i-test.true (found_at c.args.pieces.now c.loop-i.i c.piece_at-piece.result c.piece_at-piece.ensures)
     (c.text_touched_after-after.ensures ∙ ap (λ xs. is_text c.piece_at-piece.result.kind && touched_after (map as_piece xs)) (take_all _ rest (omega (arith, length-drop (c.loop-i.i + 1) c.args.pieces.now))))
     c.standing-element.ensures
@@ -24,4 +24,4 @@ loop-i-preserved c =
 
 pub returns : goal.returns
 returns c =
-    all_written _ c.args.settings.now.mark.now c.args.form c.args.settings.now.class.now (as_element c.args.around) (as_reading c.loop-i.reading) c.loop-i.before c.args.pieces.now c.loop-i.i (string_bytes c.loop-i.output) _ c.loop-i.invariant c.loop-i-test.false
+    all_written _ c.args.settings.now.mark.now c.args.form c.args.settings.now.class.now (as_element c.args.around) (as_reading c.loop-i.reading) c.loop-i.before c.args.pieces.now c.loop-i.i (string_bytes c.loop-i.output.text) _ c.loop-i.invariant c.loop-i-test.false

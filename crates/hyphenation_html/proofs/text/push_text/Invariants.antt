@@ -9,5 +9,5 @@ use Rattle.hyphenation_html.proofs.text.push_text.Given as goal
 abbrev pub invariant-loop-i : goal.invariant-loop-i
 invariant-loop-i l =
     let breaks = within_limits l.settings.min_word l.settings.skip_capitals (places_by l.dictionary) in
-    TextTold breaks l.settings.mark.now (string_bytes l.fn.output ++ marked_text breaks l.settings.mark.now l.fn.touched_before l.touched_after l.text)
-    l.text (string_bytes l.output) l.before l.touched_after l.start l.i
+    TextTold breaks l.settings.mark.now (string_bytes l.fn.output.text ++ marked_text breaks l.settings.mark.now l.fn.touched_before l.touched_after l.text)
+    l.text (string_bytes l.output.text) l.before l.touched_after l.start l.i

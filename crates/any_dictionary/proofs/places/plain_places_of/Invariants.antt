@@ -1,6 +1,6 @@
 use Rattle.std.proofs.Common.{◌≡◌, ◌++◌, map, drop}
 use Rattle.any_dictionary.specs.Dictionaries.{plain_places}
-use Rattle.any_dictionary.proofs.places.plain_places.Given as goal
+use Rattle.any_dictionary.proofs.places.plain_places_of.Given as goal
 
 abbrev pub invariant-loop-b : goal.invariant-loop-b
 invariant-loop-b g l =
