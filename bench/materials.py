@@ -69,7 +69,7 @@ def extended_text(code, convert):
 
 
 def lowercase_words(code):
-    """The words of a language's list that have lowercase letters alone: of English those in ASCII, else the others."""
+    """The words of a language's list that have only lowercase letters: of English those in ASCII, else the others."""
     words = (word for word in comparison.listed_words(LANGUAGES[code][2]) if word.isalpha() and word.islower())
     return [word for word in words if word.isascii() == (code == "en-us")]
 

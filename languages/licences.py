@@ -1,5 +1,5 @@
-"""The authors and licences that files of patterns name: hyph-utf8 beside its plain files and in the head of a TeX file,
-LibreOffice in the comments at the head of a `.dic`. Where a `.dic` has no such comments, the file of copyrights of Debian's
+"""The authors and licences that files of patterns name. Hyph-utf8 names them beside its plain files and in the head of a TeX
+file. LibreOffice names them in the comments at the head of a `.dic`. Where a `.dic` has none of these, the file of copyrights of Debian's
 package says it."""
 
 import os

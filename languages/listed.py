@@ -48,12 +48,12 @@ def choices():
 
 
 def variants():
-    """For each language whose patterns come in variants alone the code of the usual one."""
+    """For each language whose patterns come only in variants the code of the usual one."""
     return dict(words_of_lines("variants"))
 
 
 def fronts(tag):
-    """A tag as it is searched, and then what stands before each of its hyphens, from the last one to the first. Those that
+    """A tag as it is searched, and then what is before each of its hyphens, from the last one to the first. Those that
     are longer than any code are left out."""
     searched = tag.translate(SEARCHED)
     ends = [len(searched), *(at for at in range(len(searched) - 1, -1, -1) if searched[at] == "-")]

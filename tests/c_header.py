@@ -1,11 +1,11 @@
 #!/usr/bin/env python3
-"""c_header.py LIBRARY: compares bindings/c/hyphenation.h and libhyphenation.so.0 with the proved crates, and prints how much
+"""c_header.py LIBRARY: compares bindings/c/hyphenation.h and libhyphenation.so.0 with the proved crates. It prints how much
 was compared. tests/bindings runs it.
 
 - The statuses of the header have the numbers of c_calls/src/statuses.rt, and each has a message in the library.
 - The message of each cause is the one that the proved crates write for it, and no other number has one.
 - The version is that of VERSION.
-- A comment stands before each call. It says each argument by its name, in their order, and the result.
+- A comment is before each call. It says each argument by its name, in their order, and the result.
 """
 import ctypes
 import pathlib

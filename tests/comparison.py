@@ -44,7 +44,7 @@ def text_of(bytes_):
 
 
 def lines_of(path, charset):
-    """The lines of a file, which line feeds alone separate."""
+    """The lines of a file, which only line feeds separate."""
     with open(path, "rb") as file:
         return file.read().decode(charset).rstrip("\n").split("\n")
 
@@ -53,7 +53,7 @@ def spelling_charset(affixes):
     """The charset that a hunspell dictionary names in its .aff."""
     with open(affixes, "rb") as file:
         for line in file:
-            # A byte order mark may stand before the first line.
+            # A byte order mark may be before the first line.
             words = line.lstrip(b"\xef\xbb\xbf").split()
             if len(words) == 2 and words[0] == b"SET":
                 name = words[1].decode("latin-1")

@@ -1,14 +1,15 @@
 /* The answers of a library that has the calls of libhyphen, as lines of text, which tests/compare-libhyphen compares.
  *
- *   drop_in LIBRARY [strict] [flush]
+ *   drop_in LIBRARY [strict] [flush] [tables]
  *
  * A line of standard input is a .dic, a file of words, and minima such as 2,3,2,3, with tabs between them. A line of the
- * file is a word in the charset of the .dic, and behind a tab what stands behind it. For each .dic a line is written with
+ * file is a word in the charset of the .dic, and behind a tab what is behind it. For each .dic a line is written with
  * what the library says of the file, and then a line for each word: the answers of hnj_hyphen_hyphenate2, of
  * hnj_hyphen_hyphenate3 with each of the minima, and of hnj_hyphen_hyphenate. With `strict` a word ends with " over" if a
  * buffer was written to behind the end that hyphen.h names, or no NUL is behind the digits. (Libhyphen may write a digit
- * there, where a text of NOHYPHEN stands behind the word.) With `flush` each line is out before the next word is asked
- * for, which a library may not survive. */
+ * there, where a text of NOHYPHEN is behind the word.) With `flush` each line is out before the next word is asked
+ * for, which a library may not survive. With `tables` each .dic is asked for a word so often before that this library makes
+ * its tables. */
 #define _GNU_SOURCE
 #include "../bindings/c/hyphen.h"
 #include <dlfcn.h>
@@ -17,7 +18,7 @@
 #include <stdlib.h>
 #include <string.h>
 
-enum { MINIMA = 8, BEHIND = 64, FILL = 0x5a };
+enum { MINIMA = 8, BEHIND = 64, FILL = 0x5a, WORDS_BEFORE_TABLES = 8192 };
 
 /* The calls of the library. */
 static struct {
@@ -31,7 +32,7 @@ static struct {
 /* The buffers that the library writes to. Libhyphen itself may write more than twice the word. */
 static char *digits, *marked;
 static size_t room;
-static bool strict, flushing;
+static bool strict, flushing, with_tables;
 
 static void *call(void *library, const char *name) {
   void *found = dlsym(library, name);
@@ -125,6 +126,13 @@ static void answers(HyphenDict *dict, const char *word, size_t size, int (*minim
   if (flushing) fflush(stdout);
 }
 
+/* Asks for a word without changes, so often that this library makes its tables. */
+static void make_tables(HyphenDict *dict) {
+  char **rep = NULL;
+  int *pos = NULL, *cut = NULL;
+  for (int n = 0; n < WORDS_BEFORE_TABLES; n++) calls.hyphenate2(dict, "~", 1, digits, marked, &rep, &pos, &cut);
+}
+
 static void go(const char *dic, FILE *words, int (*minima)[4], size_t count) {
   HyphenDict *dict = calls.load(dic);
   if (!dict) {
@@ -135,6 +143,7 @@ static void go(const char *dic, FILE *words, int (*minima)[4], size_t count) {
   put_hex(dict->cset);
   printf(" %d %d %d %d %d\n", dict->utf8 != 0, dict->lhmin, dict->rhmin, dict->clhmin, dict->crhmin);
   if (flushing) fflush(stdout);
+  if (with_tables) make_tables(dict);
   char *line = NULL;
   size_t size = 0;
   for (ssize_t length; (length = getline(&line, &size, words)) >= 0;) {
@@ -155,7 +164,7 @@ int main(int argc, char **argv) {
     fprintf(stderr, "%s\n", dlerror());
     return 2;
   }
-  for (int i = 2; i < argc; i++) *(argv[i][0] == 's' ? &strict : &flushing) = true;
+  for (int i = 2; i < argc; i++) *(argv[i][0] == 's' ? &strict : argv[i][0] == 't' ? &with_tables : &flushing) = true;
   *(void **)&calls.load = call(library, "hnj_hyphen_load");
   *(void **)&calls.free = call(library, "hnj_hyphen_free");
   *(void **)&calls.hyphenate = call(library, "hnj_hyphen_hyphenate");

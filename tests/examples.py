@@ -163,7 +163,7 @@ def folder_for(scratch, number):
         (folder / path.name).symlink_to(path)
     firkin = (ROOT / "examples/firkin.txt").read_text()
     (folder / "firkin.txt").write_text(firkin)
-    # stands for the dictionary that a user has made of a language
+    # in the place of the dictionary that a user has made of a language
     (texts / "en-us.txt").write_text(firkin.replace("language en-gb", "language en-us"))
     page = '<!DOCTYPE html>\n<html lang="en"><head><title>Ale</title></head><body><p>Two firkins of ale.</p></body></html>\n'
     for name, text in (("notes.txt", "Two firkins of ale.\n"), ("mail.txt", "Subject: ale\n\n> Two firkins of ale.\n\nNone.\n"),

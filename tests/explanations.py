@@ -3,9 +3,10 @@
 Usage: explanations.py PROGRAM FOLDER. The last line is `N passed, M failed`.
 
 Each dictionary is asked about many words at once, as lines for programs and as pictures. The lines must be exactly those
-of this script, which looks each text between two places up among the keys. Each letter of a picture must be below the same
+of this script, which looks each text between two places up among the keys. Some words and keys have control characters,
+which lines have escaped. Each letter of a picture must be below the same
 letter of the frame. Without spaces a picture must have the texts of this script. A document in SVG must be XML with a group
-for each word and a text for each row, whose letters and values are at the columns and in the classes of this script.
+for each word and a text for each row. Its letters and values must be at the columns and in the classes of this script.
 """
 
 import pathlib
@@ -21,7 +22,11 @@ WORDS = 40
 FOLDED = {"A": "a", "B": "b", "É": "é", "İ": "i", "ẞ": "ß", "Ⱥ": "ⱥ"}
 LETTERS = "aabbciéßⱥ"
 SOFT_HYPHEN = "\u00ad"
-# Letters for drawings alone: a wide one, a mark without columns, and what XML escapes or forbids.
+# Letters only for lines: what a field has escaped, and neighbours of that.
+CONTROLS = "\t\n\r\\\x01\x1f\x7f\x80\x85\x9f\u00a0\u0105tnru{"
+SHORT_ESCAPES = {"\t": "\\t", "\n": "\\n", "\r": "\\r", "\\": "\\\\"}
+CONTROL_DICTIONARIES = 30
+# Letters only for drawings: a wide one, a mark without columns, and what XML escapes or forbids.
 DRAWN = "の\u0301<>&\"'\x01\x0b\ufffe\uffff"
 SVG = "{http://www.w3.org/2000/svg}"
 
@@ -32,6 +37,16 @@ def size(text):
 
 def fold(word):
     return "".join(FOLDED.get(c, c) for c in word)
+
+
+def escaped(text):
+    """A text in a field of a line."""
+    return "".join(SHORT_ESCAPES.get(c) or ("\\u{%x}" % ord(c) if unicodedata.category(c) == "Cc" else c) for c in text)
+
+
+def token(text):
+    """A text in a dictionary text. A brace is escaped only in patterns."""
+    return text.replace("\\", "\\\\").replace("\n", "\\n").replace("\r", "\\r")
 
 
 def random_text(random_of, letters, least, most):
@@ -49,19 +64,20 @@ def places_of(text):
 class Dictionary:
     """A random dictionary of either kind."""
 
-    def __init__(self, random_of, kind):
+    def __init__(self, random_of, kind, letters=LETTERS):
         self.kind = kind
+        self.letters = letters
         self.minima = (random_of.randint(0, 3), random_of.randint(0, 3))
         self.patterns = {}
         self.exceptions = {}
         for _ in range(random_of.randint(1, 40)):
-            key = random_text(random_of, LETTERS, 1, 4)
+            key = random_text(random_of, letters, 1, 4)
             key = random_of.choice(["", "", ".", "."]) + key + random_of.choice(["", "", "", "."])
             places = [place for place in places_of(key) if random_of.random() < 0.4]
             entries = [(place, random_of.choice([1, 1, 2, 3, 4, 5, 9, 10, 255]), self.change(random_of, key, place)) for place in places]
             self.patterns[key.encode()] = entries
         for _ in range(random_of.randint(0, 6)):
-            word = random_text(random_of, LETTERS, 1, 7)
+            word = random_text(random_of, letters, 1, 7)
             places = [place for place in places_of(word) if random_of.random() < 0.4]
             self.exceptions[word] = [(place, self.change(random_of, word, place)) for place in places]
 
@@ -71,7 +87,7 @@ class Dictionary:
         places = places_of(text)
         begin = random_of.choice([p for p in places if p <= place])
         end = random_of.choice([p for p in places if p >= place])
-        substitution = random_text(random_of, LETTERS, 1, 3)
+        substitution = random_text(random_of, self.letters, 1, 3)
         return (place - begin, end - place, random_of.choice(places_of(substitution)), substitution)
 
     def text(self):
@@ -82,18 +98,22 @@ class Dictionary:
             for c in [*key.decode(), ""]:
                 value = values.get(place)
                 written += "" if value is None else str(value) if value < 10 else "{%d}" % value
-                written += c
+                written += "\\{" if c == "{" else token(c)
                 place += size(c)
-            changes = "".join(" %d,%d,%d,%d,%s" % (p, *change) for p, _, change in entries if change)
+            changes = "".join(" %d,%s" % (p, change_token(change)) for p, _, change in entries if change)
             lines.append(f"p {written}{changes}")
         for word, listed in self.exceptions.items():
-            tokens = "".join(" %d,%d,%d,%d,%s" % (p, *change) if change else f" {p}" for p, change in listed)
-            lines.append(f"e {word}{tokens}")
+            tokens = "".join(" %d,%s" % (p, change_token(change)) if change else f" {p}" for p, change in listed)
+            lines.append(f"e {token(word)}{tokens}")
         return "\n".join(lines) + "\n"
 
 
+def change_token(change):
+    return "%d,%d,%d,%s" % (*change[:3], token(change[3]))
+
+
 def change_text(change):
-    return "" if change is None else ":%d,%d,%d,%s" % change
+    return "" if change is None else ":%d,%d,%d,%s" % (*change[:3], escaped(change[3]))
 
 
 class Facts:
@@ -158,11 +178,11 @@ class Facts:
         return (made + text[start:]).decode()
 
     def lines(self):
-        yield "word", self.word
-        yield "folded", self.folded
+        yield "word", escaped(self.word)
+        yield "folded", escaped(self.folded)
         for start, end, entries in self.rows:
             values = ["%d:%d%s" % (place, value, change_text(change)) for place, value, change in entries]
-            yield "pattern", start, end - start, self.framed[start:end].decode(), *values
+            yield "pattern", start, end - start, escaped(self.framed[start:end].decode()), *values
         yield "score", *("%d:%d%s" % (i + 1, value, change_text(change)) for i, (value, change) in enumerate(self.scores))
         yield "minima", *self.minima
         yield "bounds", *(self.bounds or ())
@@ -171,7 +191,7 @@ class Facts:
             yield "exception", *("%d%s" % (place, change_text(change)) for place, change in self.listed)
         yield "decided-by", self.decision
         yield "breaks", *(place for place, _ in self.breaks)
-        yield "hyphenated", self.hyphenated()
+        yield "hyphenated", escaped(self.hyphenated())
 
     def plain(self):
         return "".join("\t".join(str(field) for field in line) + "\n" for line in self.lines())
@@ -209,10 +229,10 @@ class Facts:
 
 
 def in_columns(line):
-    """The letters of a line, each with the column in which it begins. A soft hyphen takes none."""
+    """The letters of a line, each with the column in which it begins. A soft hyphen takes none, and joins the letter before."""
     column = 0
     for c in line:
-        if c != " ":
+        if c not in (" ", SOFT_HYPHEN):
             yield column, c
         column += c != SOFT_HYPHEN
 
@@ -220,17 +240,18 @@ def in_columns(line):
 def misplaced(facts, picture):
     """The rows of a picture with a letter that is not below itself. Digits are values; the words have none."""
     lines = picture.split("\n")
-    frame = lines[0]
-    columns = [column for column, _ in in_columns(frame)]
-    first = {place: column for place, column in zip(places_of(facts.framed.decode()), columns)}
+
+    def letters_of(start, text):
+        return [(start + place, c) for place, c in zip(places_of(text), text) if c != SOFT_HYPHEN]
+
+    columns = [column for column, _ in in_columns(lines[0])]
+    first = {place: column for (place, _), column in zip(letters_of(0, facts.framed.decode()), columns)}
     for (start, end, _), line in zip(facts.rows, lines[1:]):
-        place = start
         letters = [(column, c) for column, c in in_columns(line) if not c.isdigit()]
-        for (column, c), wanted in zip(letters, facts.framed[start:end].decode()):
+        for (column, c), (place, wanted) in zip(letters, letters_of(start, facts.framed[start:end].decode())):
             if c != wanted or column != first[place]:
                 yield line
                 break
-            place += size(c)
 
 
 def columns_of(c):
@@ -249,24 +270,26 @@ class Drawing:
 
     def __init__(self, facts):
         self.facts = facts
-        self.column = {}
-        column = 1
-        for place, c in zip(places_of(facts.framed.decode()), [*facts.framed.decode(), ""]):
-            self.column[place] = column
-            column += 1 + (columns_of(c) if c else 0)
-        hyphenated = facts.hyphenated()
-        self.word_column = self.column[1] + 1
-        end = self.word_column + sum(columns_of(c) for c in hyphenated)
-        self.note_x = 12 * (max(self.column[len(facts.framed)], end) + 1)
+        framed = facts.framed.decode()
+        self.values = {place: 1 for place in places_of(framed)}
+        for start, _, entries in facts.rows:
+            for place, value, _ in entries:
+                self.values[start + place] = max(self.values[start + place], len(str(value)))
+        self.letter = {}
+        column = 0
+        for place, c in zip(places_of(framed), [*framed, ""]):
+            self.letter[place] = column + self.values[place]
+            column += (self.values[place] + columns_of(c)) if c else 0
+        self.columns = column
 
     def letters(self, start, text, values):
         """The pieces of a text at a place of the frame, with values by its places, each with its class."""
         place, made = 0, []
         for c in [*text, ""]:
-            at = self.column[start + place]
+            at = self.letter[start + place]
             if place in values:
                 kind, value = values[place]
-                made.append((kind, str(12 * at + 6), str(value)))
+                made.append((kind, str(12 * (at + 1) - 6 * len(str(value))), str(value)))
             if c and columns_of(c) == 0 and place > 0 and place not in values:
                 made[-1] = (*made[-1][:2], made[-1][2] + shown(c))
             elif c:
@@ -274,8 +297,11 @@ class Drawing:
             place += size(c)
         return made
 
-    def note(self, text):
-        return [("note", str(self.note_x), shown(text))] if text else []
+    def note(self, column, text):
+        return [("note", str(12 * (column + 1)), shown(text))] if text else []
+
+    def note_column(self, width):
+        return max(self.columns + 2, self.letter[1] + width) + 2
 
     def kind(self, value, at):
         scores = self.facts.scores
@@ -289,13 +315,15 @@ class Drawing:
         for start, end, entries in facts.rows:
             values = {place: (self.kind(value, start + place - 1), value) for place, value, _ in entries}
             notes = "".join(facts.note(value, change) for _, value, change in entries)
-            yield [*self.letters(start, facts.framed[start:end].decode(), values), *self.note(notes)]
+            yield [*self.letters(start, facts.framed[start:end].decode(), values), *self.note(self.letter[end], notes)]
         places = places_of(facts.folded)
         values = {i + 1: (self.kind(value, 0), value) for i, (value, _) in enumerate(facts.scores) if i + 1 in places}
         notes = "the greatest value of each place" + "".join(facts.note(*score) for score in facts.scores)
-        yield [*self.letters(1, facts.folded, values), *self.note(notes)]
+        yield [*self.letters(1, facts.folded, values), *self.note(self.note_column(0), notes)]
         decided = facts.picture().rsplit("  ", 1)[1].rstrip("\n")
-        yield [("word", str(12 * self.word_column), shown(facts.hyphenated())), *self.note(decided)]
+        hyphenated = facts.hyphenated()
+        noted = self.note(self.note_column(sum(columns_of(c) for c in hyphenated)), decided)
+        yield [("word", str(12 * (self.letter[1] + 1)), shown(hyphenated)), *noted]
 
 
 def undrawn(all_facts, document):
@@ -332,6 +360,25 @@ def main():
         if not fine:
             print("WRONG:", *said)
 
+    def run(number, path, *options, words):
+        found = subprocess.run([program, *options, path, "--", *words], capture_output=True, check=False)
+        check(found.returncode == 0, number, options, found.returncode, found.stderr.decode())
+        return found.stdout.decode()
+
+    def check_lines(number, path, all_facts, words):
+        plain = run(number, path, "--plain", words=words)
+        wanted = "\n".join(facts.plain() for facts in all_facts)
+        check(plain == wanted, number, "lines:", *(pair for pair in zip(plain.split("\n"), wanted.split("\n")) if pair[0] != pair[1]))
+
+    for number in range(CONTROL_DICTIONARIES):
+        random_of = random.Random(f"controls {number}")
+        letters = "abci" + CONTROLS
+        dictionary = Dictionary(random_of, random_of.choice(["standard", "extended"]), letters)
+        path = folder / f"controls-{number}.txt"
+        path.write_text(dictionary.text())
+        words = [random_text(random_of, letters, 1, 9) for _ in range(WORDS)] + list(dictionary.exceptions)
+        check_lines(number, path, [Facts(dictionary, word) for word in words], words)
+
     for number in range(DICTIONARIES):
         random_of = random.Random(number)
         dictionary = Dictionary(random_of, random_of.choice(["standard", "extended"]))
@@ -343,15 +390,8 @@ def main():
         words += list(dictionary.exceptions)
         all_facts = [Facts(dictionary, word) for word in words]
 
-        def run(*options, words=words):
-            found = subprocess.run([program, *options, path, "--", *words], capture_output=True, check=False)
-            check(found.returncode == 0, number, options, found.returncode, found.stderr.decode())
-            return found.stdout.decode()
-
-        plain = run("--plain")
-        wanted = "\n".join(facts.plain() for facts in all_facts)
-        check(plain == wanted, number, "lines:", *(pair for pair in zip(plain.split("\n"), wanted.split("\n")) if pair[0] != pair[1]))
-        pictures = run().split("\n\n")
+        check_lines(number, path, all_facts, words)
+        pictures = run(number, path, words=words).split("\n\n")
         check(len(pictures) == len(words), number, len(pictures), "pictures, and not", len(words))
         for facts, picture in zip(all_facts, pictures):
             spaceless = picture.strip("\n").replace(" ", "")
@@ -359,7 +399,7 @@ def main():
             for line in misplaced(facts, picture):
                 check(False, number, facts.word, "a letter is not below itself:", line)
         drawn = words + [random_text(random_of, letters + DRAWN, 1, 9) for _ in range(WORDS)]
-        wrong = [*undrawn([Facts(dictionary, word) for word in drawn], run("--svg", words=drawn))]
+        wrong = [*undrawn([Facts(dictionary, word) for word in drawn], run(number, path, "--svg", words=drawn))]
         check(not wrong, number, "drawing:", *wrong[:3])
     check(passed > DICTIONARIES * WORDS, "too few checks")
     print(f"{passed} passed, {failed} failed")

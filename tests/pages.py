@@ -5,21 +5,21 @@
 
 For each page:
 
-- The program ends with 0. With the marks taken out, what it wrote is the page, byte for byte. So it is with the soft
-  hyphen, where what was put in is found by comparing with the page, and with a mark that no page has.
-- Python's html.parser reads both. All it tells is the same, in the same order, but for soft hyphens in text. So the
+- The program ends with 0. With the marks taken out, what it wrote is the page, byte for byte. So it is with a
+  mark that no page has. It is so with the soft hyphen too, where a comparison with the page finds what was put in.
+- Python's html.parser reads both. All it finds is the same, in the same order, except for soft hyphens in text. So the
   tree is the same, and no mark is in a tag, a comment, a declaration, a reference, a script or a style.
 - No mark is in an element that is left alone.
 - A second run changes nothing.
-- With --browser, the tree that the browser makes of both is the same too, but for soft hyphens in text.
+- With --browser, the tree that the browser makes of both is the same too, except for soft hyphens in text.
 
 Without pages it also tries the folders in which dictionaries are found by the environment.
 
 html.parser ends some comments and scripts otherwise than the standard does. So it does not read a page whose name
 begins with `odd`.
 
-A page PAGE.html next to which a file PAGE.marked lies is one of the repository's own: the program must write that file,
-by the dictionaries of the folder `dictionaries` there and with the mark and the options of the first line of it.
+A page PAGE.html next to a file PAGE.marked is one of the repository's own. The program must write that file, by the
+dictionaries of the folder `dictionaries` there. Its first line has the mark and the options.
 
 A line for each page has its bytes, its marks and the seconds of the run. The last line is `N passed, M failed`.
 """
@@ -126,7 +126,7 @@ def only_put_in(page, written, mark):
 
 
 def same_but_for_marks(page, written):
-    """Whether html.parser tells the same of both, but for soft hyphens in text."""
+    """Whether html.parser finds the same in both, except for soft hyphens in text."""
     first, second = told(page), told(written)
     if [kind for kind, _ in first] != [kind for kind, _ in second]:
         return False

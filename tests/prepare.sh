@@ -1,4 +1,5 @@
 # Functions that the scripts of this folder share: the programs, runs of them with a failing call, and the last line.
+#
 # shellcheck shell=bash disable=SC2034
 
 set -euo pipefail

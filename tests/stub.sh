@@ -1,5 +1,6 @@
-# A copy of the repository's scripts in which nothing is proved, for the tests of the launcher and of ./install: its
-# crates have their sources, and a command `rt` of its own stands for the toolchain.
+# A copy of the repository's scripts in which nothing is proved, for the tests of the launcher and of ./install. Its
+# crates have their sources, and a command `rt` of its own is in the toolchain's place.
+#
 # shellcheck shell=bash disable=SC2154
 
 # The commands that the scripts use; no other is found there, and no `rt` but the one that is made here.
@@ -9,9 +10,8 @@ tools=(basename bash cat chmod cp cut dirname env find iconv ln mkdir mktemp mv 
 # make_copy: makes the copy, in `copy`, and the folders of commands: `plain` without `rt`, and `stub` with it.
 #
 # The command writes each call to the file `calls`: the folder that it was called in, and its arguments. `rt try` passes
-# its arguments, after the folders and the name of the program, to the program `trial` of the copy, and says that this was a
-# trial that ended. Without that program it
-# fails. `rt run` makes the program `proved` of the copy the crate's, and fails without it. `rt lib` fails for a crate
+# its arguments, after the folders and the name of the program, to the program `trial` of the copy. It says that this was a
+# trial that ended, and fails without that program. `rt run` makes the program `proved` of the copy the crate's, and fails without it. `rt lib` fails for a crate
 # that the file `unproved` names.
 make_copy() {
   local it

@@ -23,7 +23,7 @@ class Crate:
         return self.folder / "out/rlib" / f"{self.name}.rlib"
 
     def below(self, crates):
-        """The names of the crates of the repository that it stands on."""
+        """The names of the crates of the repository that it uses, with those below."""
         found, rest = [], list(self.uses)
         while rest:
             name = rest.pop()
@@ -33,7 +33,7 @@ class Crate:
         return found
 
     def words(self, crates, kit):
-        """The arguments by which `rattle check` and `rattle build` find what the crate stands on."""
+        """The arguments by which `rattle check` and `rattle build` find what the crate uses."""
         words = ["--crate-name", self.name, self.top]
         for name in ["std", *self.uses]:
             library = crates[name].library() if name in crates else kit / "rlibs" / f"{name}.rlib"

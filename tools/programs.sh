@@ -7,10 +7,10 @@
 # - FIRST:COUNT:INPUT:PATHS is a form of its arguments. Where they begin with FIRST (* is any) and are COUNT many (4+ is four
 #   or more), INPUT says whether the program reads standard input (`input`; also where one of them is -), and PATHS
 #   which of them are paths (5+ is the fifth and all after it).
-# - --NAME is an option, --NAME=VALUE one whose value is the next argument: a path where VALUE is PATH, a code, = and a path
-#   where it is CODE=PATH. Options are not counted. Without such a word the program has no options but --help and --version.
-# - dictionary=N says that the argument of that number may be a language in the place of a path: it has no slash and no dot.
-# - first=--NAME says that the value of this option stands for the first argument.
+# - --NAME is an option, --NAME=VALUE one whose value is the next argument. It is a path where VALUE is PATH; a code, =
+#   and a path where it is CODE=PATH. Options are not counted. Without such a word the program has no options but --help and --version.
+# - dictionary=N says that the argument of that number may be a language in place of a path, without a slash and a dot.
+# - first=--NAME says that the value of this option takes the place of the first argument.
 # - up-to=N is how many bytes of standard input a trial run takes, if not 1 MiB. It takes at most 64 MiB.
 programs=()
 declare -A forms=()
@@ -40,8 +40,8 @@ crate_of() {
   esac
 }
 
-# file_of NAME: what is built for a program or the static library, in `built`, and by which name it is called, in `file`: for a
-# program that is a link. They are there once that is built.
+# file_of NAME: what is built for a program or the static library, in `built`. The name by which it is called is in `file`: for
+# a program that is a link. They are there once that is built.
 file_of() {
   crate_of "$1"
   built=$root/crates/$crate/out/$crate
@@ -96,8 +96,8 @@ has_toolchain() {
 }
 
 # prove NAME..: proves and builds the programs that are not current, and all that they use, with a line on standard error
-# for each crate; libhyphenation may be among the names. It returns 1 where one is not proved and built, and says why. Crates that do not stand on one another are
-# proved side by side: at most `at_once`, or else as many as the processors and the memory allow.
+# for each crate; libhyphenation may be among the names. It returns 1 where one is not proved and built, and says why. Crates
+# that do not use one another are proved side by side, at most `at_once`, or as many as processors and memory allow.
 prove() {
   local -a order=() missing=()
   local it size processors=1 gigabytes=0 status=0
@@ -192,8 +192,8 @@ prove_all() {
   done
 }
 
-# put_longest_chain_first: sorts the list `order` by how long the longest chain of crates from each one is, since the longest
-# of all decides how long everything takes. The bytes of a crate's sources stand for its time. A crate stays after those
+# put_longest_chain_first: sorts the list `order` by how long the longest chain of crates from each one is. The longest of all
+# decides how long everything takes. The bytes of a crate's sources are taken for its time. A crate stays after those
 # that it uses, whose chains are longer.
 put_longest_chain_first() {
   declare -A chain=()
@@ -210,8 +210,8 @@ put_longest_chain_first() {
   mapfile -t order < <(for it in "${order[@]}"; do echo "${chain[$it]} $it"; done | sort -s -k 1,1nr | cut -d ' ' -f 2)
 }
 
-# lay_out CRATE: lays out a folder in which one crate can be proved next to others, since a call of rt locks the folders of
-# all crates that it reads: copies of the sources, the libraries that the crate uses, and what is kept of it in out/.
+# lay_out CRATE: lays out a folder in which one crate can be proved next to others. A call of rt locks the folders of all
+# crates that it reads. It has copies of the sources, the libraries that the crate uses, and what is kept of it in out/.
 lay_out() {
   local -a order=()
   local it part here=$top/$1

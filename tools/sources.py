@@ -15,7 +15,7 @@ STEPS = {"(": 1, "[": 1, "{": 1, ")": -1, "]": -1, "}": -1}
 class Item:
     """An item of code: its kind and name, the lines of its comment, its attributes, and its text up to its braces.
 
-    What stands in its braces is `body`, and None where it has none. A trait, an `impl` and a module have members."""
+    What is in its braces is `body`, and None where it has none. A trait, an `impl` and a module have members."""
 
     def __init__(self, kind, name, public, doc, attributes, text, body, line):
         self.kind, self.name, self.public, self.doc, self.attributes = kind, name, public, doc, attributes
@@ -38,7 +38,7 @@ class Item:
 
 
 def without_generics(text):
-    """A text without what stands in angle brackets."""
+    """A text without what is in angle brackets."""
     text = text.replace("->", "  ")
     while re.search(r"<[^<>]*>", text):
         text = re.sub(r"<[^<>]*>", "", text)

@@ -47,7 +47,7 @@ static size_t breaks_of_text(const char *text, size_t length, char *marked) {
     if (end - at > sizeof small) die("a word is too long");
     for (size_t i = at; i < end; i++) small[i - at] = (char)tolower((unsigned char)text[i]);
     found += breaks_of_word(small, end - at);
-    /* The value of a place stands at the last byte of the character before it. */
+    /* The value of a place is at the last byte of the character before it. */
     for (size_t i = at, character = 0; i < end; i++) {
       *marked++ = text[i];
       if (i + 1 < end && (text[i + 1] & 0xc0) == 0x80) continue;

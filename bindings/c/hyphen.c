@@ -114,7 +114,7 @@ void hnj_hyphen_free(HyphenDict *dict) {
   free(own);
 }
 
-/* Makes the lists that are not there yet, for a word of so many bytes. */
+/* Makes the lists that are not there yet, for a word of that many bytes. */
 static bool make(const struct lists *to, size_t size) {
   if (!*to->rep) *to->rep = calloc(size + 1, sizeof **to->rep);
   if (!*to->pos) *to->pos = calloc(size + 1, sizeof **to->pos);
@@ -190,7 +190,7 @@ static size_t append(char *out, size_t room, size_t made, const char *bytes, siz
   return made + (size_t)snprintf(out + made, room - made, "%.*s%s", (int)length, bytes, text);
 }
 
-/* The bytes of a hyphen, a dash or an apostrophe that stands at a place of a word; 0 if none does. */
+/* The bytes of a hyphen, a dash or an apostrophe that is at a place of a word; 0 if none does. */
 static size_t dash_at(const char *word, size_t size, size_t at) {
   if (word[at] == '-' || word[at] == '\'') return 1;
   if (size - at < 3 || memcmp(word + at, "\xE2\x80", 2) != 0) return 0;

@@ -32,8 +32,8 @@ HyphenDict *hnj_hyphen_load_file(FILE *file);
 /* Frees a dictionary; NULL is none. */
 void hnj_hyphen_free(HyphenDict *dict);
 
-/* Finds the breaks of a word of word_size bytes in the charset of the dictionary. The word and what stands behind it
- * end with a NUL; what stands behind it counts for minima and NOHYPHEN. hyphens[i] is a digit, and an odd one if the
+/* Finds the breaks of a word of word_size bytes in the charset of the dictionary. The word and the text behind it
+ * end with a NUL; the text behind it counts for minima and NOHYPHEN. hyphens[i] is a digit, and an odd one if the
  * word may be broken behind its character i, counted from 0; a NUL follows the last one. `hyphens` has word_size + 5
  * bytes. hyphenated_word, if it is not NULL, has 2 * word_size bytes at least, and one for the empty word. It is the
  * word with = at its breaks, and with the texts of changes, if that fits with a NUL behind it, and else the empty
@@ -46,8 +46,8 @@ void hnj_hyphen_free(HyphenDict *dict);
 int hnj_hyphen_hyphenate2(HyphenDict *dict, const char *word, int word_size, char *hyphens, char *hyphenated_word,
                           char ***rep, int **pos, int **cut);
 
-/* The same with minima of the caller's, of each the greater one of them and of the dictionary's: so many characters
- * stand before and behind a break of the word, and so many within the part of a compound. */
+/* The same with minima of the caller's, of each the greater one of them and of the dictionary's. They are the least
+ * numbers of characters before and behind a break of the word, and within the part of a compound. */
 int hnj_hyphen_hyphenate3(HyphenDict *dict, const char *word, int word_size, char *hyphens, char *hyphenated_word,
                           char ***rep, int **pos, int **cut, int lhmin, int rhmin, int clhmin, int crhmin);
 

@@ -5,7 +5,7 @@
  *   that is removed and added as it was listed does so, too.
  * - The segments of a word of a standard dictionary, joined, are the word, and a text without its marks is the text.
  *
- * The bytes give a text that is accepted, but for a pattern or an exception in two lines. How often each of these was done
+ * The bytes give a text that is accepted, except for a pattern or an exception in two lines. How often each of these was done
  * is written at the end. tests/fuzz builds and runs it, and wants each of them. */
 #include "hyphenation.h"
 #include <stdio.h>
@@ -81,7 +81,7 @@ static word some_word(unsigned most) {
 static void put_word(text *t, const word *w) {
   for (size_t i = 0; i < w->count; i++) put_text(t, letters[w->letters[i]]);
 }
-/* The token of a letter: digits and braces are letters in patterns by an escape alone, and elsewhere as they are. */
+/* The token of a letter: digits and braces are letters in patterns only by an escape, and elsewhere as they are. */
 static void put_token(text *t, unsigned letter, bool in_pattern) {
   put_text(t, letter < 9 || in_pattern ? written[letter] : letters[letter]);
 }
@@ -106,7 +106,7 @@ static void put_change(text *t, const word *w, size_t place) {
 static void put_pattern(text *t, bool extended) {
   word key = some_word(5);
   if (!key.count) return;
-  /* A dot has a byte, and stands before the letters. */
+  /* A dot has a byte, and is before the letters. */
   unsigned values[7], dot = next(4) == 0;
   put_text(t, dot ? "p ." : "p ");
   for (size_t i = 0; i <= key.count; i++) {
@@ -195,7 +195,7 @@ static bool same_answer(const answer *a, const answer *b) {
          same(&a->texts[1], &b->texts[1]) && same(&a->texts[2], &b->texts[2]);
 }
 
-/* The listed breaks of a word, as they stand behind it in a dictionary text. */
+/* The listed breaks of a word, as they are behind it in a dictionary text. */
 static void put_answer(text *t, const answer *a) {
   const uint8_t *own = a->texts[2].bytes;
   for (size_t i = 0; i < a->numbered_count[1]; i++) {

@@ -136,10 +136,30 @@ static PyObject *tuple_of(const hyphenation_change *it, const uint8_t *word, con
                        (const char *)texts, (Py_ssize_t)it->before, (const char *)texts + it->before, (Py_ssize_t)it->after);
 }
 
+/* An item of either sort. */
+typedef union {
+  hyphenation_change change;
+  hyphenation_numbered listed;
+} Item;
+
+/* What a call writes of a word: items of one sort, and their texts, one after the other. */
+typedef struct {
+  union {
+    Item *any;
+    hyphenation_change *changes;
+    hyphenation_numbered *listed;
+  } at;
+  uint8_t *texts;
+  size_t room, count, texts_room, texts_count;
+} Items;
+enum { USUAL_BYTES = 512 };
+
 /* The list of positions, and that of changes or None where there is no change. */
-static PyObject *pair_of(const hyphenation_change *found, size_t count, const uint8_t *word, const uint8_t *texts,
-                         size_t texts_length) {
-  bool changed = texts_length != 0;
+static PyObject *pair_of(const Items *items, const uint8_t *word) {
+  const hyphenation_change *found = items->at.changes;
+  const uint8_t *texts = items->texts;
+  size_t count = items->count;
+  bool changed = items->texts_count != 0;
   PyObject *list = NULL, *at = PyList_New((Py_ssize_t)count), *position;
   size_t byte = 0, characters = 0;
   for (size_t i = 0; i < count; ++i) changed |= found[i].begin != found[i].place || found[i].end != found[i].place;
@@ -161,31 +181,6 @@ failed:
   return NULL;
 }
 
-static PyObject *changes(PyObject *self, PyObject *word) {
-  enum { TEXTS = 512 };
-  hyphenation_change usual[USUAL], *found = usual;
-  uint8_t usual_texts[TEXTS], *texts = usual_texts;
-  size_t length, count = 0, texts_count = 0;
-  const uint8_t *text = utf8_of(word, &length);
-  PyObject *pair = NULL;
-  if (!text) return NULL;
-  uint32_t status = calls.changes(OF(self), text, length, found, USUAL, &count, texts, TEXTS, &texts_count);
-  if (status == HYPHENATION_NO_ROOM) {
-    size_t room = count, texts_room = texts_count;
-    if (!(found = room_for(room, sizeof *found))) return NULL;
-    if (!(texts = room_for(texts_room, 1))) {
-      free(found);
-      return NULL;
-    }
-    status = calls.changes(OF(self), text, length, found, room, &count, texts, texts_room, &texts_count);
-  }
-  if (status != HYPHENATION_DONE) fail(status);
-  else pair = pair_of(found, count, text, texts, texts_count);
-  if (found != usual) free(found);
-  if (texts != usual_texts) free(texts);
-  return pair;
-}
-
 /* The tuple of a listed break, whose text begins at `text`. */
 static PyObject *tuple_of_listed(const hyphenation_numbered *it, const uint8_t *word, const uint8_t *text) {
   hyphenation_change change = {it->number, it->number - it->left, it->number + it->right, it->breakpoint,
@@ -193,10 +188,11 @@ static PyObject *tuple_of_listed(const hyphenation_numbered *it, const uint8_t *
   return tuple_of(&change, word, text);
 }
 
-static PyObject *list_of_listed(const hyphenation_numbered *found, size_t count, const uint8_t *word, const uint8_t *texts) {
-  PyObject *list = PyList_New((Py_ssize_t)count);
-  for (size_t i = 0; list && i < count; texts += found[i++].length) {
-    PyObject *tuple = tuple_of_listed(&found[i], word, texts);
+static PyObject *list_of_listed(const Items *found, const uint8_t *word) {
+  PyObject *list = PyList_New((Py_ssize_t)found->count);
+  const uint8_t *texts = found->texts;
+  for (size_t i = 0; list && i < found->count; texts += found->at.listed[i++].length) {
+    PyObject *tuple = tuple_of_listed(&found->at.listed[i], word, texts);
     if (!tuple || PyList_SetItem(list, (Py_ssize_t)i, tuple)) {
       Py_DECREF(list);
       return NULL;
@@ -205,30 +201,50 @@ static PyObject *list_of_listed(const hyphenation_numbered *found, size_t count,
   return list;
 }
 
-static PyObject *exception(PyObject *self, PyObject *word) {
-  enum { TEXTS = 512 };
-  hyphenation_numbered usual[USUAL], *found = usual;
-  uint8_t usual_texts[TEXTS], *texts = usual_texts;
-  size_t length, count = 0, texts_count = 0;
+static uint32_t ask_for_changes(PyObject *self, const uint8_t *word, size_t length, Items *it) {
+  return calls.changes(OF(self), word, length, it->at.changes, it->room, &it->count, it->texts, it->texts_room,
+                       &it->texts_count);
+}
+
+static uint32_t ask_for_exception(PyObject *self, const uint8_t *word, size_t length, Items *it) {
+  return calls.exception(OF(self), word, length, it->at.listed, it->room, &it->count, it->texts, it->texts_room,
+                         &it->texts_count);
+}
+
+/* What a call writes of a word, as `made` makes it; None where it says that the word is no exception. */
+static PyObject *items_of(PyObject *self, PyObject *word,
+                          uint32_t (*ask)(PyObject *self, const uint8_t *word, size_t length, Items *it),
+                          PyObject *(*made)(const Items *found, const uint8_t *word)) {
+  Item usual[USUAL];
+  uint8_t usual_texts[USUAL_BYTES];
+  Items it = {.at.any = usual, .room = USUAL, .texts = usual_texts, .texts_room = USUAL_BYTES};
+  size_t length;
   const uint8_t *text = utf8_of(word, &length);
-  PyObject *list = NULL;
+  PyObject *result = NULL;
   if (!text) return NULL;
-  uint32_t status = calls.exception(OF(self), text, length, found, USUAL, &count, texts, TEXTS, &texts_count);
+  uint32_t status = ask(self, text, length, &it);
   if (status == HYPHENATION_NO_ROOM) {
-    size_t room = count, texts_room = texts_count;
-    if (!(found = room_for(room, sizeof *found))) return NULL;
-    if (!(texts = room_for(texts_room, 1))) {
-      free(found);
+    it.room = it.count;
+    it.texts_room = it.texts_count;
+    if (!(it.at.any = room_for(it.room, sizeof *usual))) return NULL;
+    if (!(it.texts = room_for(it.texts_room, 1))) {
+      free(it.at.any);
       return NULL;
     }
-    status = calls.exception(OF(self), text, length, found, room, &count, texts, texts_room, &texts_count);
+    status = ask(self, text, length, &it);
   }
-  if (status == HYPHENATION_NO_EXCEPTION) list = Py_NewRef(Py_None);
+  if (status == HYPHENATION_NO_EXCEPTION) result = Py_NewRef(Py_None);
   else if (status != HYPHENATION_DONE) fail(status);
-  else list = list_of_listed(found, count, text, texts);
-  if (found != usual) free(found);
-  if (texts != usual_texts) free(texts);
-  return list;
+  else result = made(&it, text);
+  if (it.at.any != usual) free(it.at.any);
+  if (it.texts != usual_texts) free(it.texts);
+  return result;
+}
+
+static PyObject *changes(PyObject *self, PyObject *word) { return items_of(self, word, ask_for_changes, pair_of); }
+
+static PyObject *exception(PyObject *self, PyObject *word) {
+  return items_of(self, word, ask_for_exception, list_of_listed);
 }
 
 /* ---- A list of words. */

@@ -1,4 +1,4 @@
-//! The calls as `hyphenation.h` declares them, and safe functions over them. All that is unsafe stands in this file. It
+//! The calls as `hyphenation.h` declares them, and safe functions over them. All that is unsafe is in this file. It
 //! keeps to what that header says at its top: a handle is given to one call at a time, no pointer is null, and what a
 //! call writes to overlaps nothing else that it is handed.
 #![allow(unsafe_code)]
@@ -28,7 +28,7 @@ unsafe impl Send for Raw {}
 
 impl Drop for Raw {
     fn drop(&mut self) {
-        // SAFETY: the handle is as the last call left it, and is lent to this call alone.
+        // SAFETY: the handle is as the last call left it, and is lent only to this call.
         unsafe { hyphenation_free(self) }
     }
 }
@@ -45,7 +45,7 @@ pub struct RawChange {
 }
 
 /// A number with a change, or with none: a place or a value, and of the change how many bytes before the place and after it
-/// it takes, and of its text how many bytes stand before the break, and the length.
+/// it takes, and of its text how many bytes are before the break, and the length.
 #[repr(C)]
 #[derive(Clone, Copy, Default)]
 pub struct RawNumbered {
@@ -370,6 +370,19 @@ fn filled<T: Copy>(room: usize, mut call: impl FnMut(*mut T, usize, &mut usize) 
     }
 }
 
+// A call that writes items for a word, and their texts, each into a buffer with its room and its count.
+type CallForItems<T> = unsafe extern "C" fn(
+    *mut Raw,
+    *const u8,
+    usize,
+    *mut T,
+    usize,
+    *mut usize,
+    *mut u8,
+    usize,
+    *mut usize,
+) -> u32;
+
 // The same of two buffers: each call tells both counts.
 fn both_filled<T: Copy, U: Copy>(
     room: (usize, usize),
@@ -425,26 +438,26 @@ impl Raw {
     /// The same dictionary in another handle. Nothing of it is copied.
     pub fn share(&mut self) -> Result<Raw, Failure> {
         let mut other = Raw::NONE;
-        // SAFETY: both handles are as the last call left them, and are lent to this call alone.
+        // SAFETY: both handles are as the last call left them, and are lent only to this call.
         let status = unsafe { hyphenation_share(self, &mut other) };
         checked(status, RawFault::default()).map(|()| other)
     }
 
     /// Makes the table by which the dictionary breaks words faster, if it can have one.
     pub fn make_table(&mut self) -> Result<(), Failure> {
-        // SAFETY: the handle is as the last call left it, and is lent to this call alone.
+        // SAFETY: the handle is as the last call left it, and is lent only to this call.
         checked(unsafe { hyphenation_make_table(self) }, RawFault::default())
     }
 
     /// Edits the exceptions.
     pub fn edit(&mut self, edit: &str) -> Result<(), Failure> {
-        // SAFETY: the handle is as the last call left it, and is lent to this call alone; the edit is a slice.
+        // SAFETY: the handle is as the last call left it, and is lent only to this call; the edit is a slice.
         checked(unsafe { hyphenation_edit(self, edit.as_ptr(), edit.len()) }, RawFault::default())
     }
 
     /// The code of the language.
     pub fn language(&mut self) -> Result<String, Failure> {
-        // SAFETY: the handle is lent to this call alone, and the buffer and the count are local.
+        // SAFETY: the handle is lent only to this call, and the buffer and the count are local.
         let code = filled(32, |code, room, count| unsafe { hyphenation_language(self, code, room, count) })?;
         Ok(text_of(code))
     }
@@ -452,7 +465,7 @@ impl Raw {
     /// The least numbers of characters before the first break of a word and after its last one.
     pub fn minima(&mut self) -> (usize, usize) {
         let (mut left, mut right) = (0, 0);
-        // SAFETY: the handle is lent to this call alone, and both numbers are local.
+        // SAFETY: the handle is lent only to this call, and both numbers are local.
         let status = unsafe { hyphenation_minima(self, &mut left, &mut right) };
         debug_assert_eq!(status, DONE, "a dictionary has minima");
         (left, right)
@@ -460,7 +473,7 @@ impl Raw {
 
     /// The places of a word's breaks.
     pub fn breaks(&mut self, word: &str) -> Result<Vec<usize>, Failure> {
-        // SAFETY: the handle is lent to this call alone, the word is a slice, and the buffer and the count are local.
+        // SAFETY: the handle is lent only to this call, the word is a slice, and the buffer and the count are local.
         filled(8, |places, room, count| unsafe {
             hyphenation_breaks(self, word.as_ptr(), word.len(), places, room, count)
         })
@@ -477,7 +490,7 @@ impl Raw {
             })
             .collect();
         both_filled((text.len() / 4 + 16, words.len()), |places, place_ends| {
-            // SAFETY: the handle is lent to this call alone, the text and the ends are slices, and the buffers and the
+            // SAFETY: the handle is lent only to this call, the text and the ends are slices, and the buffers and the
             // counts are local.
             unsafe {
                 hyphenation_breaks_of_words(
@@ -499,54 +512,33 @@ impl Raw {
 
     /// The values of a word's places, from place 1 on.
     pub fn values(&mut self, word: &str) -> Result<Vec<u8>, Failure> {
-        // SAFETY: the handle is lent to this call alone, the word is a slice, and the buffer and the count are local.
+        // SAFETY: the handle is lent only to this call, the word is a slice, and the buffer and the count are local.
         filled(word.len(), |values, room, count| unsafe {
             hyphenation_values(self, word.as_ptr(), word.len(), values, room, count)
         })
     }
 
-    /// The breaks of a word with their changes, and the texts of these, one after the other.
-    pub fn changes(&mut self, word: &str) -> Result<(Vec<RawChange>, String), Failure> {
-        let (changes, texts) = both_filled((8, 32), |changes, texts| {
-            // SAFETY: the handle is lent to this call alone, the word is a slice, and the buffers and the counts are local.
+    /// The items that a call writes for a word, and their texts, one after the other. There is room for that number of items at first.
+    fn items_of<T: Copy>(&mut self, call: CallForItems<T>, word: &str, room: usize) -> Result<(Vec<T>, String), Failure> {
+        let (items, texts) = both_filled((room, 32), |items, texts| {
+            // SAFETY: the handle is lent only to this call, the word is a slice, and the buffers and the counts are local.
             unsafe {
-                hyphenation_changes(
-                    self,
-                    word.as_ptr(),
-                    word.len(),
-                    changes.0,
-                    changes.1,
-                    changes.2,
-                    texts.0,
-                    texts.1,
-                    texts.2,
-                )
+                call(self, word.as_ptr(), word.len(), items.0, items.1, items.2, texts.0, texts.1, texts.2)
             }
         })?;
-        Ok((changes, text_of(texts)))
+        Ok((items, text_of(texts)))
+    }
+
+    /// The breaks of a word with their changes, and the texts of these, one after the other.
+    pub fn changes(&mut self, word: &str) -> Result<(Vec<RawChange>, String), Failure> {
+        self.items_of(hyphenation_changes, word, 8)
     }
 
     /// The breaks that are listed for a word, with their changes, and the texts of these, one after the other; none if the
     /// word is no exception.
     pub fn exception(&mut self, word: &str) -> Result<Option<(Vec<RawNumbered>, String)>, Failure> {
-        let found = both_filled((8, 32), |changes, texts| {
-            // SAFETY: the handle is lent to this call alone, the word is a slice, and the buffers and the counts are local.
-            unsafe {
-                hyphenation_exception(
-                    self,
-                    word.as_ptr(),
-                    word.len(),
-                    changes.0,
-                    changes.1,
-                    changes.2,
-                    texts.0,
-                    texts.1,
-                    texts.2,
-                )
-            }
-        });
-        match found {
-            Ok((changes, texts)) => Ok(Some((changes, text_of(texts)))),
+        match self.items_of(hyphenation_exception, word, 8) {
+            Ok(listed) => Ok(Some(listed)),
             Err(Failure::NoException) => Ok(None),
             Err(failure) => Err(failure),
         }
@@ -554,28 +546,12 @@ impl Raw {
 
     /// The values of a word's places, from place 1 on, with their changes, and the texts of these, one after the other.
     pub fn scores(&mut self, word: &str) -> Result<(Vec<RawNumbered>, String), Failure> {
-        let (changes, texts) = both_filled((word.len(), 32), |changes, texts| {
-            // SAFETY: the handle is lent to this call alone, the word is a slice, and the buffers and the counts are local.
-            unsafe {
-                hyphenation_scores(
-                    self,
-                    word.as_ptr(),
-                    word.len(),
-                    changes.0,
-                    changes.1,
-                    changes.2,
-                    texts.0,
-                    texts.1,
-                    texts.2,
-                )
-            }
-        })?;
-        Ok((changes, text_of(texts)))
+        self.items_of(hyphenation_scores, word, word.len())
     }
 
     /// A text with a mark at each break of its words.
     pub fn marked(&mut self, text: &str, mark: &str) -> Result<String, Failure> {
-        // SAFETY: the handle is lent to this call alone, the texts are slices, and the buffer and the count are local.
+        // SAFETY: the handle is lent only to this call, the texts are slices, and the buffer and the count are local.
         let bytes = filled(text.len() + text.len() / 2 + 16, |buffer, room, count| unsafe {
             hyphenation_text(self, text.as_ptr(), text.len(), mark.as_ptr(), mark.len(), buffer, room, count)
         })?;
@@ -584,7 +560,7 @@ impl Raw {
 
     /// The lines of a text, each with a line feed after it. The dictionary is a standard one.
     pub fn lines(&mut self, text: &str, columns: usize) -> Result<String, Failure> {
-        // SAFETY: the handle is lent to this call alone, the text is a slice, and the buffer and the count are local.
+        // SAFETY: the handle is lent only to this call, the text is a slice, and the buffer and the count are local.
         let bytes = filled(text.len() + text.len() / 8 + 16, |buffer, room, count| unsafe {
             hyphenation_fill(self, text.as_ptr(), text.len(), columns, buffer, room, count)
         })?;
@@ -593,7 +569,7 @@ impl Raw {
 
     /// The canonical text.
     pub fn canonical(&mut self) -> Result<String, Failure> {
-        // SAFETY: the handle is lent to this call alone, and the buffer and the count are local.
+        // SAFETY: the handle is lent only to this call, and the buffer and the count are local.
         let bytes = filled(1 << 12, |buffer, room, count| unsafe { hyphenation_write(self, buffer, room, count) })?;
         Ok(text_of(bytes))
     }

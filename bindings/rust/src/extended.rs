@@ -41,7 +41,7 @@ fn subregion(change: &RawChange, texts: &str) -> Option<Subregion> {
     })
 }
 
-/// Numbers with their changes, whose texts stand one after the other.
+/// Numbers with their changes, whose texts are one after the other.
 pub(crate) fn with_changes(numbered: &[RawNumbered], texts: &str) -> Vec<(usize, Option<Subregion>)> {
     let mut rest = texts;
     let changes = numbered.iter().map(|it| {

@@ -1,6 +1,6 @@
 //! Words with their breaks, and what finds them.
 
-/// The places of the soft hyphens of a word; none where it has none. A word that has some is broken at them alone.
+/// The places of the soft hyphens of a word; none where it has none. A word that has some is broken only at them.
 pub fn soft_hyphen_indices(word: &str) -> Option<Vec<usize>> {
     let places: Vec<usize> = word.match_indices('\u{ad}').map(|(place, _)| place).collect();
     Some(places).filter(|places| !places.is_empty())
@@ -53,7 +53,7 @@ pub trait Hyphenator<'h> {
     ///
     /// # Panics
     ///
-    /// Where memory is refused, or where the breaks may not be listed: their places must ascend, and stand with their ranges
+    /// Where memory is refused, or where the breaks may not be listed: their places must ascend, and be with their ranges
     /// in the word, on boundaries of characters. The dictionary is then as it was.
     fn add_exception(&mut self, lowercase_word: String, ops: Vec<Self::Exact>) -> Option<Vec<Self::Exact>>;
 

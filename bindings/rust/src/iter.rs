@@ -1,4 +1,4 @@
-//! The segments of words: what stands between their breaks, with marks or without.
+//! The segments of words: the texts between their breaks, with marks or without.
 
 use crate::extended::Subregion;
 use crate::hyphenator::Word;
@@ -14,7 +14,7 @@ pub struct Hyphenating<'m, I> {
 }
 
 impl<'m, I: Iterator> Hyphenating<'m, I> {
-    /// The segments alone.
+    /// The segments without marks.
     pub fn segments(self) -> I {
         self.inner
     }

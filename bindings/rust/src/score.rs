@@ -8,7 +8,7 @@ pub trait Score<'d> {
     /// The value of a place; in an extended dictionary with the change that it carries.
     type Value;
 
-    /// The values of a word's places, from place 1 on, by the patterns alone. A place is a number of bytes.
+    /// The values of a word's places, from place 1 on, only by the patterns. A place is a number of bytes.
     ///
     /// Neither exceptions nor minima are looked at, and capitals are not read as small letters.
     ///

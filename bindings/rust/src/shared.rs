@@ -79,7 +79,7 @@ impl Shared {
 
     /// Changes the dictionary. Clones of it stay as they are.
     pub fn change<T>(&mut self, change: impl FnOnce(&mut Raw) -> Result<T, Failure>) -> Result<T, Failure> {
-        // With one handle alone it is changed in its place, and not copied.
+        // With only one handle it is changed in its place, and not copied.
         for place in &mut self.others {
             *inside(&mut place.0) = Raw::NONE;
         }

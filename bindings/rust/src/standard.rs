@@ -15,7 +15,7 @@ dictionary!(
 );
 
 impl Standard {
-    /// The lines of a text, of at most so many characters, if the text can be divided so.
+    /// The lines of a text, of at most that number of characters, if the text can be divided so.
     ///
     /// Each paragraph, up to a line feed, is filled by itself; an empty one is an empty line.
     ///
