@@ -90,12 +90,12 @@ nothing_least one =
     ]
 
 -- Where no line is left to begin.
-pub best_at_end : (stretches : List Stretch) (columns last_columns : ℕ) (ladder : Option ℕ) (choices : Choices) (known : ℕ) → length choices.firsts.items ≡ length stretches + 1
+pub best_at_end : (stretches : List Stretch) (columns last_columns : ℕ) (ladder : Option ℕ) (choices : Choices) (known to : ℕ) → length choices.firsts.items ≡ length stretches + 1
     → (1 < runs ladder → length choices.begins.items ≡ length stretches + 1)
-    → slice_index_or choices.firsts.items (length stretches) none_kept ≡ record { cost = nothing; end = 0; last_run = runs ladder - 1 }
+    → slice_index_or choices.firsts.items (length stretches) none_kept ≡ record { cost = nothing; end = to; last_run = runs ladder - 1 }
     → AreBest stretches columns last_columns ladder choices (length stretches) known
-best_at_end stretches columns last_columns ladder choices known many begun none =
-    let final : Kept = record { cost = nothing; end = 0; last_run = runs ladder - 1 } in
+best_at_end stretches columns last_columns ladder choices known to many begun none =
+    let final : Kept = record { cost = nothing; end = to; last_run = runs ladder - 1 } in
     let same : (r e : ℕ) → IsKnown ladder (length stretches) known r e → e ≤ length stretches → length stretches ≡ e = λ r e is high. elim is.1 [ inl after ↦ absurd (omega (arith, after, high)) | inr here ↦ here.0 ] in
     let rest = drop (slice_index_or choices.begins.items (length stretches) 0) choices.others.items in
     let read : (r : ℕ) → r < runs ladder → kept_at choices r (length stretches) ≡ final = λ r few.

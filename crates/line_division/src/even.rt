@@ -12,12 +12,14 @@
 //! longer runs, too, is sought and kept once for all of them. So at most places there are few. Each run has its own floor.
 
 ghost use Rattle.std.specs.Prelude.{◌≡◌, ℕ, ◌+◌, ◌-◌, ◌*◌, ◌^◌, ◌<◌, ◌≤◌, ◌⊎◌, true, IfOk, MatchBool, length};
-ghost use Rattle.line_division.specs.Lines.{line_width, wanted_columns, line_over, line_cost};
+ghost use Rattle.line_division.specs.Lines.{line_width, wanted_columns, line_over};
 ghost use Rattle.line_division.specs.Division.{MayStand, Divides, CostsLeast, FitsIfAny, KeepsLadderIfAny};
 ghost use Rattle.line_division.specs.Cost.{CostsNoMore};
-ghost use Rattle.line_division.specs.Private.Begin.{AreBestOf, IsMadeFrom};
-ghost use Rattle.line_division.specs.Private.Best.{runs, run_of, IsLeast, IsSmall, IsMade, AreBest, IsFloor, EachIsFloor, EachIsLow, floor_after};
+ghost use Rattle.line_division.specs.Private.Best.{runs, run_of, floor_after, IsSmall, EachIsLow};
 ghost use Rattle.line_division.specs.Private.Plain.{IsSpentAlone};
+ghost use Rattle.line_division.specs.Private.Problem.{line_cost_of, IsMadeOf, AreBestOf, AreBestFrom, AreBestWith};
+ghost use Rattle.line_division.specs.Private.Problem.{CostsLeastWith, KeepsLadderWith, IsBestOf, IsFloorOf, GivesFloorOf};
+ghost use Rattle.line_division.specs.Private.Problem.{GiveFloorsOf, AreFloorsOf};
 ghost use Rattle.line_division.specs.Private.Reaches.{IsReach};
 ghost use Rattle.line_division.specs.Private.Table.{IsOpen};
 
@@ -92,7 +94,7 @@ fn line_cost(problem: Problem, hyphens: usize, start: usize, end: usize, wide: u
     requires order { start < end }
     requires within { end ≤ length problem.stretches.now }
     requires wide { wide ≡ line_width problem.stretches.now start end }
-    ensures value { result ≡ line_cost problem.entry.stretches.now problem.entry.columns problem.entry.last_columns problem.entry.ladder hyphens start end }
+    ensures value { result ≡ line_cost_of problem.entry hyphens start end }
     ensures excess { result.excess ≤ wide }
     ensures over { result.over ≤ 1 }
     ensures spent { result.spent < 2 ^ 33 }
@@ -135,8 +137,8 @@ fn choose(begin: Begin, choices: &Choices, end: usize, wide: u64) -> Choice
     requires wide { wide ≡ line_width begin.problem.stretches.now begin.start end }
     requires narrow { wide < 2 ^ 34 }
     requires stands { MayStand begin.problem.stretches.now begin.problem.columns begin.start end }
-    requires best { AreBest begin.problem.stretches.now begin.problem.columns begin.problem.last_columns begin.problem.ladder choices.now begin.start begin.run }
-    ensures made { IsMade begin.entry.problem.stretches.now begin.entry.problem.columns begin.entry.problem.last_columns begin.entry.problem.ladder choices.now begin.entry.run begin.entry.start result }
+    requires best { AreBestOf begin.problem choices.now begin.start begin.run }
+    ensures made { IsMadeOf begin.entry.problem choices.now begin.entry.run begin.entry.start result }
     ensures small { IsSmall result.cost (length begin.entry.problem.stretches.now - begin.entry.start) }
     ensures end { result.end ≡ end }
 {
@@ -169,9 +171,8 @@ fn cost_after(problem: Problem, choices: &Choices, run: usize, end: usize) -> Co
     requires run { run < runs problem.ladder }
     requires some { 1 ≤ end }
     requires within { end ≤ length problem.stretches.now }
-    requires best { AreBest problem.stretches.now problem.columns problem.last_columns problem.ladder choices.now end
-        (runs problem.ladder) }
-    ensures floor { IsFloor problem.entry.stretches.now problem.entry.columns problem.entry.last_columns problem.entry.ladder run end end result }
+    requires best { AreBestFrom problem choices.now end }
+    ensures floor { IsFloorOf problem.entry run end end result }
     ensures low { result.spent ≤ 2 ^ 63 }
 {
     let hyphens = hyphens_to(problem.stretches, run, end);
@@ -191,9 +192,8 @@ fn floor_of(problem: Problem, choices: &Choices, run: usize, start: usize, last:
     requires some { 1 ≤ start }
     requires order { start ≤ last }
     requires within { last ≤ length problem.stretches.now }
-    requires best { AreBest problem.stretches.now problem.columns problem.last_columns problem.ladder choices.now start
-        (runs problem.ladder) }
-    ensures floor { IsFloor problem.entry.stretches.now problem.entry.columns problem.entry.last_columns problem.entry.ladder run start last result }
+    requires best { AreBestFrom problem choices.now start }
+    ensures floor { IsFloorOf problem.entry run start last result }
     ensures low { result.spent ≤ 2 ^ 63 }
 {
     let mut floor = cost_after(problem, choices, run, start);
@@ -217,11 +217,8 @@ fn next_floor(problem: Problem, choices: &Choices, run: usize, span: Span, floor
     requires run { run < runs problem.ladder }
     requires order { span.start ≤ span.last }
     requires within { span.last ≤ length problem.stretches.now }
-    requires best { AreBest problem.stretches.now problem.columns problem.last_columns problem.ladder choices.now span.start
-        (runs problem.ladder) }
-    ensures floor { 0 < span.start → (upto : ℕ) → span.last ≤ upto
-        → IsFloor problem.entry.stretches.now problem.entry.columns problem.entry.last_columns problem.entry.ladder run (span.start + 1) upto floor
-        → IsFloor problem.entry.stretches.now problem.entry.columns problem.entry.last_columns problem.entry.ladder run span.start span.last result }
+    requires best { AreBestFrom problem choices.now span.start }
+    ensures floor { GivesFloorOf problem.entry run span.start span.last floor result }
     ensures low { floor.spent ≤ 2 ^ 63 → result.spent ≤ 2 ^ 63 }
 {
     if span.start == 0 {
@@ -239,13 +236,10 @@ fn next_floor(problem: Problem, choices: &Choices, run: usize, span: Span, floor
 fn next_floors(problem: Problem, choices: &Choices, span: Span, floors: &mut Vec<Cost>)
     requires order { span.start ≤ span.last }
     requires within { span.last ≤ length problem.stretches.now }
-    requires best { AreBest problem.stretches.now problem.columns problem.last_columns problem.ladder choices.now span.start
-        (runs problem.ladder) }
+    requires best { AreBestFrom problem choices.now span.start }
     requires many { length floors.old.items + 1 ≡ runs problem.ladder }
     ensures many { length floors.new.items + 1 ≡ runs problem.entry.ladder }
-    ensures floors { 0 < span.start → (upto : ℕ) → span.last ≤ upto
-        → EachIsFloor problem.entry.stretches.now problem.entry.columns problem.entry.last_columns problem.entry.ladder (span.start + 1) upto floors.old.items
-        → EachIsFloor problem.entry.stretches.now problem.entry.columns problem.entry.last_columns problem.entry.ladder span.start span.last floors.new.items }
+    ensures floors { GiveFloorsOf problem.entry span.start span.last floors.old.items floors.new.items }
     ensures low { EachIsLow floors.old.items → EachIsLow floors.new.items }
 {
     for run in 1..runs(problem.ladder) {
@@ -299,15 +293,12 @@ fn is_enough(best: Cost, floor: Cost, lacked: u64) -> bool
 // of, added to the floor, cost as much as the best line so far.
 #[inline(always)]
 fn best_line(begin: Begin, floor: Cost, choices: &Choices, reach: Reach) -> Choice
-    requires best { AreBest begin.problem.stretches.now begin.problem.columns begin.problem.last_columns begin.problem.ladder choices.now begin.start begin.run }
+    requires best { AreBestOf begin.problem choices.now begin.start begin.run }
     requires reach { IsReach begin.problem.stretches.now begin.problem.columns begin.start reach }
     requires within { reach.last < length begin.problem.stretches.now }
-    requires floor { IsFloor begin.problem.stretches.now begin.problem.columns begin.problem.last_columns begin.problem.ladder
-        begin.run (begin.start + 1) (reach.last + 1) floor }
+    requires floor { IsFloorOf begin.problem begin.run (begin.start + 1) (reach.last + 1) floor }
     requires low { floor.spent ≤ 2 ^ 63 }
-    ensures least { IsLeast begin.entry.problem.stretches.now begin.entry.problem.columns begin.entry.problem.last_columns begin.entry.problem.ladder begin.entry.run begin.entry.start result.cost }
-    ensures made { IsMade begin.entry.problem.stretches.now begin.entry.problem.columns begin.entry.problem.last_columns begin.entry.problem.ladder choices.now begin.entry.run begin.entry.start result }
-    ensures small { IsSmall result.cost (length begin.entry.problem.stretches.now - begin.entry.start) }
+    ensures { IsBestOf begin.entry.problem choices.now begin.entry.run begin.entry.start result }
 {
     let Begin { problem, start, .. } = begin;
     let most = u64::from(problem.columns).saturating_sub(problem.closing);
@@ -351,11 +342,12 @@ fn longest_run(ladder: Option<u8>) -> u8
 // after it stays the same, and as neither is over the ladder.
 #[inline(always)]
 fn last_run(begin: Begin, choices: &Choices, best: Choice) -> u8
-    requires best { AreBest begin.problem.stretches.now begin.problem.columns begin.problem.last_columns begin.problem.ladder choices.now begin.start begin.run }
-    requires made { IsMadeFrom begin choices.now begin.run best }
+    requires best { AreBestOf begin.problem choices.now begin.start begin.run }
+    requires made { IsMadeOf begin.problem choices.now begin.run begin.start best }
     ensures from { begin.entry.run ≤ result }
     ensures known { result < runs begin.entry.problem.ladder }
-    ensures made { (r : ℕ) → begin.entry.run ≤ r → r ≤ result → IsMadeFrom begin.entry choices.now r best }
+    ensures made { (r : ℕ) → begin.entry.run ≤ r → r ≤ result
+        → IsMadeOf begin.entry.problem choices.now r begin.entry.start best }
 {
     let Begin { problem, run, .. } = begin;
     let longest = longest_run(problem.ladder);
@@ -370,12 +362,10 @@ fn last_run(begin: Begin, choices: &Choices, best: Choice) -> u8
 #[inline(always)]
 fn put_first(problem: Problem, choices: &mut Choices, start: usize, best: Choice) -> usize
     requires start { start < length problem.stretches.now }
-    requires best { AreBest problem.stretches.now problem.columns problem.last_columns problem.ladder choices.old start 0 }
-    requires least { IsLeast problem.stretches.now problem.columns problem.last_columns problem.ladder 0 start best.cost }
-    requires made { IsMade problem.stretches.now problem.columns problem.last_columns problem.ladder choices.old 0 start best }
-    requires small { IsSmall best.cost (length problem.stretches.now - start) }
+    requires best { AreBestOf problem choices.old start 0 }
+    requires line { IsBestOf problem choices.old 0 start best }
     ensures known { result ≤ runs problem.entry.ladder }
-    ensures best { AreBest problem.entry.stretches.now problem.entry.columns problem.entry.last_columns problem.entry.ladder choices.new start result }
+    ensures best { AreBestOf problem.entry choices.new start result }
     ensures shorter { result < runs problem.entry.ladder → IsOpen choices.new result start }
     ensures some { 1 ≤ result }
 {
@@ -398,11 +388,9 @@ fn put_first(problem: Problem, choices: &mut Choices, start: usize, best: Choice
 // Returns the next longer run after which it is not known to be the best.
 #[inline(always)]
 fn put_next(begin: Begin, choices: &mut Choices, best: Choice) -> Result<usize, AllocError>
-    requires best { AreBest begin.problem.stretches.now begin.problem.columns begin.problem.last_columns begin.problem.ladder choices.old begin.start begin.run }
+    requires best { AreBestOf begin.problem choices.old begin.start begin.run }
     requires shorter { IsOpen choices.old begin.run begin.start }
-    requires least { IsLeast begin.problem.stretches.now begin.problem.columns begin.problem.last_columns begin.problem.ladder begin.run begin.start best.cost }
-    requires made { IsMadeFrom begin choices.old begin.run best }
-    requires small { IsSmall best.cost (length begin.problem.stretches.now - begin.start) }
+    requires line { IsBestOf begin.problem choices.old begin.run begin.start best }
     ensures known { IfOk result (λ next. next ≤ runs begin.entry.problem.ladder) }
     ensures best { IfOk result (λ next. AreBestOf begin.entry.problem choices.new begin.entry.start next) }
     ensures shorter { IfOk result (λ next. IsOpen choices.new next begin.entry.start) }
@@ -417,6 +405,40 @@ fn put_next(begin: Begin, choices: &mut Choices, best: Choice) -> Result<usize, 
     Ok(usize::from(last_run) + 1)
 }
 
+// Puts in the lines that are best to begin at a place, after each run of hyphens from one on that is not empty.
+//
+// It is never inlined. `best_lines` would else be too long to be inlined itself, and so be compiled only once for all
+// paragraphs. Those without a ladder would then take twice as many instructions.
+#[inline(never)]
+fn put_longer(
+    begin: Begin,
+    floors: &[Cost],
+    choices: &mut Choices,
+    reach: Reach,
+) -> Result<(), AllocError>
+    requires some { 1 ≤ begin.run }
+    requires best { AreBestOf begin.problem choices.old begin.start begin.run }
+    requires shorter { IsOpen choices.old begin.run begin.start }
+    requires reach { IsReach begin.problem.stretches.now begin.problem.columns begin.start reach }
+    requires within { reach.last < length begin.problem.stretches.now }
+    requires floors { AreFloorsOf begin.problem (begin.start + 1) (reach.last + 1) floors.now }
+    ensures { IfOk result (λ done. AreBestFrom begin.entry.problem choices.new begin.entry.start) }
+{
+    let Begin { problem, start, .. } = begin;
+    let mut run = begin.run;
+    while run < runs(problem.ladder) {
+        let floor = floor_after(floors, run);
+        let begin = Begin {
+            problem,
+            start,
+            run,
+        };
+        let best = best_line(begin, floor, choices, reach);
+        run = put_next(begin, choices, best)?;
+    }
+    Ok(())
+}
+
 // Puts in the lines that are best to begin at a place, after each run of hyphens. The first floor is that after none.
 #[inline(always)]
 fn put_best_lines(
@@ -428,17 +450,13 @@ fn put_best_lines(
     reach: Reach,
 ) -> Result<(), AllocError>
     requires start { start < length problem.stretches.now }
-    requires best { AreBest problem.stretches.now problem.columns problem.last_columns problem.ladder choices.old start 0 }
+    requires best { AreBestOf problem choices.old start 0 }
     requires reach { IsReach problem.stretches.now problem.columns start reach }
     requires within { reach.last < length problem.stretches.now }
-    requires first { IsFloor problem.stretches.now problem.columns problem.last_columns problem.ladder
-        0 (start + 1) (reach.last + 1) first }
+    requires first { IsFloorOf problem 0 (start + 1) (reach.last + 1) first }
     requires first_low { first.spent ≤ 2 ^ 63 }
-    requires many { length floors.now + 1 ≡ runs problem.ladder }
-    requires floors { EachIsFloor problem.stretches.now problem.columns problem.last_columns problem.ladder
-        (start + 1) (reach.last + 1) floors.now }
-    requires low { EachIsLow floors.now }
-    ensures { IfOk result (λ done. AreBestOf problem.entry choices.new start (runs problem.entry.ladder)) }
+    requires floors { AreFloorsOf problem (start + 1) (reach.last + 1) floors.now }
+    ensures { IfOk result (λ done. AreBestFrom problem.entry choices.new start) }
 {
     let begin = Begin {
         problem,
@@ -446,16 +464,14 @@ fn put_best_lines(
         run: 0,
     };
     let best = best_line(begin, first, choices, reach);
-    let mut run = put_first(problem, choices, start, best);
-    while run < runs(problem.ladder) {
-        let floor = floor_after(floors, run);
+    let run = put_first(problem, choices, start, best);
+    if run < runs(problem.ladder) {
         let begin = Begin {
             problem,
             start,
             run,
         };
-        let best = best_line(begin, floor, choices, reach);
-        run = put_next(begin, choices, best)?;
+        put_longer(begin, floors, choices, reach)?;
     }
     Ok(())
 }
@@ -471,12 +487,12 @@ fn begin_count(ladder: Option<u8>, places: usize) -> usize
 // Returns a table for lines in which only that at the end is kept.
 #[inline(always)]
 fn no_lines(alloc: Global, problem: Problem) -> Result<Choices, AllocError>
-    ensures { IfOk result (λ choices. AreBestOf problem.entry choices (length problem.entry.stretches.now) (runs problem.entry.ladder)) }
+    ensures { IfOk result (λ choices. AreBestFrom problem.entry choices (length problem.entry.stretches.now)) }
 {
     let many = problem.stretches.len() + 1;
     let none = Kept {
         cost: Cost::NONE,
-        end: 0,
+        end: problem.stretches.len() as u32,
         last_run: longest_run(problem.ladder),
     };
     let begins = begin_count(problem.ladder, many);
@@ -490,7 +506,7 @@ fn no_lines(alloc: Global, problem: Problem) -> Result<Choices, AllocError>
 // Returns the best line to begin at each place, after each run of hyphens.
 #[inline(always)]
 fn best_lines(alloc: Global, problem: Problem) -> Result<Choices, AllocError>
-    ensures { IfOk result (λ choices. AreBestOf problem.entry choices 0 (runs problem.entry.ladder)) }
+    ensures { IfOk result (λ choices. AreBestFrom problem.entry choices 0) }
 {
     let count = problem.stretches.len();
     let mut choices = no_lines(alloc, problem)?;
@@ -525,8 +541,7 @@ fn best_lines_for(
     paragraph: Paragraph,
     ladder: Option<u8>,
 ) -> Result<Choices, AllocError>
-    ensures { IfOk result (λ choices. AreBest paragraph.entry.stretches.now paragraph.entry.columns paragraph.entry.last_columns
-        ladder choices 0 (runs ladder)) }
+    ensures { IfOk result (λ choices. AreBestWith paragraph.entry ladder choices) }
 {
     let Paragraph {
         stretches,
@@ -580,14 +595,13 @@ fn best_ends(
     ladder: Option<u8>,
 ) -> Result<Vec<usize>, AllocError>
     ensures divides { IfOk result (λ ends. Divides paragraph.entry.stretches.now paragraph.entry.columns 0 ends.items) }
-    ensures least { IfOk result (λ ends. CostsLeast paragraph.entry.stretches.now paragraph.entry.columns
-        paragraph.entry.last_columns ladder ends.items) }
+    ensures least { IfOk result (λ ends. CostsLeastWith paragraph.entry ladder ends.items) }
     ensures fits { IfOk result (λ ends. FitsIfAny paragraph.entry.stretches.now paragraph.entry.columns ends.items) }
-    ensures ladder { IfOk result (λ ends. KeepsLadderIfAny paragraph.entry.stretches.now paragraph.entry.columns ladder ends.items) }
+    ensures ladder { IfOk result (λ ends. KeepsLadderWith paragraph.entry ladder ends.items) }
 {
     let choices = best_lines_for(alloc, paragraph, ladder)?;
     let stretches = paragraph.stretches;
-    let mut ends = Vec::new(alloc);
+    let mut ends = Vec::with_capacity(alloc, 8)?;
     let mut start = 0;
     let mut run = 0;
     while start < stretches.len() {

@@ -48,7 +48,7 @@ pub fn greedy_ends(
     ensures fewest { IfOk result (λ ends. IsOrderly stretches.now → IsFewest stretches.now columns ends.items) }
     ensures fits { IfOk result (λ ends. IsOrderly stretches.now → FitsIfAny stretches.now columns ends.items) }
 {
-    let mut ends = Vec::new(alloc);
+    let mut ends = Vec::with_capacity(alloc, 8)?;
     let mut start = 0;
     while start < stretches.len() {
         start = furthest_end(stretches, columns, start);

@@ -41,8 +41,8 @@ may_stand-requires-clause-plain c = λ is same.
     let fit = plain_stands stretches c.args.begin.problem.columns c.args.begin.problem.ladder start (last - 1 + 1) (c.args.begin.problem.fits is) (inr (omega (arith, same))) in
     omega (arith, fit, width_to stretches start (last - 1), back, before.joined, c.widened.ensures.value, c.widened-in-loop-last.ensures.value)
 
-pub returns-then-is_enough-clause-least : goal.returns-then-is_enough-clause-least
-returns-then-is_enough-clause-least c =
+pub returns-then-is_enough : goal.returns-then-is_enough
+returns-then-is_enough c =
     let stretches = c.args.begin.problem.stretches.now in
     let columns = c.args.begin.problem.columns in
     let last_columns = c.args.begin.problem.last_columns in
@@ -58,8 +58,12 @@ returns-then-is_enough-clause-least c =
     let place : last ≡ last - 1 + 1 = omega (arith, c.loop-last-test.true) in
     let after = subst (λ p. IsLeastAfter stretches columns last_columns ladder run start p best) place before.after in
     let enough = c.is_enough.ensures c.if-is_enough.true in
-    least_enough stretches columns last_columns ladder run c.args.begin.problem.closing start (last - 1) c.saturating_sub.result (c.args.reach.last + 1) c.args.floor best c.args.begin.problem.most c.args.begin.before (omega (arith, place, before.within))
-    (omega (arith, reached, c.saturating_sub.ensures, c.saturating_sub-most.ensures, c.from.ensures)) c.requires.floor (omega (arith, before.upto)) enough.0 enough.1 enough.2 after
+    record {
+      least = least_enough stretches columns last_columns ladder run c.args.begin.problem.closing start (last - 1) c.saturating_sub.result (c.args.reach.last + 1) c.args.floor best c.args.begin.problem.most c.args.begin.before (omega (arith, place, before.within))
+          (omega (arith, reached, c.saturating_sub.ensures, c.saturating_sub-most.ensures, c.from.ensures)) c.requires.floor (omega (arith, before.upto)) enough.0 enough.1 enough.2 after;
+      made = before.made;
+      small = before.small;
+    }
 
 pub choose-other-requires-clause-wide : goal.choose-other-requires-clause-wide
 choose-other-requires-clause-wide c =
@@ -189,9 +193,14 @@ loop-last-preserved c =
       small = before.small;
     }
 
-pub returns-clause-least : goal.returns-clause-least
-returns-clause-least c =
+pub returns : goal.returns
+returns c =
     let before = c.loop-last.invariant in
-    let same : c.loop-last.last ≡ c.args.begin.start = omega (arith, before.from, c.loop-last-test.false) in
-    least_all c.args.begin.problem.stretches.now c.args.begin.problem.columns c.args.begin.problem.last_columns c.args.begin.problem.ladder c.args.begin.run c.args.begin.start c.loop-last.best.cost c.args.begin.before
-    (subst (λ p. IsLeastAfter c.args.begin.problem.stretches.now c.args.begin.problem.columns c.args.begin.problem.last_columns c.args.begin.problem.ladder c.args.begin.run c.args.begin.start p c.loop-last.best.cost) same before.after)
+    let begin = c.args.begin in
+    let same : c.loop-last.last ≡ begin.start = omega (arith, before.from, c.loop-last-test.false) in
+    let after = subst (λ p. IsLeastAfter begin.problem.stretches.now begin.problem.columns begin.problem.last_columns begin.problem.ladder begin.run begin.start p c.loop-last.best.cost) same before.after in
+    record {
+      least = least_all begin.problem.stretches.now begin.problem.columns begin.problem.last_columns begin.problem.ladder begin.run begin.start c.loop-last.best.cost begin.before after;
+      made = before.made;
+      small = before.small;
+    }

@@ -20,4 +20,4 @@ returns-clause-best c =
     subst (λ n. AreBest stretches columns last_columns ladder new start (n + 1)) (sym c.from.ensures)
     (first_kept stretches columns last_columns ladder old new last.result start best c.requires.start last.ensures.known c.requires.best
     (ap (λ xs. slice_set xs start (kept_of best last.result)) begun.ensures.firsts) begun.ensures.others begun.ensures.many begun.ensures.later
-    c.requires.least (λ r low high. last.ensures.made r low high) c.requires.small)
+    c.requires.line.least (λ r low high. last.ensures.made r low high) c.requires.line.small)
