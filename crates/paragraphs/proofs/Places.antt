@@ -1,17 +1,20 @@
 -- Parts that stand in the text of their paragraph.
-use Rattle.std.proofs.Common.{◌≡◌, ℕ, ◌+◌, ◌-◌, ◌<◌, ◌≤◌, ◌^◌, lit<, Bool, true, false, List, [], ◌∷◌, ◌++◌, length, get_or, take, drop, slice_range, sym, ap, ap₂, subst, refl, ◌∙◌, arith, append_assoc, append-nil, length-append, length-drop}
+use Rattle.std.proofs.Common.{◌≡◌, ℕ, zero, suc, ◌+◌, ◌-◌, ◌<◌, ◌≤◌, Bool, true, List, [], ◌∷◌, ◌++◌, length, get_or, take, drop, slice_range, sym, ap, ap₂, subst, refl, ◌∙◌, arith, append_assoc, append-nil, length-append, length-drop}
+use Rattle.std.specs.Borrow.{Bor}
 use Rattle.std.specs.Str.{IsCharBoundary, IsUtf8}
 use Rattle.std.proofs.lemmas.List.{length-take, take-append-drop}
 use Rattle.std.proofs.lemmas.List.Elements.{All-nil, All-cons, All-push}
+use Rattle.std.proofs.lemmas.List.Edits.{get_or-between}
 use Rattle.std.proofs.lemmas.List.Folds.{drop_split}
 use Rattle.std.proofs.lemmas.Str.{IsCharBoundary-start, IsCharBoundary-at_seam, IsCharBoundary-after_ascii, IsUtf8-append, IsUtf8-drop, IsUtf8-from_ascii}
 use Rattle.std.proofs.lemmas.Str.Ascii.{IsAscii-nil, IsAscii-cons}
 use Rattle.std.proofs.Math.Seq.{take-append_seam, drop-append_seam}
 use Rattle.paragraphs.specs.declared.part.Part.{Part}
+use Rattle.paragraphs.specs.declared.parting.PlacedWord.{PlacedWord}
 use Rattle.paragraphs.specs.declared.setting.Slice.{Slice}
 use Rattle.paragraphs.specs.Settings.{shown_text}
-use Rattle.paragraphs.specs.Private.PartSettings.{setting_of}
-use Rattle.paragraphs.specs.Private.Places.{StandsIn, AllStandIn, WordStands, IsSliceOf, end_of_word, slice_bytes}
+use Rattle.paragraphs.specs.Private.PartSettings.{joint_of, setting_of}
+use Rattle.paragraphs.specs.Private.Places.{IsPlace, IsPlaced, StandsIn, AllStandIn, KeepPlaces, WordStands, IsSliceOf, joined_bytes, slice_bytes}
 use Rattle.paragraphs.proofs.Printable.{printable_shown}
 use Rattle.paragraphs.proofs.ShiftedBreaks.{in_piece}
 use Rattle.paragraphs.specs.Words.{EndsIn}
@@ -113,33 +116,31 @@ last_stands text at word from is spaced starts =
 
 -- A part more, up to a break.
 pub places_pushed : (at : ℕ) (word : List ℕ) (from begin end : ℕ) (parts new : List Part) (part : Part) → new ≡ parts ++ part ∷ []
-    → part.start ≡ at + from → part.end ≡ at + end → part.text.now ≡ slice_range word from begin → part.joint.now ≡ slice_range word begin end
+    → (IsPlace part.start → part.start ≡ at + from) → part.text.now ≡ slice_range word from begin → joint_of part ≡ slice_range word begin end
     → IsCharBoundary word from → IsCharBoundary word end → from ≤ begin → begin ≤ end
     → (text : List ℕ) → IsSlice text (at, word) → AllStandIn text parts → AllStandIn text new
-places_pushed at word from begin end parts new part added starts ends first second from_is end_is order next text is all =
+places_pushed at word from begin end parts new part added starts first second from_is end_is order next text is all =
     let stands = part_stands text at word from begin end is from_is end_is order next in
-    let here : StandsIn text part = λ _.
-    let both = ap₂ (λ s t. s ++ t) first second in (
-      subst (λ s. IsSlice text (s, part.text.now ++ part.joint.now)) (sym starts) (subst (λ s. IsSlice text (at + from, s)) (sym both) stands.0),
-      omega (arith, starts, ends, stands.1, ap length both),
-    ) in
+    let both = ap₂ (λ s t. s ++ t) first second in
+    let here : StandsIn text part = λ known within.
+    subst (λ s. IsSlice text (s, joined_bytes part)) (sym (starts known)) (subst (λ s. IsSlice text (at + from, s)) (sym both) stands.0) in
     subst (AllStandIn text) (sym added) (All-push (StandsIn text) parts part all here)
+
+-- More parts of the same word.
+pub keep_more : (word next : Bor PlacedWord) (old middle new : List Part) → next ≡ word → KeepPlaces word.now old middle → KeepPlaces next.now middle new → KeepPlaces word.now old new
+keep_more word next old middle new same first second text is all =
+    second text (subst (λ w. IsSlice text (w.now.at, w.now.text.now)) (sym same) is) (first text is all)
 
 -- The last part more.
 pub places_pushed_last : (at : ℕ) (word : List ℕ) (from : ℕ) (spaced : Bool) (parts new : List Part) (part : Part) → new ≡ parts ++ part ∷ []
-    → part.start ≡ at + from → part.end ≡ end_of_word at word spaced → part.text.now ≡ drop from word → part.joint.now ≡ 32 ∷ []
+    → (IsPlace part.start → spaced ≡ true) → (IsPlace part.start → part.start ≡ at + from) → part.text.now ≡ drop from word → joint_of part ≡ 32 ∷ []
     → IsCharBoundary word from
     → (text : List ℕ) → WordStands text at word spaced → AllStandIn text parts → AllStandIn text new
-places_pushed_last at word from true parts new part added starts ends first second from_is text is all =
-    let stands = last_stands text at word from is.there (is.space refl) from_is in
+places_pushed_last at word from spaced parts new part added ends starts first second from_is text is all =
     let both = ap₂ (λ s t. s ++ t) first second in
-    let here : StandsIn text part = λ _. (
-      subst (λ s. IsSlice text (s, part.text.now ++ part.joint.now)) (sym starts) (subst (λ s. IsSlice text (at + from, s)) (sym both) stands.0),
-      omega (arith, starts, ends, stands.1, ap length both),
-    ) in
-    subst (AllStandIn text) (sym added) (All-push (StandsIn text) parts part all here)
-places_pushed_last at word from false parts new part added starts ends first second from_is text is all =
-    let here : StandsIn text part = λ within. absurd (omega (arith, lit<, within, ends, is.short)) in
+    let here : StandsIn text part = λ known within.
+    let stands = last_stands text at word from is.there (is.space (ends known)) from_is in
+    subst (λ s. IsSlice text (s, joined_bytes part)) (sym (starts known)) (subst (λ s. IsSlice text (at + from, s)) (sym both) stands.0) in
     subst (AllStandIn text) (sym added) (All-push (StandsIn text) parts part all here)
 
 -- ---- words
@@ -162,16 +163,23 @@ space_first [] utf8 some is = absurd (omega (arith, some))
 space_first (b ∷ bs) utf8 some is =
     (bs, ap (λ x. x ∷ bs) is, IsUtf8-drop (b ∷ bs) 1 utf8 (IsCharBoundary-after_ascii (b ∷ bs) 0 utf8 some (omega (arith, is))))
 
--- No part ends within a text without bytes.
+nothing : (start : ℕ) (bytes : List ℕ) → start + length bytes ≤ 0 → IsSlice [] (start, bytes)
+nothing zero [] within =
+    let begins = IsCharBoundary-start [] (IsUtf8-from_ascii [] IsAscii-nil) in
+    record { start = begins; end = begins; bytes = refl }
+nothing zero (b ∷ bs) within = absurd (omega (arith, within))
+nothing (suc n) bytes within = absurd (omega (arith, within))
+
+-- No part with a byte is in a text without bytes.
 pub none_stand : (parts : List Part) → AllStandIn [] parts
 none_stand [] = All-nil (StandsIn [])
-none_stand (part ∷ parts) = All-cons (StandsIn []) part parts (λ within. absurd (omega (arith, within, part.ended))) (none_stand parts)
+none_stand (part ∷ parts) = All-cons (StandsIn []) part parts (λ _ within. nothing part.start (joined_bytes part) within) (none_stand parts)
 
 -- A word that stands in a text, and where it begins.
-pub word_stands : (text word after : List ℕ) (spaced : Bool) → length text < 2 ^ 63 → IsUtf8 word → IsUtf8 after → EndsIn text (word ++ after)
+pub word_stands : (text word after : List ℕ) (spaced : Bool) → IsUtf8 word → IsUtf8 after → EndsIn text (word ++ after)
     → (spaced ≡ true → (more : List ℕ) × (after ≡ 32 ∷ more) × IsUtf8 more)
     → WordStands text (length text - length after - length word) word spaced
-word_stands text word after spaced short word_utf8 after_utf8 ends space =
+word_stands text word after spaced word_utf8 after_utf8 ends space =
     let front = ends.0 in
     let is : text ≡ front ++ (word ++ after) = ends.1 in
     let at = length text - length after - length word in
@@ -185,7 +193,6 @@ word_stands text word after spaced short word_utf8 after_utf8 ends space =
       bytes = sym (slice_there text front piece rest at (at + length piece) made begun (ap (λ n. n + length piece) begun));
     } in
     record {
-      short = short;
       there = slice_of word after is word_utf8 after_utf8;
       space = λ e.
           let x = space e in
@@ -198,23 +205,30 @@ word_stands text word after spaced short word_utf8 after_utf8 ends space =
 
 -- ---- lines
 
+part_there : (text : List ℕ) (part : Part) (here : Slice) → IsPlaced part here (length text) → StandsIn text part → IsSlice text (part.start, joined_bytes part)
+part_there text part here placed stands = stands placed.known (omega (arith, placed.end, placed.within))
+
 -- The text of a part of printable ASCII, where it stands.
-pub part_shown : (text : List ℕ) (part : Part) → part.plain ≡ true → part.end ≤ length text → StandsIn text part
-    → slice_range text part.start part.end ≡ shown_text (setting_of part)
-part_shown text part plain within stands =
-    let is = stands within in
-    ap (λ n. slice_range text part.start n) (sym is.1) ∙ sym is.0.bytes
-    ∙ ap₂ (λ s t. s ++ t) (sym (printable_shown part.text.now (part.text_printable plain))) (sym (printable_shown part.joint.now (part.joint_printable plain)))
+pub part_shown : (text : List ℕ) (part : Part) (here : Slice) → IsPlaced part here (length text) → StandsIn text part
+    → slice_bytes text here ≡ shown_text (setting_of part)
+part_shown text part here placed stands =
+    ap₂ (λ a b. slice_range text a b) placed.start placed.end ∙ sym (part_there text part here placed stands).bytes
+    ∙ ap₂ (λ s t. s ++ t) (sym (printable_shown part.text.now (part.text_printable placed.plain))) (sym (printable_shown (joint_of part) (part.joint_printable placed.plain)))
 
 -- A slice that ends where a part begins grows by the part.
-pub slice_grows : (text line : List ℕ) (slice : Slice) (part : Part) → IsSliceOf text slice → part.plain ≡ true → part.end ≤ length text → StandsIn text part → part.start ≡ slice.end
-    → line ++ slice_range text slice.start part.end ≡ (line ++ slice_bytes text slice) ++ shown_text (setting_of part)
-slice_grows text line slice part is plain within stands begins =
-    let last = slice_range text slice.end part.end in
-    let there = stands within in
-    let longer : slice_bytes text slice ++ last ≡ slice_range text slice.start part.end = slices_join text slice.start slice.end part.end is.order (omega (arith, begins, there.1)) within in
-    let shown : last ≡ shown_text (setting_of part) = ap (λ n. slice_range text n part.end) (sym begins) ∙ part_shown text part plain within stands in
+pub slice_grows : (text line : List ℕ) (slice : Slice) (part : Part) (here : Slice) → IsSliceOf text slice → IsPlaced part here (length text) → StandsIn text part → here.start ≡ slice.end
+    → line ++ slice_range text slice.start here.end ≡ (line ++ slice_bytes text slice) ++ shown_text (setting_of part)
+slice_grows text line slice part here is placed stands begins =
+    let last = slice_range text slice.end here.end in
+    let longer : slice_bytes text slice ++ last ≡ slice_range text slice.start here.end = slices_join text slice.start slice.end here.end is.order (omega (arith, begins, placed.start, placed.end)) placed.within in
+    let shown : last ≡ shown_text (setting_of part) = ap (λ n. slice_range text n here.end) (sym begins) ∙ part_shown text part here placed stands in
     ap (λ s. line ++ s) (sym longer) ∙ sym (append_assoc line (slice_bytes text slice) last) ∙ ap (λ s. (line ++ slice_bytes text slice) ++ s) shown
+
+-- One of the parts between two places of a row of parts.
+pub stands_between : (text : List ℕ) (parts : List Part) (start end i : ℕ) (part : Part) → AllStandIn text parts → start + i < end → end ≤ length parts
+    → part ≡ get_or (slice_range parts start end) i part → StandsIn text part
+stands_between text parts start end i part all lt within is =
+    subst (StandsIn text) (sym (is ∙ get_or-between parts start end i part (omega (arith, lt)))) (all (start + i) part (omega (arith, lt, within)))
 
 -- No slice, at the beginning of a text.
 pub no_slice : (text : List ℕ) → IsUtf8 text → IsSliceOf text (record { start = 0; end = 0 })

@@ -7,6 +7,7 @@ use Rattle.hyphenation_breaks.specs.Break.{Break, begin_of, end_of}
 use Rattle.hyphenation_segments.specs.Fits.{FitsFrom, BreakFitsAfter}
 use Rattle.word_pieces.specs.Pieces.{IsSlice}
 use Rattle.paragraphs.specs.Parts.{set_off}
+use Rattle.paragraphs.specs.Private.Open.{LiesIn}
 
 -- A character boundary of a piece is one of the word.
 pub in_piece : (word : List ℕ) (x : ℕ × List ℕ) (b : ℕ) → IsSlice word x → IsCharBoundary x.1 b → IsCharBoundary word (x.0 + b)
@@ -19,15 +20,19 @@ in_piece word x b is at =
     ]
 
 -- Both ends of a range that stands in a piece are character boundaries of the word.
-pub begin_in_word : (word : List ℕ) (x : ℕ × List ℕ) (b : Break) → IsSlice word x → BreakFitsAfter x.1 0 0 b → IsCharBoundary word (begin_of (set_off x.0 b))
+begin_in_word : (word : List ℕ) (x : ℕ × List ℕ) (b : Break) → IsSlice word x → BreakFitsAfter x.1 0 0 b → IsCharBoundary word (begin_of (set_off x.0 b))
 begin_in_word word x b is stands =
     let same : x.0 + begin_of b ≡ begin_of (set_off x.0 b) = omega (arith, stands.within) in
     subst (IsCharBoundary word) same (in_piece word x (begin_of b) is stands.begin)
 
-pub end_in_word : (word : List ℕ) (x : ℕ × List ℕ) (b : Break) → IsSlice word x → BreakFitsAfter x.1 0 0 b → IsCharBoundary word (end_of (set_off x.0 b))
+end_in_word : (word : List ℕ) (x : ℕ × List ℕ) (b : Break) → IsSlice word x → BreakFitsAfter x.1 0 0 b → IsCharBoundary word (end_of (set_off x.0 b))
 end_in_word word x b is stands =
     let same : x.0 + end_of b ≡ end_of (set_off x.0 b) = omega arith in
     subst (IsCharBoundary word) same (in_piece word x (end_of b) is stands.end)
+
+-- So the break lies in the word.
+pub lies_in : (word : List ℕ) (x : ℕ × List ℕ) (b : Break) → IsSlice word x → BreakFitsAfter x.1 0 0 b → LiesIn word x.0 b
+lies_in word x b is stands = record { within = stands.within; begin = begin_in_word word x b is stands; end = end_in_word word x b is stands }
 
 -- Each of the breaks that fit a text stands in it.
 pub each_stands : {X : Type 0} (meaning : X → Break) (text : List ℕ) (xs : List X) (last_end least : ℕ) → FitsFrom text last_end least (map meaning xs)

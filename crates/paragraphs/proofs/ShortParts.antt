@@ -5,9 +5,10 @@ use Rattle.std.proofs.lemmas.Bool.{and_parts, ltb-true}
 use Rattle.std.proofs.lemmas.List.{length-map}
 use Rattle.std.proofs.lemmas.List.Elements.{All-nil, All-cons}
 use Rattle.std.proofs.lemmas.List.Folds.{list_all_more, list_all_at, list_all-map}
-use Rattle.paragraphs.specs.Private.Halves.{half_bytes}
+use Rattle.paragraphs.specs.Private.Changes.{after_bytes, before_bytes}
 use Rattle.paragraphs.specs.declared.part.Part.{Part}
 use Rattle.paragraphs.specs.Settings.{Setting, is_short, IsTooLong}
+use Rattle.paragraphs.specs.Private.PartStyles.{indent_of}
 use Rattle.paragraphs.specs.Private.PartSettings.{hyphen_if, setting_of, settings_of, is_short_part, IsShort}
 
 pub short_part : (part : Part) → is_short (setting_of part) ≡ true → IsShort part
@@ -19,12 +20,13 @@ short_part part short =
     let closing = nat_lt (length s.closing) (2 ^ 31) in
     let all = and_parts ((opening && text) && joint) closing short in
     let three = and_parts (opening && text) joint all.0 in
-    let two = and_parts opening text three.0 in (
-      omega (arith, ltb-true (length s.opening) (2 ^ 31) two.0, length-append part.indent.now (half_bytes part.after)),
-      ltb-true (length s.text) (2 ^ 31) two.1,
-      ltb-true (length s.joint) (2 ^ 31) three.1,
-      omega (arith, ltb-true (length s.closing) (2 ^ 31) all.1, length-append (half_bytes part.before) (hyphen_if part.hyphenated)),
-    )
+    let two = and_parts opening text three.0 in
+    record {
+      opening = omega (arith, ltb-true (length s.opening) (2 ^ 31) two.0, length-append (indent_of part.style.now part.indent) (after_bytes part.changes));
+      text = ltb-true (length s.text) (2 ^ 31) two.1;
+      joint = ltb-true (length s.joint) (2 ^ 31) three.1;
+      closing = omega (arith, ltb-true (length s.closing) (2 ^ 31) all.1, length-append (before_bytes part.changes) (hyphen_if part.hyphenated));
+    }
 
 pub all_short : (parts : List Part) → list_all is_short_part parts ≡ true → All IsShort parts
 all_short [] short = All-nil IsShort

@@ -29,8 +29,8 @@ fn push_if_any(all: &mut Vec<String>, gathered: String) -> Result<(), AllocError
     Ok(())
 }
 
-// Takes memory for four lines like the first one, where nothing is gathered yet. A line of more than 256 bytes gets less: it
-// may be the only one.
+// Takes memory for four lines like the first one, where nothing is gathered yet. A line of more than 256 bytes gets
+// less: it may be the only one.
 fn make_room(gathered: &mut String, line: &str) -> Result<(), AllocError>
     ensures { OnOk result (string_bytes gathered.new ≡ string_bytes gathered.old) }
 {

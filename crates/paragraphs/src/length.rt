@@ -9,8 +9,8 @@ use crate::part::Part;
 pub(crate) fn is_short(part: &Part) -> bool
     ensures { result ≡ is_short_part part.now }
 {
-    part.indent.len() + part.after.as_text().len() < 1 << 31
+    part.indent_text().len() + part.changes.after().len() < 1 << 31
         && part.text.len() < 1 << 31
-        && part.joint.len() < 1 << 31
-        && part.before.as_text().len() + usize::from(part.hyphenated) < 1 << 31
+        && part.joint().len() < 1 << 31
+        && part.changes.before().len() + usize::from(part.hyphenated) < 1 << 31
 }

@@ -7,15 +7,17 @@
 //! that have a word, up to the next line that has none ([`paragraphs_of`]).
 #![tactic(auto)]
 
+mod changes;
 mod gathering;
-mod half;
 mod length;
 mod mixed;
 mod page;
 mod part;
+mod parting;
+mod placed_parts;
 mod plain;
 mod setting;
-mod shown;
+mod soft_hyphens;
 mod style;
 mod text;
 mod word;

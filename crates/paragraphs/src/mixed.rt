@@ -10,27 +10,29 @@ ghost use Rattle.std.specs.String.{string_bytes};
 ghost use Rattle.paragraphs.specs.Private.Entries.{AreSettled, EndBeforeParts, HaveNarrowClosings, whole_at};
 ghost use Rattle.paragraphs.specs.Private.MixedParts.{StandForAll, Adds, AddsWhole, AddsRuns, FillAll};
 ghost use Rattle.paragraphs.specs.Private.PartSettings.{settings_of};
+ghost use Rattle.paragraphs.specs.Private.PartStyles.{indent_of};
 ghost use Rattle.paragraphs.specs.Private.Printable.{is_printable};
 ghost use Rattle.paragraphs.specs.Styles.{style_of};
 ghost use Rattle.paragraphs.specs.Parts.{word_parts, other_parts, parts_of};
 ghost use Rattle.paragraphs.specs.Words.{words};
 
-use crate::half::Half;
+use crate::changes::Changes;
 use crate::part::Part;
-use crate::plain::{Word, next_word, split_run};
+use crate::parting::PlacedWord;
+use crate::placed_parts::PlacedParts;
+use crate::plain::{FirstWord, next_word, split_run};
 use crate::setting::{lines, stretch, stretches};
-use crate::style::Style;
-use crate::word::{WordAt, push_word};
+use crate::style::{Indent, Style};
+use crate::word::push_word;
 use hyphenation_hyphenator::hyphenator::Hyphenator;
-use line_division::laws::furthest_ends_are_fewest;
-use line_division::{Stretch, greedy_ends};
+use line_division::{Stretch, greedy_ends, laws};
 use std::alloc::{AllocError, Global};
 
 // Parts of which some are whole words.
 #[derive(Drop)]
-pub(crate) struct Mixed<'t> {
+pub(crate) struct Mixed<'s, 't> {
     // The parts.
-    pub(crate) parts: Vec<Part<'t>>,
+    pub(crate) parts: Vec<Part<'s, 't>>,
     // Whether each of them is whole words.
     pub(crate) wholes: Vec<bool>,
     // The most columns of a line.
@@ -71,27 +73,23 @@ fn fits_after(stretch: &Stretch, columns: u16, joined: usize) -> bool {
         <= usize::from(columns)
 }
 
-// Adds words that are one space apart in a text, as one whole. A line that begins with them has this indent.
-fn push_whole<'t>(
-    alloc: Global,
-    indent: &'t str,
+// Adds words that are one space apart in a text, as one whole. None of them is the first one of its paragraph.
+fn push_whole<'s, 't>(
+    style: &'s Style<'t>,
     text: &'t str,
-    mixed: &mut Mixed<'t>,
+    mixed: &mut Mixed<'s, 't>,
 ) -> Result<(), AllocError>
     requires { list_all is_printable text.now ≡ true }
-    ensures { OnOk result (AddsWhole mixed.old mixed.new indent.now text.now) }
+    ensures { OnOk result (AddsWhole mixed.old mixed.new (style.now).indent.now text.now) }
 {
     mixed.parts.push(Part {
-        indent,
-        after: Half::none(),
+        style,
         text,
-        joint: " ",
+        changes: Changes::none(),
         // The text is a run of words already, so its place is of no use.
-        start: 0,
-        end: usize::MAX,
-        before: Half::none(),
+        start: Part::NOWHERE,
+        indent: Indent::Other,
         hyphenated: false,
-        price: 0,
         plain: true,
     })?;
     mixed.wholes.push(true)?;
@@ -110,20 +108,20 @@ fn push_falses(wholes: &mut Vec<bool>, count: usize) -> Result<(), AllocError>
 }
 
 // Adds the parts of a word. A line that begins with the word has this indent. `breaks` is scratch space.
-fn push_broken<'t, 'h, H: Hyphenator<'h>>(
+fn push_broken<'s, 't, 'h, H: Hyphenator<'h>>(
     alloc: Global,
     dictionary: &'h H,
-    style: &Style<'t>,
-    indent: &'t str,
-    word: &Word<'t>,
+    style: &'s Style<'t>,
+    indent: Indent,
+    word: &FirstWord<'t>,
     breaks: &mut Vec<H::Opportunity>,
-    mixed: &mut Mixed<'t>,
+    mixed: &mut Mixed<'s, 't>,
 ) -> Result<(), AllocError>
-    ensures { OnOk result (Adds mixed.old mixed.new
-        (word_parts (H.breaks_of dictionary.now) (style_of style.now) indent.now (word.now).text.now)) }
+    ensures { OnOk result (Adds mixed.old mixed.new (word_parts (H.breaks_of dictionary.now) (style_of style.now)
+        (indent_of style.now indent) word.now.text.now)) }
 {
     let before = mixed.parts.len();
-    let placed = WordAt {
+    let placed = PlacedWord {
         style,
         indent,
         text: word.text,
@@ -141,26 +139,23 @@ fn push_broken<'t, 'h, H: Hyphenator<'h>>(
     Ok(())
 }
 
-// Returns the columns still free on a line of this width.
-fn columns_left(columns: u16, joined: usize) -> usize {
-    usize::from(columns).saturating_sub(joined)
-}
-
-// Adds the first words of a text whole, as long as they seem to fit, and returns the text after them. None of them is the
-// first one of its paragraph.
-fn push_runs<'t>(
-    alloc: Global,
-    style: &Style<'t>,
+// Adds the first words of a text whole, as long as they seem to fit, and returns the text after them. None of them is
+// the first one of its paragraph.
+fn push_runs<'s, 't>(
+    style: &'s Style<'t>,
     text: &'t str,
-    mixed: &mut Mixed<'t>,
+    mixed: &mut Mixed<'s, 't>,
 ) -> Result<&'t str, AllocError>
     ensures adds { IfOk result (λ rest.
         AddsRuns (style_of style.now) mixed.old mixed.new (words text.now) (words rest.now)) }
     ensures no_longer { IfOk result (λ rest. length rest.now ≤ length text.now) }
 {
     let mut rest = text;
-    while let Some((run, after)) = split_run(rest, columns_left(mixed.columns, mixed.joined)) {
-        push_whole(alloc, style.indent, run, mixed)?;
+    while let Some((run, after)) = split_run(
+        rest,
+        usize::from(mixed.columns).saturating_sub(mixed.joined),
+    ) {
+        push_whole(style, run, mixed)?;
         rest = after;
     }
     Ok(rest)
@@ -168,40 +163,49 @@ fn push_runs<'t>(
 
 // Adds all words of a text, none of which is the first one of its paragraph. `breaks` is scratch space.
 #[tactic(auto, using(crate::proofs::MixedParts::adds_up_all))]
-fn push_others<'t, 'h, H: Hyphenator<'h>>(
+fn push_others<'s, 't, 'h, H: Hyphenator<'h>>(
     alloc: Global,
     dictionary: &'h H,
-    style: &Style<'t>,
+    style: &'s Style<'t>,
     text: &'t str,
     breaks: &mut Vec<H::Opportunity>,
-    mixed: &mut Mixed<'t>,
+    mixed: &mut Mixed<'s, 't>,
 ) -> Result<(), AllocError>
     ensures { OnOk result (Adds mixed.old mixed.new
         (other_parts (H.breaks_of dictionary.now) (style_of style.now) (words text.now))) }
 {
-    let mut rest = push_runs(alloc, style, text, mixed)?;
+    let mut rest = push_runs(style, text, mixed)?;
     while let Some(word) = next_word(rest) {
-        push_broken(alloc, dictionary, style, style.indent, &word, breaks, mixed)?;
-        rest = push_runs(alloc, style, word.after, mixed)?;
+        push_broken(
+            alloc,
+            dictionary,
+            style,
+            Indent::Other,
+            &word,
+            breaks,
+            mixed,
+        )?;
+        rest = push_runs(style, word.after, mixed)?;
     }
     Ok(())
 }
 
 // Returns the parts of a paragraph, some of which are whole words.
 #[tactic(auto, using(crate::proofs::MixedParts::mixed_none))]
-pub(crate) fn mixed_of<'t, 'h, H: Hyphenator<'h>>(
+pub(crate) fn mixed_of<'s, 't, 'h, H: Hyphenator<'h>>(
     alloc: Global,
     dictionary: &'h H,
-    style: &Style<'t>,
+    style: &'s Style<'t>,
     text: &'t str,
     columns: u16,
-) -> Result<Mixed<'t>, AllocError>
+) -> Result<Mixed<'s, 't>, AllocError>
     ensures { IfOk result (λ mixed.
         StandForAll mixed (parts_of (H.breaks_of dictionary.now) (style_of style.now) (words text.now))) }
 {
+    // Most paragraphs have no more parts than these, or not many more.
     let mut mixed = Mixed {
-        parts: Vec::new(alloc),
-        wholes: Vec::new(alloc),
+        parts: Vec::with_capacity(alloc, 16)?,
+        wholes: Vec::with_capacity(alloc, 16)?,
         columns,
         joined: 0,
     };
@@ -213,7 +217,7 @@ pub(crate) fn mixed_of<'t, 'h, H: Hyphenator<'h>>(
         alloc,
         dictionary,
         style,
-        style.first,
+        Indent::First,
         &first,
         &mut breaks,
         &mut mixed,
@@ -289,7 +293,7 @@ pub(crate) fn full_lines(
     ensures { IfOk result (λ found. IfSome found (λ lines.
         FillAll wholes.now (settings_of parts.now) columns (map string_bytes lines.items))) }
 {
-    furthest_ends_are_fewest();
+    laws::furthest_ends_are_fewest();
     let made = stretches(alloc, parts)?;
     let Some(stretches) = made else {
         return Ok(None);
@@ -298,6 +302,7 @@ pub(crate) fn full_lines(
     if !are_settled(wholes, &stretches, &row) {
         return Ok(None);
     }
-    let lines = lines(alloc, "", parts, &row)?;
+    let placed = PlacedParts { text: "", parts };
+    let lines = lines(alloc, placed, &row)?;
     Ok(Some(lines))
 }

@@ -28,14 +28,22 @@ fn is_ascii_gap(byte: u8) -> bool
     byte == b' ' || (9 <= byte && byte <= 13)
 }
 
+// A place in the bytes of a text.
+#[derive(Clone, Copy)]
+struct BytePlace<'b> {
+    bytes: &'b [u8],
+    at: usize,
+    ghost within: { at ≤ length bytes.now },
+}
+
 // Passes plain bytes from a place on.
 #[inline(always)]
-fn past_plain(bytes: &[u8], start: usize) -> usize
-    requires { start ≤ length bytes.now }
-    ensures within { (start ≤ result) × (result ≤ length bytes.now) }
-    ensures each { EachBetween is_plain bytes.now start result }
+fn past_plain(place: BytePlace) -> usize
+    ensures within { (place.entry.at ≤ result) × (result ≤ length place.entry.bytes.now) }
+    ensures each { EachBetween is_plain place.entry.bytes.now place.entry.at result }
 {
-    let mut at = start;
+    let bytes = place.bytes;
+    let mut at = place.at;
     'bytes: while at < bytes.len() && is_plain(bytes[at]) {
         at += 1;
     }
@@ -57,12 +65,12 @@ fn past_gaps(bytes: &[u8]) -> usize
 
 // Passes letters of ASCII from a place on.
 #[inline(always)]
-fn past_letters(bytes: &[u8], start: usize) -> usize
-    requires { start ≤ length bytes.now }
-    ensures within { (start ≤ result) × (result ≤ length bytes.now) }
-    ensures each { EachBetween is_ascii_alphabetic bytes.now start result }
+fn past_letters(place: BytePlace) -> usize
+    ensures within { (place.entry.at ≤ result) × (result ≤ length place.entry.bytes.now) }
+    ensures each { EachBetween is_ascii_alphabetic place.entry.bytes.now place.entry.at result }
 {
-    let mut at = start;
+    let bytes = place.bytes;
+    let mut at = place.at;
     'bytes: while at < bytes.len() && bytes[at].is_ascii_alphabetic() {
         at += 1;
     }
@@ -72,14 +80,15 @@ fn past_letters(bytes: &[u8], start: usize) -> usize
 // Returns the end of the word from a place on, if it is plain. The bytes before a later place are known to be.
 #[inline(always)]
 #[tactic(auto, using(crate::proofs::PlainWords::plain_on))]
-fn plain_end(bytes: &[u8], start: usize, known: usize) -> Option<usize>
-    requires start { start ≤ known }
-    requires within { known ≤ length bytes.now }
-    requires plain { EachBetween is_plain bytes.now start known }
-    ensures { IfSome result (λ end. IsPlainWord bytes.now start end) }
+fn plain_end(place: BytePlace, known: usize) -> Option<usize>
+    requires start { place.at ≤ known }
+    requires within { known ≤ length place.bytes.now }
+    requires plain { EachBetween is_plain place.bytes.now place.at known }
+    ensures { IfSome result (λ end. IsPlainWord place.entry.bytes.now place.entry.at end) }
 {
-    let end = past_plain(bytes, known);
-    if end == start {
+    let bytes = place.bytes;
+    let end = past_plain(BytePlace { bytes, at: known });
+    if end == place.at {
         return None;
     }
     if end < bytes.len() && !is_ascii_gap(bytes[end]) {
@@ -90,7 +99,7 @@ fn plain_end(bytes: &[u8], start: usize, known: usize) -> Option<usize>
 
 // The first word of a text.
 #[derive(Drop)]
-pub(crate) struct Word<'t> {
+pub(crate) struct FirstWord<'t> {
     // Its text.
     pub(crate) text: &'t str,
     // Whether it is known to be of printable ASCII.
@@ -107,16 +116,17 @@ pub(crate) struct Word<'t> {
 
 // Returns the first word of a text, if it is plain. It and what is after it are the end of the text.
 #[inline(always)]
-fn split_plain(text: &str) -> Option<Word>
+fn split_plain(text: &str) -> Option<FirstWord>
     ensures word { IfSome result (λ word. words text.now ≡ word.text.now ∷ words word.after.now) }
     ensures end { IfSome result (λ word. EndsIn text.now (word.text.now ++ word.after.now)) }
     ensures less { IfSome result (λ word. length word.after.now < length text.now) }
 {
     let bytes = text.as_bytes();
     let start = past_gaps(bytes);
-    let letters_end = past_letters(bytes, start);
-    let end = plain_end(bytes, start, letters_end)?;
-    Some(Word {
+    let place = BytePlace { bytes, at: start };
+    let letters_end = past_letters(place);
+    let end = plain_end(place, letters_end)?;
+    Some(FirstWord {
         text: &text[start..end],
         plain: true,
         letters: end == letters_end,
@@ -126,7 +136,7 @@ fn split_plain(text: &str) -> Option<Word>
 
 // Returns the first word of a text. It and what is after it are the end of the text.
 #[inline(always)]
-pub(crate) fn next_word(text: &str) -> Option<Word>
+pub(crate) fn next_word(text: &str) -> Option<FirstWord>
     ensures word { MatchOption result (words text.now ≡ [])
         (λ word. words text.now ≡ word.text.now ∷ words word.after.now) }
     ensures end { IfSome result (λ word. EndsIn text.now (word.text.now ++ word.after.now)) }
@@ -136,7 +146,7 @@ pub(crate) fn next_word(text: &str) -> Option<Word>
         return Some(word);
     }
     let (word, after) = split_word(text)?;
-    Some(Word {
+    Some(FirstWord {
         text: word,
         plain: false,
         letters: false,
@@ -146,11 +156,10 @@ pub(crate) fn next_word(text: &str) -> Option<Word>
 
 // Returns the end of the plain word from a place on, if it is at most so far.
 #[inline(always)]
-fn plain_end_within(bytes: &[u8], start: usize, most: usize) -> Option<usize>
-    requires { start ≤ length bytes.now }
-    ensures { IfSome result (λ end. IsPlainWord bytes.now start end) }
+fn plain_end_within(place: BytePlace, most: usize) -> Option<usize>
+    ensures { IfSome result (λ end. IsPlainWord place.entry.bytes.now place.entry.at end) }
 {
-    let end = plain_end(bytes, start, start)?;
+    let end = plain_end(place, place.at)?;
     if most < end {
         return None;
     }
@@ -161,9 +170,10 @@ fn plain_end_within(bytes: &[u8], start: usize, most: usize) -> Option<usize>
 fn run_end(bytes: &[u8], most: usize) -> Option<usize>
     ensures { IfSome result (λ end. IsRun bytes.now end) }
 {
-    let mut end = plain_end_within(bytes, 0, most)?;
+    let mut end = plain_end_within(BytePlace { bytes, at: 0 }, most)?;
     'words: while end < bytes.len() && bytes[end] == b' ' {
-        match plain_end_within(bytes, end + 1, most) {
+        let next = BytePlace { bytes, at: end + 1 };
+        match plain_end_within(next, most) {
             Some(next) => end = next,
             None => return Some(end),
         }

@@ -1,17 +1,21 @@
 //! Lines of parts.
 
-ghost use Rattle.std.specs.Prelude.{◌≡◌, ℕ, ◌+◌, ◌*◌, ◌-◌, ◌^◌, ◌<◌, ◌≤◌, ◌++◌, List, true, false, if◌then◌else◌, IfOk, OnOk, MatchOption, length, map};
+ghost use Rattle.std.specs.Prelude.{◌≡◌, ℕ, ◌+◌, ◌*◌, ◌-◌, ◌^◌, ◌<◌, ◌≤◌, ◌++◌, List, true, false, if◌then◌else◌, IfOk, IfSome, OnOk, MatchOption, length, map};
 ghost use Rattle.std.specs.List.{list_all};
 ghost use Rattle.std.specs.String.{string_bytes};
 ghost use Rattle.paragraphs.specs.Aims.{IsAimedAt, IsSet};
 ghost use Rattle.paragraphs.specs.Private.Ends.{Rise};
-ghost use Rattle.paragraphs.specs.Private.Places.{StandsIn, AllStandIn, IsSliceOf, GrowsBy, slice_bytes};
-ghost use Rattle.paragraphs.specs.Private.PartSettings.{hyphen_if, setting_of, settings_of, is_short_part, IsShort, IsBare};
+ghost use Rattle.paragraphs.specs.Private.Places.{StandsIn, IsSliceOf, IsPlaced, GrowsBy, slice_bytes};
+ghost use Rattle.paragraphs.specs.Private.PartSettings.{hyphen_if, joint_of, setting_of, settings_of, is_short_part, IsShort, IsBare};
 ghost use Rattle.paragraphs.specs.Settings.{columns_of, shown, stretch_of, shown_text, last_text, line_text, lines_to};
 
 use crate::length::is_short;
 use crate::part::Part;
-use crate::shown::{has_soft_hyphen, is_printable, push_shown, shown};
+use crate::placed_parts::PlacedParts;
+use crate::soft_hyphens::{
+    has_soft_hyphen, is_printable, push_without_soft_hyphens, without_soft_hyphens,
+};
+use crate::style::price_of;
 use line_division::{Stretch, even_ends, greedy_ends};
 use std::alloc::{AllocError, Global};
 use unicode_width::UnicodeWidthStr;
@@ -61,8 +65,8 @@ fn columns_shown(alloc: Global, text: &str) -> Result<u32, AllocError>
         return Ok(text.len() as u32);
     }
     if has_soft_hyphen(text) {
-        let shown = shown(alloc, text)?;
-        return Ok(columns_of(&shown));
+        let rest = without_soft_hyphens(alloc, text)?;
+        return Ok(columns_of(&rest));
     }
     Ok(columns_of(text))
 }
@@ -97,14 +101,15 @@ fn columns_of_both(alloc: Global, first: &str, second: &str) -> Result<u32, Allo
 #[tactic(auto, using(crate::proofs::Printable::printable_columns_shown))]
 fn columns_inside(alloc: Global, part: &Part) -> Result<(u32, u32), AllocError>
     requires { IsShort part.now }
-    ensures { IfOk result (λ x. (x.0 ≡ columns_of (shown (part.now).text.now)) × (x.1 ≡ columns_of (shown (part.now).joint.now))) }
+    ensures text { IfOk result (λ x. x.0 ≡ columns_of (shown (part.now).text.now)) }
+    ensures joint { IfOk result (λ x. x.1 ≡ columns_of (shown (joint_of part.now))) }
 {
     if part.plain {
-        return Ok((part.text.len() as u32, part.joint.len() as u32));
+        return Ok((part.text.len() as u32, part.joint().len() as u32));
     }
     Ok((
         columns_shown(alloc, part.text)?,
-        columns_shown(alloc, part.joint)?,
+        columns_shown(alloc, part.joint())?,
     ))
 }
 
@@ -144,12 +149,12 @@ fn columns_of_part(alloc: Global, part: &Part) -> Result<Stretch, AllocError>
 {
     let (width, joint) = columns_inside(alloc, part)?;
     Ok(Stretch {
-        opening: columns_of_both(alloc, part.indent, part.after.as_text())?,
+        opening: columns_of_both(alloc, part.indent_text(), part.changes.after())?,
         width,
         joint,
-        closing: closing_columns(alloc, part.before.as_text(), part.hyphenated)?,
-        price: part.price,
-        hyphenated: part.hyphenated || !part.before.as_text().is_empty(),
+        closing: closing_columns(alloc, part.changes.before(), part.hyphenated)?,
+        price: price_of(part.style, part.hyphenated),
+        hyphenated: part.hyphenated || !part.changes.before().is_empty(),
     })
 }
 
@@ -159,11 +164,11 @@ fn is_bare(part: &Part) -> bool
     ensures { result ≡ true → IsBare part.now }
 {
     part.plain
-        && part.indent.is_empty()
-        && part.after.as_text().is_empty()
-        && part.before.as_text().is_empty()
+        && part.indent_text().is_empty()
+        && part.changes.after().is_empty()
+        && part.changes.before().is_empty()
         && part.text.len() < 1 << 31
-        && part.joint.len() < 1 << 31
+        && part.joint().len() < 1 << 31
 }
 
 // Returns the columns of a part of printable ASCII, without an indent and without a change.
@@ -176,16 +181,16 @@ fn bare_stretch(part: &Part) -> Stretch
     Stretch {
         opening: 0,
         width: part.text.len() as u32,
-        joint: part.joint.len() as u32,
+        joint: part.joint().len() as u32,
         closing: columns_of_hyphen(part.hyphenated),
-        price: part.price,
+        price: price_of(part.style, part.hyphenated),
         hyphenated: part.hyphenated,
     }
 }
 
-// Returns the columns of a part by its texts, or `None` where it is too long to be measured.
+// Returns the columns of a part by its texts, or `None` where one of them is too long.
 #[tactic(auto, using(crate::proofs::ShortParts::short_part))]
-fn measured(alloc: Global, part: &Part) -> Result<Option<Stretch>, AllocError>
+fn stretch_of_texts(alloc: Global, part: &Part) -> Result<Option<Stretch>, AllocError>
     ensures { IfOk result (λ made. MatchOption made (is_short_part part.now ≡ false)
         (λ stretch. stretch ≡ stretch_of (setting_of part.now))) }
 {
@@ -204,7 +209,7 @@ pub(crate) fn stretch(alloc: Global, part: &Part) -> Result<Option<Stretch>, All
     if is_bare(part) {
         return Ok(Some(bare_stretch(part)));
     }
-    measured(alloc, part)
+    stretch_of_texts(alloc, part)
 }
 
 // Returns the columns of all parts, or `None` where one is too long to be measured.
@@ -218,7 +223,7 @@ pub(crate) fn stretches(alloc: Global, parts: &[Part]) -> Result<Option<Vec<Stre
         if is_bare(part) {
             all.push(bare_stretch(part))?;
         } else {
-            let made = measured(alloc, part)?;
+            let made = stretch_of_texts(alloc, part)?;
             match made {
                 Some(stretch) => all.push(stretch)?,
                 None => return Ok(None),
@@ -234,21 +239,21 @@ fn bytes_of(parts: &[Part]) -> usize {
     for part in parts {
         bytes = bytes
             .saturating_add(part.text.len())
-            .saturating_add(part.joint.len());
+            .saturating_add(part.joint().len());
     }
     bytes
 }
 
 // Returns about the number of bytes of a line of a text, from one part to another.
 #[inline(always)]
-fn line_bytes(text: &str, parts: &[Part], start: usize, end: usize) -> usize
+fn line_bytes(parts: &[Part], start: usize, end: usize) -> usize
     requires order { start < end }
     requires within { end ≤ length parts.now }
 {
     let first = &parts[start];
     let last = &parts[end - 1];
-    if first.start <= last.start && last.start < text.len() {
-        return (last.start - first.start)
+    if first.start <= last.start && last.start < Part::NOWHERE {
+        return ((last.start - first.start) as usize)
             .saturating_add(last.text.len())
             .saturating_add(8);
     }
@@ -271,8 +276,8 @@ fn opening(alloc: Global, part: &Part, bytes: usize) -> Result<String, AllocErro
     ensures { IfOk result (λ opening. string_bytes opening ≡ (setting_of part.now).opening) }
 {
     let mut opening = String::with_capacity(alloc, bytes)?;
-    push_any(&mut opening, part.indent)?;
-    push_any(&mut opening, part.after.as_text())?;
+    push_any(&mut opening, part.indent_text())?;
+    push_any(&mut opening, part.changes.after())?;
     Ok(opening)
 }
 
@@ -299,11 +304,11 @@ fn push_joined(line: &mut String, part: &Part) -> Result<(), AllocError>
 {
     if part.plain {
         line.push_str(part.text)?;
-        push_joint(line, part.joint)?;
+        push_joint(line, part.joint())?;
         return Ok(());
     }
-    push_shown(line, part.text)?;
-    push_shown(line, part.joint)?;
+    push_without_soft_hyphens(line, part.text)?;
+    push_without_soft_hyphens(line, part.joint())?;
     Ok(())
 }
 
@@ -326,6 +331,30 @@ fn push_slice(line: &mut String, text: &str, slice: Slice) -> Result<(), AllocEr
     Ok(())
 }
 
+// Returns the slice of a part with its joint, if they are printable ASCII, and at their place in a text.
+#[inline(always)]
+fn slice_of(part: &Part, text: &str) -> Option<Slice>
+    ensures { IfSome result (λ slice. IsPlaced part.now slice (length text.now)) }
+{
+    if !part.plain || part.start == Part::NOWHERE {
+        return None;
+    }
+    let start = part.start as usize;
+    if text.len() < start {
+        return None;
+    }
+    let left = text.len() - start;
+    let own = part.text.len();
+    let joint = part.joint().len();
+    if left < own || left - own < joint {
+        return None;
+    }
+    Some(Slice {
+        start,
+        end: start + own + joint,
+    })
+}
+
 // Appends a part that is not the last one of its line. Parts that are side by side in a text are appended at once, as a
 // slice of it. This slice is still to be appended.
 #[inline(always)]
@@ -341,16 +370,13 @@ fn push_part(
     ensures text { OnOk result (GrowsBy text.now (string_bytes line.old) slice.old (string_bytes line.new) slice.new
         (shown_text (setting_of part.now))) }
 {
-    if part.plain && part.end <= text.len() {
-        if part.start == slice.end {
-            slice.end = part.end;
+    if let Some(here) = slice_of(part, text) {
+        if here.start == slice.end {
+            slice.end = here.end;
             return Ok(());
         }
         push_slice(line, text, *slice)?;
-        *slice = Slice {
-            start: part.start,
-            end: part.end,
-        };
+        *slice = here;
         return Ok(());
     }
     push_slice(line, text, *slice)?;
@@ -368,7 +394,7 @@ fn push_text(line: &mut String, part: &Part) -> Result<(), AllocError>
         line.push_str(part.text)?;
         return Ok(());
     }
-    push_shown(line, part.text)?;
+    push_without_soft_hyphens(line, part.text)?;
     Ok(())
 }
 
@@ -377,25 +403,19 @@ fn push_last(line: &mut String, part: &Part) -> Result<(), AllocError>
     ensures { OnOk result (string_bytes line.new ≡ string_bytes line.old ++ last_text (setting_of part.now)) }
 {
     push_text(line, part)?;
-    push_any(line, part.before.as_text())?;
+    push_any(line, part.changes.before())?;
     push_any(line, hyphen_if(part.hyphenated))?;
     Ok(())
 }
 
-// Returns the line from a start to an end. The parts are slices of the given text.
-fn line(
-    alloc: Global,
-    text: &str,
-    parts: &[Part],
-    start: usize,
-    end: usize,
-) -> Result<String, AllocError>
-    requires stand { AllStandIn text.now parts.now }
+// Returns the line from a start to an end.
+fn line(alloc: Global, placed: PlacedParts, start: usize, end: usize) -> Result<String, AllocError>
     requires order { start < end }
-    requires within { end ≤ length parts.now }
-    ensures { IfOk result (λ line. string_bytes line ≡ line_text (settings_of parts.now) start end) }
+    requires within { end ≤ length placed.parts.now }
+    ensures { IfOk result (λ line. string_bytes line ≡ line_text (settings_of placed.entry.parts.now) start end) }
 {
-    let mut line = opening(alloc, &parts[start], line_bytes(text, parts, start, end))?;
+    let PlacedParts { text, parts } = placed;
+    let mut line = opening(alloc, &parts[start], line_bytes(parts, start, end))?;
     let mut slice = Slice { start: 0, end: 0 };
     for part in &parts[start..end - 1] {
         push_part(&mut line, text, &mut slice, part)?;
@@ -406,21 +426,20 @@ fn line(
     Ok(line)
 }
 
-// Returns the lines that end at a row of ends. The parts are slices of the given text.
+// Returns the lines that end at a row of ends.
 pub(crate) fn lines(
     alloc: Global,
-    text: &str,
-    parts: &[Part],
+    placed: PlacedParts,
     ends: &[usize],
 ) -> Result<Vec<String>, AllocError>
-    requires stand { AllStandIn text.now parts.now }
-    requires rise { Rise 0 (length parts.now) ends.now }
-    ensures { IfOk result (λ lines. map string_bytes lines.items ≡ lines_to (settings_of parts.now) 0 ends.now) }
+    requires { Rise 0 (length placed.parts.now) ends.now }
+    ensures { IfOk result (λ lines.
+        map string_bytes lines.items ≡ lines_to (settings_of placed.entry.parts.now) 0 ends.now) }
 {
     let mut lines = Vec::with_capacity(alloc, ends.len())?;
     let mut start = 0;
     for end in ends {
-        lines.push(line(alloc, text, parts, start, *end)?)?;
+        lines.push(line(alloc, placed, start, *end)?)?;
         start = *end;
     }
     Ok(lines)
@@ -445,22 +464,20 @@ fn ends(
     }
 }
 
-// Returns the lines of a paragraph that is made of these parts, which have these columns. The parts are slices of the
-// given text.
+// Returns the lines of a paragraph that is made of these parts, which have these columns.
 pub(crate) fn set(
     alloc: Global,
-    text: &str,
-    parts: &[Part],
+    placed: PlacedParts,
     stretches: &[Stretch],
     columns: u16,
     aim: Aim,
 ) -> Result<Vec<String>, AllocError>
-    requires stand { AllStandIn text.now parts.now }
-    requires count { length parts.now < 2 ^ 30 }
-    requires measured { stretches.now ≡ map stretch_of (settings_of parts.now) }
-    ensures { IfOk result (λ lines. IsSet aim (settings_of parts.now) columns (map string_bytes lines.items)) }
+    requires count { length placed.parts.now < 2 ^ 30 }
+    requires measured { stretches.now ≡ map stretch_of (settings_of placed.parts.now) }
+    ensures { IfOk result (λ lines.
+        IsSet aim (settings_of placed.entry.parts.now) columns (map string_bytes lines.items)) }
 {
     let row = ends(alloc, stretches, columns, aim)?;
-    let lines = lines(alloc, text, parts, &row)?;
+    let lines = lines(alloc, placed, &row)?;
     Ok(lines)
 }

@@ -5,6 +5,7 @@ ghost use Rattle.std.specs.String.{string_bytes};
 ghost use Rattle.paragraphs.specs.Pages.{IsFilled};
 ghost use Rattle.paragraphs.specs.Private.Open.{AddsParts};
 ghost use Rattle.paragraphs.specs.Private.PartSettings.{settings_of};
+ghost use Rattle.paragraphs.specs.Private.PartStyles.{indent_of};
 ghost use Rattle.paragraphs.specs.Private.Places.{AllStandIn, BeginsWithSpace};
 ghost use Rattle.paragraphs.specs.Settings.{IsTooLong};
 ghost use Rattle.paragraphs.specs.Styles.{style_of};
@@ -13,10 +14,12 @@ ghost use Rattle.paragraphs.specs.Words.{words, EndsIn};
 
 use crate::mixed::{full_lines, mixed_of};
 use crate::part::Part;
-use crate::plain::{Word, next_word};
+use crate::parting::PlacedWord;
+use crate::placed_parts::PlacedParts;
+use crate::plain::{FirstWord, next_word};
 use crate::setting::{Aim, set, stretches};
-use crate::style::Style;
-use crate::word::{WordAt, push_word};
+use crate::style::{Indent, Style};
+use crate::word::push_word;
 use hyphenation_hyphenator::hyphenator::Hyphenator;
 use std::alloc::{AllocError, Global};
 
@@ -42,22 +45,22 @@ fn place_of(text: &str, word: &str, after: &str) -> usize
 // Adds the parts of a word of a text, which ends in it and what is after it. A line that begins with the word has this
 // indent.
 #[inline(always)]
-fn push_word_of<'t, 'h, H: Hyphenator<'h>>(
+fn push_word_of<'s, 't, 'h, H: Hyphenator<'h>>(
     dictionary: &'h H,
-    style: &Style<'t>,
-    indent: &'t str,
+    style: &'s Style<'t>,
+    indent: Indent,
     text: &'t str,
-    word: &Word<'t>,
+    word: &FirstWord<'t>,
     breaks: &mut Vec<H::Opportunity>,
-    parts: &mut Vec<Part<'t>>,
+    parts: &mut Vec<Part<'s, 't>>,
 ) -> Result<(), AllocError>
     requires { EndsIn text.now ((word.now).text.now ++ (word.now).after.now) }
-    ensures adds { OnOk result (AddsParts parts.old.items parts.new.items
-        (word_parts (H.breaks_of dictionary.now) (style_of style.now) indent.now (word.now).text.now)) }
+    ensures adds { OnOk result (AddsParts parts.old.items parts.new.items (word_parts (H.breaks_of dictionary.now)
+        (style_of style.now) (indent_of style.now indent) (word.now).text.now)) }
     ensures places { OnOk result (AllStandIn text.now parts.old.items → AllStandIn text.now parts.new.items) }
 {
     let alloc = *parts.allocator();
-    let placed = WordAt {
+    let placed = PlacedWord {
         style,
         indent,
         text: word.text,
@@ -71,13 +74,13 @@ fn push_word_of<'t, 'h, H: Hyphenator<'h>>(
 }
 
 // Adds the parts of all words of the end of a text, none of which is the first one of its paragraph.
-fn push_others<'t, 'h, H: Hyphenator<'h>>(
+fn push_others<'s, 't, 'h, H: Hyphenator<'h>>(
     dictionary: &'h H,
-    style: &Style<'t>,
+    style: &'s Style<'t>,
     text: &'t str,
     end: &'t str,
     breaks: &mut Vec<H::Opportunity>,
-    parts: &mut Vec<Part<'t>>,
+    parts: &mut Vec<Part<'s, 't>>,
 ) -> Result<(), AllocError>
     requires { EndsIn text.now end.now }
     ensures adds { OnOk result (AddsParts parts.old.items parts.new.items
@@ -86,19 +89,19 @@ fn push_others<'t, 'h, H: Hyphenator<'h>>(
 {
     let mut rest = end;
     while let Some(word) = next_word(rest) {
-        push_word_of(dictionary, style, style.indent, text, &word, breaks, parts)?;
+        push_word_of(dictionary, style, Indent::Other, text, &word, breaks, parts)?;
         rest = word.after;
     }
     Ok(())
 }
 
 // Returns the parts of a paragraph.
-fn parts_of<'t, 'h, H: Hyphenator<'h>>(
+fn parts_of<'s, 't, 'h, H: Hyphenator<'h>>(
     alloc: Global,
     dictionary: &'h H,
-    style: &Style<'t>,
+    style: &'s Style<'t>,
     text: &'t str,
-) -> Result<Vec<Part<'t>>, AllocError>
+) -> Result<Vec<Part<'s, 't>>, AllocError>
     ensures parts { IfOk result (λ parts.
         settings_of parts.items ≡ parts_of (H.breaks_of dictionary.now) (style_of style.now) (words text.now)) }
     ensures places { IfOk result (λ parts. AllStandIn text.now parts.items) }
@@ -112,7 +115,7 @@ fn parts_of<'t, 'h, H: Hyphenator<'h>>(
     push_word_of(
         dictionary,
         style,
-        style.first,
+        Indent::First,
         text,
         &first,
         &mut breaks,
@@ -177,8 +180,8 @@ fn fill_all<'h, H: Hyphenator<'h>>(
     columns: u16,
     aim: Aim,
 ) -> Result<Vec<String>, FillError>
-    ensures lines { IfOk result (λ lines. IsFilled aim (H.breaks_of dictionary.now) (style_of style.now) columns text.now
-        (map string_bytes lines.items)) }
+    ensures lines { IfOk result (λ lines. IsFilled aim (H.breaks_of dictionary.now) (style_of style.now) columns
+        text.now (map string_bytes lines.items)) }
     ensures too_long { IfErr result (λ e. e ≡ FillError.TooLong →
         IsTooLong (parts_of (H.breaks_of dictionary.now) (style_of style.now) (words text.now))) }
 {
@@ -189,7 +192,11 @@ fn fill_all<'h, H: Hyphenator<'h>>(
     let made = stretches(alloc, &parts)?;
     match made {
         Some(stretches) => {
-            let lines = set(alloc, text, &parts, &stretches, columns, aim)?;
+            let placed = PlacedParts {
+                text,
+                parts: &parts,
+            };
+            let lines = set(alloc, placed, &stretches, columns, aim)?;
             Ok(lines)
         }
         None => Err(FillError::TooLong),
@@ -217,8 +224,8 @@ pub fn fill<'h, H: Hyphenator<'h>>(
     columns: u16,
     aim: Aim,
 ) -> Result<Vec<String>, FillError>
-    ensures lines { IfOk result (λ lines. IsFilled aim (H.breaks_of dictionary.now) (style_of style.now) columns text.now
-        (map string_bytes lines.items)) }
+    ensures lines { IfOk result (λ lines. IsFilled aim (H.breaks_of dictionary.now) (style_of style.now) columns
+        text.now (map string_bytes lines.items)) }
     ensures too_long { IfErr result (λ e. e ≡ FillError.TooLong →
         IsTooLong (parts_of (H.breaks_of dictionary.now) (style_of style.now) (words text.now))) }
 {

@@ -1,128 +1,91 @@
 //! The parts of words.
 
-ghost use Rattle.std.specs.Prelude.{◌≡◌, ◌+◌, ◌<◌, ◌≤◌, ◌^◌, ◌∷◌, [], None, true, IfOk, OnOk, length};
-ghost use Rattle.std.specs.List.{list_all};
-ghost use Rattle.std.specs.Str.{IsUtf8, IsCharBoundary};
-ghost use Rattle.hyphenation_breaks.specs.Break.{left_of, begin_of, end_of};
-ghost use Rattle.paragraphs.specs.Private.Open.{Passes, PassesPiece, PassesPieces, PassesAll, AddsParts, next_then};
-ghost use Rattle.paragraphs.specs.Private.Places.{KeepPlaces, PlacesWord, end_of_word};
-ghost use Rattle.paragraphs.specs.Private.Plain.{AreLetters};
-ghost use Rattle.paragraphs.specs.Private.Printable.{is_printable};
+ghost use Rattle.std.specs.Prelude.{◌≡◌, ◌+◌, ◌-◌, ◌<◌, ◌≤◌, ◌^◌, ◌∷◌, [], None, true, OnOk, length};
+ghost use Rattle.paragraphs.specs.Private.Open.{LiesIn, Passes, AddsParts, word_of, next_then};
+ghost use Rattle.paragraphs.specs.Private.PartStyles.{indent_of};
+ghost use Rattle.paragraphs.specs.Private.Places.{IsPlace, KeepPlaces, PlacesWord};
 ghost use Rattle.paragraphs.specs.Styles.{style_of};
-ghost use Rattle.paragraphs.specs.Parts.{set_off, word_parts};
+ghost use Rattle.paragraphs.specs.Parts.{set_off, breaks_in, piece_breaks, word_breaks, word_parts};
 ghost use Rattle.word_pieces.specs.Pieces.{piece_indices_left, IsSlice};
 
-use crate::half::Half;
+use crate::changes::Changes;
 use crate::part::Part;
-use crate::style::Style;
-use addresses::is_address;
-use addresses::laws::letters_are_no_address;
+use crate::parting::{OpenPart, PlacedWord};
+use crate::style::Indent;
+use addresses::{is_address, laws as address_laws};
 use hyphenation_breaks::breaks::Break;
 use hyphenation_hyphenator::hyphenator::Hyphenator;
 use std::alloc::{AllocError, Global};
 use std::mem;
-use word_pieces::WordPieceIndices;
-use word_pieces::laws::{letters_are_one_piece, pieces_are_slices};
+use word_pieces::{WordPieceIndices, laws as piece_laws};
 
-// A word that is to be parted, and what is known of it.
-#[derive(Clone, Copy)]
-pub(crate) struct WordAt<'s, 't> {
-    // The indents of the paragraph's lines, and the price of a hyphen.
-    pub(crate) style: &'s Style<'t>,
-    // The indent of a line that begins with the word.
-    pub(crate) indent: &'t str,
-    // Its text.
-    pub(crate) text: &'t str,
-    // Where it begins in the text of the paragraph, in bytes.
-    pub(crate) at: usize,
-    // Whether a space follows it there.
-    pub(crate) spaced: bool,
-    // Whether it is known to be of printable ASCII.
-    pub(crate) plain: bool,
-    // Whether it is known to be only of letters of ASCII.
-    pub(crate) letters: bool,
-    ghost utf8: { ∥ IsUtf8 text.now ∥₁ },
-    ghost within: { at + length text.now < 2 ^ 63 },
-    ghost printable: { plain ≡ true → list_all is_printable text.now ≡ true },
-    ghost alphabetic: { letters ≡ true → AreLetters text.now },
-}
-
-// The part that is being made.
-#[derive(Drop)]
-struct Open<'t> {
-    // The indent of a line that begins with it.
-    indent: &'t str,
-    // The second half of the change before it.
-    after: Half,
-    // Where it begins, in bytes of its word.
-    from: usize,
+// Returns a place of a text as a part has it, or no place where it is too large.
+#[inline(always)]
+fn start_at(place: usize) -> u32
+    ensures { IsPlace result → result ≡ place }
+{
+    if place < Part::NOWHERE as usize {
+        place as u32
+    } else {
+        Part::NOWHERE
+    }
 }
 
 // Passes a break of a piece of a word. The part that is being made ends there, where some of the word is on either
 // side.
 #[inline(always)]
 #[tactic(auto, using(crate::proofs::Printable::printable_between))]
-fn pass_break<'s, 't, B: Break>(
+fn pass_break<'w, 's, 't, B: Break>(
     alloc: Global,
-    word: &WordAt<'s, 't>,
     offset: usize,
     b: &B,
-    parts: &mut Vec<Part<'t>>,
-    current: &mut Open<'t>,
+    parts: &mut Vec<Part<'s, 't>>,
+    current: &mut OpenPart<'w, 's, 't>,
 ) -> Result<(), AllocError>
-    requires within { left_of (B.meaning b.now).change ≤ (B.meaning b.now).place }
-    requires from { IsCharBoundary word.now.text.now current.old.from }
-    requires begin { IsCharBoundary word.now.text.now (begin_of (set_off offset (B.meaning b.now))) }
-    requires end { IsCharBoundary word.now.text.now (end_of (set_off offset (B.meaning b.now))) }
-    ensures goes { OnOk result (Passes word.now.style.now word.now.text.now (set_off offset (B.meaning b.now) ∷ [])
-        parts.old.items current.old parts.new.items current.new) }
-    ensures from { OnOk result (IsCharBoundary word.now.text.now current.new.from) }
-    ensures places { OnOk result (KeepPlaces word.now.at word.now.text.now parts.old.items parts.new.items) }
+    requires { LiesIn (word_of current.old) offset (B.meaning b.now) }
+    ensures goes { OnOk result
+        (Passes (set_off offset (B.meaning b.now) ∷ []) parts.old.items current.old parts.new.items current.new) }
+    ensures places { OnOk result (KeepPlaces current.old.word.now parts.old.items parts.new.items) }
 {
     let (left, right) = b.range().unwrap();
     let (begin, end) = (offset + left, offset + right);
+    let word = current.word;
     if begin <= current.from || word.text.len() <= end {
         return Ok(());
     }
-    let after = mem::replace(&mut current.after, Half::of(alloc, b.after())?);
+    let after = mem::replace(&mut current.after, String::from_str(alloc, b.after())?);
     parts.push(Part {
-        indent: current.indent,
-        after,
+        style: word.style,
         text: &word.text[current.from..begin],
-        joint: &word.text[begin..end],
-        start: word.at + current.from,
-        end: word.at + end,
-        before: Half::of(alloc, b.before())?,
+        changes: Changes::at_break(alloc, after, &word.text[begin..end], b.before())?,
+        start: start_at(word.at + current.from),
+        indent: current.indent,
         hyphenated: true,
-        price: word.style.price,
         plain: word.plain,
     })?;
-    current.indent = word.style.indent;
+    current.indent = Indent::Other;
     current.from = end;
     Ok(())
 }
 
 // Passes the breaks of a piece of a word, which begins at a place there. They replace those in the list.
 #[inline(always)]
-fn pass_piece<'s, 't, 'h, H: Hyphenator<'h>>(
+fn pass_piece<'w, 's, 't, 'h, H: Hyphenator<'h>>(
     alloc: Global,
     dictionary: &'h H,
-    word: &WordAt<'s, 't>,
     piece: (usize, &str),
     breaks: &mut Vec<H::Opportunity>,
-    parts: &mut Vec<Part<'t>>,
-    part: &mut Open<'t>,
+    parts: &mut Vec<Part<'s, 't>>,
+    current: &mut OpenPart<'w, 's, 't>,
 ) -> Result<(), AllocError>
-    requires piece { IsSlice word.now.text.now (piece.0, piece.1.now) }
-    requires from { IsCharBoundary word.now.text.now part.old.from }
-    ensures goes { OnOk result (PassesPiece word.now.style.now word.now.text.now (H.breaks_of dictionary.now)
-        (piece.entry.0, piece.entry.1.now) parts.old.items part.old parts.new.items part.new) }
-    ensures from { OnOk result (IsCharBoundary word.now.text.now part.new.from) }
-    ensures places { OnOk result (KeepPlaces word.now.at word.now.text.now parts.old.items parts.new.items) }
+    requires { IsSlice (word_of current.old) (piece.0, piece.1.now) }
+    ensures goes { OnOk result (Passes (breaks_in (H.breaks_of dictionary.now) (piece.entry.0, piece.entry.1.now))
+        parts.old.items current.old parts.new.items current.new) }
+    ensures places { OnOk result (KeepPlaces current.old.word.now parts.old.items parts.new.items) }
 {
     dictionary.breaks_into(piece.1, breaks)?;
     for b in breaks.iter() {
-        pass_break(alloc, word, piece.0, b, parts, part)?;
+        pass_break(alloc, piece.0, b, parts, current)?;
     }
     Ok(())
 }
@@ -136,32 +99,21 @@ fn next_piece<'t>(pieces: &mut WordPieceIndices<'t>) -> Option<(usize, &'t str)>
 }
 
 // Passes the breaks of all pieces of a word, one by one.
-fn pass_each_piece<'s, 't, 'h, H: Hyphenator<'h>>(
+fn pass_each_piece<'w, 's, 't, 'h, H: Hyphenator<'h>>(
     alloc: Global,
     dictionary: &'h H,
-    word: &WordAt<'s, 't>,
     breaks: &mut Vec<H::Opportunity>,
-    parts: &mut Vec<Part<'t>>,
-    current: &mut Open<'t>,
+    parts: &mut Vec<Part<'s, 't>>,
+    current: &mut OpenPart<'w, 's, 't>,
 ) -> Result<(), AllocError>
-    requires from { IsCharBoundary word.now.text.now current.old.from }
-    ensures goes { OnOk result (PassesPieces word.now.style.now word.now.text.now (H.breaks_of dictionary.now)
+    ensures goes { OnOk result (Passes (piece_breaks (H.breaks_of dictionary.now) (word_of current.old))
         parts.old.items current.old parts.new.items current.new) }
-    ensures from { OnOk result (IsCharBoundary word.now.text.now current.new.from) }
-    ensures places { OnOk result (KeepPlaces word.now.at word.now.text.now parts.old.items parts.new.items) }
+    ensures places { OnOk result (KeepPlaces current.old.word.now parts.old.items parts.new.items) }
 {
-    pieces_are_slices();
-    let mut pieces = WordPieceIndices::new(word.text);
+    piece_laws::pieces_are_slices();
+    let mut pieces = WordPieceIndices::new(current.word.text);
     while let Some((offset, piece)) = next_piece(&mut pieces) {
-        pass_piece(
-            alloc,
-            dictionary,
-            word,
-            (offset, piece),
-            breaks,
-            parts,
-            current,
-        )?;
+        pass_piece(alloc, dictionary, (offset, piece), breaks, parts, current)?;
     }
     Ok(())
 }
@@ -169,54 +121,44 @@ fn pass_each_piece<'s, 't, 'h, H: Hyphenator<'h>>(
 // Passes the breaks of a word: those of all its pieces, or none if it is an address. One of letters of ASCII only is
 // one piece, and no address.
 #[inline(always)]
-fn pass_pieces<'s, 't, 'h, H: Hyphenator<'h>>(
+fn pass_pieces<'w, 's, 't, 'h, H: Hyphenator<'h>>(
     alloc: Global,
     dictionary: &'h H,
-    word: &WordAt<'s, 't>,
     breaks: &mut Vec<H::Opportunity>,
-    parts: &mut Vec<Part<'t>>,
-    current: &mut Open<'t>,
+    parts: &mut Vec<Part<'s, 't>>,
+    current: &mut OpenPart<'w, 's, 't>,
 ) -> Result<(), AllocError>
-    requires from { IsCharBoundary word.now.text.now current.old.from }
-    ensures goes { OnOk result (PassesAll word.now.style.now word.now.text.now (H.breaks_of dictionary.now)
+    ensures goes { OnOk result (Passes (word_breaks (H.breaks_of dictionary.now) (word_of current.old))
         parts.old.items current.old parts.new.items current.new) }
-    ensures from { OnOk result (IsCharBoundary word.now.text.now current.new.from) }
-    ensures places { OnOk result (KeepPlaces word.now.at word.now.text.now parts.old.items parts.new.items) }
+    ensures places { OnOk result (KeepPlaces current.old.word.now parts.old.items parts.new.items) }
 {
-    pieces_are_slices();
-    letters_are_one_piece();
-    letters_are_no_address();
+    piece_laws::pieces_are_slices();
+    piece_laws::letters_are_one_piece();
+    address_laws::letters_are_no_address();
+    let word = current.word;
     if word.letters {
-        pass_piece(
-            alloc,
-            dictionary,
-            word,
-            (0, word.text),
-            breaks,
-            parts,
-            current,
-        )?;
+        pass_piece(alloc, dictionary, (0, word.text), breaks, parts, current)?;
         return Ok(());
     }
     if is_address(word.text) {
         return Ok(());
     }
-    pass_each_piece(alloc, dictionary, word, breaks, parts, current)?;
+    pass_each_piece(alloc, dictionary, breaks, parts, current)?;
     Ok(())
 }
 
-// Returns the end of the space after a word that begins at this place in the text of the paragraph. If no space is
-// after the word, the end is past any text.
+// Returns where the last part of a word begins, from a place of the word on. It has no place if no space is after the
+// word.
 #[inline(always)]
-fn end_of_word(word: &str, at: usize, spaced: bool) -> usize
-    requires { at + length word.now < 2 ^ 63 }
-    ensures end { result ≡ end_of_word at word.now spaced }
-    ensures some { 0 < result }
+fn last_start(word: &PlacedWord, from: usize) -> u32
+    requires { from ≤ length (word.now).text.now }
+    ensures spaced { IsPlace result → (word.now).spaced ≡ true }
+    ensures start { IsPlace result → result ≡ (word.now).at + from }
 {
-    if spaced {
-        at + word.len() + 1
+    if word.spaced {
+        start_at(word.at + from)
     } else {
-        usize::MAX
+        Part::NOWHERE
     }
 }
 
@@ -225,31 +167,29 @@ fn end_of_word(word: &str, at: usize, spaced: bool) -> usize
 pub(crate) fn push_word<'s, 't, 'h, H: Hyphenator<'h>>(
     alloc: Global,
     dictionary: &'h H,
-    word: &WordAt<'s, 't>,
+    word: &PlacedWord<'s, 't>,
     breaks: &mut Vec<H::Opportunity>,
-    parts: &mut Vec<Part<'t>>,
+    parts: &mut Vec<Part<'s, 't>>,
 ) -> Result<(), AllocError>
-    ensures adds { OnOk result (AddsParts parts.old.items parts.new.items
-        (word_parts (H.breaks_of dictionary.now) (style_of word.now.style.now) word.now.indent.now word.now.text.now)) }
-    ensures places { OnOk result
-        (PlacesWord word.now.at word.now.text.now word.now.spaced parts.old.items parts.new.items) }
+    ensures adds { OnOk result (AddsParts parts.old.items parts.new.items (word_parts (H.breaks_of dictionary.now)
+        (style_of word.now.style.now) (indent_of word.now.style.now word.now.indent) word.now.text.now)) }
+    ensures places { OnOk result (PlacesWord word.now parts.old.items parts.new.items) }
 {
-    let mut current = Open {
+    let mut current = OpenPart {
+        word,
         indent: word.indent,
-        after: Half::none(),
+        after: String::new(alloc),
         from: 0,
     };
-    pass_pieces(alloc, dictionary, word, breaks, parts, &mut current)?;
+    pass_pieces(alloc, dictionary, breaks, parts, &mut current)?;
+    let word = current.word;
     let last = Part {
-        indent: current.indent,
-        after: current.after,
+        style: word.style,
         text: &word.text[current.from..],
-        joint: " ",
-        start: word.at + current.from,
-        end: end_of_word(word.text, word.at, word.spaced),
-        before: Half::none(),
+        changes: Changes::at_end(alloc, current.after)?,
+        start: last_start(word, current.from),
+        indent: current.indent,
         hyphenated: false,
-        price: 0,
         plain: word.plain,
     };
     parts.push(last)?;

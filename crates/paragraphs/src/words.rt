@@ -57,7 +57,8 @@ fn after_word(text: &str) -> &str
     rest
 }
 
-/// Returns the first word of a text with the text after it, or `None` where it has no word. They are the end of the text.
+/// Returns the first word of a text with the text after it, or `None` where it has no word. They are the end of the
+/// text.
 ///
 /// ```text
 /// split_word(" two firkins")      // Some(("two", " firkins"))

@@ -1,40 +1,38 @@
 -- A word of which some parts are made.
-use Rattle.std.specs.Prelude.{◌≡◌, ℕ, List, [], ◌∷◌, ◌++◌, Option, Some, None}
+use Rattle.std.specs.Prelude.{◌≡◌, ◌≤◌, ℕ, List, [], ◌∷◌, ◌++◌, Option, Some, None}
 use Rattle.std.specs.Borrow.{Bor}
-use Rattle.paragraphs.specs.Private.Halves.{half_bytes}
-use Rattle.hyphenation_breaks.specs.Break.{Break}
+use Rattle.std.specs.Str.{IsCharBoundary}
+use Rattle.std.specs.String.{string_bytes}
+use Rattle.hyphenation_breaks.specs.Break.{Break, left_of, begin_of, end_of}
 use Rattle.paragraphs.specs.declared.part.Part.{Part}
-use Rattle.paragraphs.specs.declared.word.Open.{Open}
+use Rattle.paragraphs.specs.declared.parting.OpenPart.{OpenPart}
 use Rattle.paragraphs.specs.Private.PartSettings.{settings_of}
+use Rattle.paragraphs.specs.Private.PartStyles.{indent_of}
 use Rattle.paragraphs.specs.Settings.{Setting}
 use Rattle.paragraphs.specs.Styles.{style_of}
-use Rattle.paragraphs.specs.declared.style.Style as code
-use Rattle.paragraphs.specs.Parts.{Style, breaks_in, piece_breaks, word_breaks, parts_from}
+use Rattle.paragraphs.specs.Parts.{set_off, parts_from}
+
+-- A break of a piece, which is after an offset, lies between two character boundaries of a word.
+pub record LiesIn (word : List ℕ) (offset : ℕ) (b : Break) : Type 0 where
+  pub within : left_of b.change ≤ b.place
+  pub begin : IsCharBoundary word (begin_of (set_off offset b))
+  pub end : IsCharBoundary word (end_of (set_off offset b))
+
+-- The text of the word of the part that is being made.
+abbrev pub word_of : OpenPart → List ℕ
+word_of current = current.word.now.text.now
 
 -- The parts that are made, and those to come, where these breaks are to come.
-abbrev pub settings_with : Style → List ℕ → List Part → Open → List Break → List Setting
-settings_with style word parts current breaks =
-    settings_of parts ++ parts_from style word (current.indent.now ++ half_bytes current.after) current.from breaks
+abbrev pub settings_with : List Part → OpenPart → List Break → List Setting
+settings_with parts current breaks =
+    settings_of parts
+    ++ parts_from (style_of current.word.now.style.now) (word_of current)
+    (indent_of current.word.now.style.now current.indent ++ string_bytes current.after) current.from breaks
 
--- The parts that are made, and those to come, stay the same where these breaks are passed.
-abbrev pub Passes : code.Style → List ℕ → List Break → List Part → Open → List Part → Open → Type 0
-Passes style word breaks old current new next = (others : List Break)
-    → settings_with (style_of style) word new next others ≡ settings_with (style_of style) word old current (breaks ++ others)
-
--- They stay the same where the breaks of a piece are passed.
-abbrev pub PassesPiece : code.Style → List ℕ → (List ℕ → List Break) → ℕ × List ℕ → List Part → Open → List Part → Open → Type 0
-PassesPiece style word breaks_of piece old current new next =
-    Passes style word (breaks_in breaks_of piece) old current new next
-
--- The breaks of all pieces are passed: with no more to come, the parts are the same.
-abbrev pub PassesPieces : code.Style → List ℕ → (List ℕ → List Break) → List Part → Open → List Part → Open → Type 0
-PassesPieces style word breaks_of old current new next =
-    settings_with (style_of style) word new next [] ≡ settings_with (style_of style) word old current (piece_breaks breaks_of word)
-
--- All breaks of the word are passed, in the same sense.
-abbrev pub PassesAll : code.Style → List ℕ → (List ℕ → List Break) → List Part → Open → List Part → Open → Type 0
-PassesAll style word breaks_of old current new next =
-    settings_with (style_of style) word new next [] ≡ settings_with (style_of style) word old current (word_breaks breaks_of word)
+-- These breaks of a word are passed: the parts that are made, and those to come, stay the same.
+pub record Passes (breaks : List Break) (old : List Part) (current : OpenPart) (new : List Part) (next : OpenPart) : Type 0 where
+  pub word : next.word ≡ current.word
+  pub goes : (others : List Break) → settings_with new next others ≡ settings_with old current (breaks ++ others)
 
 -- Parts were added.
 abbrev pub AddsParts : List Part → List Part → List Setting → Type 0

@@ -1,39 +1,51 @@
 -- Where parts are in the text of their paragraph.
-use Rattle.std.specs.Prelude.{◌≡◌, ℕ, ◌+◌, ◌-◌, ◌<◌, ◌≤◌, ◌^◌, if◌then◌else◌, Bool, true, List, [], ◌∷◌, ◌++◌, All, length, slice_range}
+use Rattle.std.specs.Prelude.{◌≡◌, ℕ, ◌+◌, ◌-◌, ◌<◌, ◌≤◌, ◌^◌, Bool, true, List, [], ◌∷◌, ◌++◌, All, length, slice_range}
 use Rattle.std.specs.Str.{IsCharBoundary, IsUtf8}
 use Rattle.hyphenation_breaks.specs.Ascii.{space}
 use Rattle.paragraphs.specs.declared.part.Part.{Part}
+use Rattle.paragraphs.specs.declared.parting.PlacedWord.{PlacedWord}
 use Rattle.paragraphs.specs.declared.setting.Slice.{Slice}
+use Rattle.paragraphs.specs.Private.PartSettings.{joint_of}
 use Rattle.word_pieces.specs.Pieces.{IsSlice}
 
--- A part and its joint are in a text up to the part's end, if that is within the text.
-abbrev pub StandsIn : List ℕ → Part → Type 0
-StandsIn text part = part.end ≤ length text
-    → IsSlice text (part.start, part.text.now ++ part.joint.now)
-    × (part.start + length (part.text.now ++ part.joint.now) ≡ part.end)
+-- A part with its joint.
+abbrev pub joined_bytes : Part → List ℕ
+joined_bytes part = part.text.now ++ joint_of part
 
--- Each of the parts does.
+-- A place is one that a part may have.
+abbrev pub IsPlace : ℕ → Type 0
+IsPlace start = start < 2 ^ 32 - 1
+
+-- A part with its joint is in a text at its place, if it has one from which on they are no longer than the text.
+abbrev pub StandsIn : List ℕ → Part → Type 0
+StandsIn text part = IsPlace part.start → part.start + length (joined_bytes part) ≤ length text
+    → IsSlice text (part.start, joined_bytes part)
+
+-- A slice of a text of that many bytes is the one of a part of printable ASCII, with its joint.
+pub record IsPlaced (part : Part) (slice : Slice) (long : ℕ) : Type 0 where
+  pub plain : part.plain ≡ true
+  pub known : IsPlace part.start
+  pub start : slice.start ≡ part.start
+  pub end : slice.end ≡ part.start + length (joined_bytes part)
+  pub within : slice.end ≤ long
+
+-- Each of the parts is.
 abbrev pub AllStandIn : List ℕ → List Part → Type 0
 AllStandIn text parts = All (StandsIn text) parts
 
--- Where a word is at a place of a text, the parts that were added are in it as well.
-abbrev pub KeepPlaces : ℕ → List ℕ → List Part → List Part → Type 0
-KeepPlaces at word old new = (text : List ℕ) → IsSlice text (at, word) → AllStandIn text old → AllStandIn text new
+-- Where a word is in a text, the parts that were added are in it as well.
+abbrev pub KeepPlaces : PlacedWord → List Part → List Part → Type 0
+KeepPlaces word old new = (text : List ℕ) → IsSlice text (word.at, word.text.now) → AllStandIn text old → AllStandIn text new
 
 -- A word is at a place of a text, and where it is said to be spaced, a space after it.
 pub record WordStands (text : List ℕ) (at : ℕ) (word : List ℕ) (spaced : Bool) : Type 0 where
-  pub short : length text < 2 ^ 63
   pub there : IsSlice text (at, word)
   pub space : spaced ≡ true → IsSlice text (at, word ++ space ∷ [])
 
--- The end of the joint of a word's last part, or a place past any text.
-abbrev pub end_of_word : ℕ → List ℕ → Bool → ℕ
-end_of_word at word spaced = if spaced then at + length word + 1 else 2 ^ 64 - 1
-
--- Where a word is at its place, the parts that were added are in the text as well.
-abbrev pub PlacesWord : ℕ → List ℕ → Bool → List Part → List Part → Type 0
-PlacesWord at word spaced old new =
-    (text : List ℕ) → WordStands text at word spaced → AllStandIn text old → AllStandIn text new
+-- Where a word is in a text, with its space, the parts that were added are in it as well.
+abbrev pub PlacesWord : PlacedWord → List Part → List Part → Type 0
+PlacesWord word old new =
+    (text : List ℕ) → WordStands text word.at word.text.now word.spaced → AllStandIn text old → AllStandIn text new
 
 -- A text begins with a space.
 abbrev pub BeginsWithSpace : List ℕ → Type 0

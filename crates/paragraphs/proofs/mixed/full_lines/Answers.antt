@@ -1,6 +1,8 @@
-use Rattle.std.proofs.Common.{◌≡◌, false, MatchOption, map, length, sym, ap, subst, ◌∙◌}
+use Rattle.std.proofs.Common.{◌≡◌, false, MatchOption, [], map, length, sym, ap, subst, ◌∙◌}
 use Rattle.std.specs.List.{list_all}
 use Rattle.std.specs.String.{string_bytes}
+use Rattle.std.proofs.lemmas.Str.{IsUtf8-from_ascii}
+use Rattle.std.proofs.lemmas.Str.Ascii.{IsAscii-nil}
 use Rattle.line_division.specs.Division.{Divides}
 use Rattle.line_division.specs.Greedy.{AreFurthest}
 use Rattle.paragraphs.specs.Settings.{stretch_of, lines_to}
@@ -12,6 +14,9 @@ use Rattle.paragraphs.proofs.Places.{none_stand}
 use Rattle.paragraphs.proofs.SetLines.{divides_rise, length-set_stretches}
 use Rattle.paragraphs.proofs.mixed.full_lines.Goals as goal
 
+pub invariant_of-placed : goal.invariant_of-placed
+invariant_of-placed c = record { utf8 = ∣ IsUtf8-from_ascii [] IsAscii-nil ∣₁; stand = none_stand c.args.parts.now }
+
 pub lines-requires : goal.lines-requires
 lines-requires c =
     let parts = c.args.parts.now in
@@ -20,10 +25,7 @@ lines-requires c =
     let row = c.in_ok-row.row.items in
     let read = c.deref.ensures.value ∙ told in
     let divides = subst (λ xs. Divides xs c.args.columns 0 row) read c.in_ok-row.ensures.divides in
-    record {
-      stand = none_stand parts;
-      rise = subst (Rise 0 (length parts)) (sym c.deref-4.ensures.value) (subst (λ n. Rise 0 n row) (length-set_stretches parts) (divides_rise all c.args.columns 0 row divides));
-    }
+    subst (Rise 0 (length parts)) (sym c.deref-4.ensures.value) (subst (λ n. Rise 0 n row) (length-set_stretches parts) (divides_rise all c.args.columns 0 row divides))
 
 pub returns : goal.returns
 returns c = λ settings mixed.

@@ -8,4 +8,4 @@ use Rattle.paragraphs.proofs.mixed.mixed_of.Goals as goal
 pub returns : goal.returns
 returns g c =
     mixed_whole (g.H.Hyphenator.breaks_of c.args.dictionary.now) (style_of c.args.style.now) (words c.args.text.now) (words c.in-Some.first.after.now) c.in-Some.first.text.now
-    _ _ _ _ _ _ c.new-2.ensures.items (ap settings_of c.new.ensures.items) c.in-Some.ensures.word c.in_ok-push_broken.ensures c.in_ok-push_others.ensures
+    _ _ _ _ _ _ c.in_ok-with_capacity-2.ensures.items (ap settings_of c.in_ok-with_capacity.ensures.items) c.in-Some.ensures.word c.in_ok-push_broken.ensures c.in_ok-push_others.ensures

@@ -1,6 +1,7 @@
 use Rattle.std.proofs.Common.{◌≡◌, ◌-◌, ◌++◌, length, take, drop, replicate, false, ap, ◌∙◌, arith, length-append, length-drop}
 use Rattle.std.proofs.lemmas.List.{length-map, length-take}
 use Rattle.paragraphs.specs.Private.PartSettings.{setting_of, settings_of}
+use Rattle.paragraphs.specs.Private.PartStyles.{indent_of}
 use Rattle.paragraphs.specs.Styles.{style_of}
 use Rattle.paragraphs.specs.Parts.{word_parts}
 use Rattle.paragraphs.proofs.MixedParts.{adds_parts}
@@ -8,7 +9,7 @@ use Rattle.paragraphs.proofs.mixed.push_broken.Goals as goal
 
 pub returns : goal.returns
 returns g c =
-    let made = word_parts (g.H.Hyphenator.breaks_of c.args.dictionary.now) (style_of c.args.style.now) c.args.indent.now c.args.word.now.text.now in
+    let made = word_parts (g.H.Hyphenator.breaks_of c.args.dictionary.now) (style_of c.args.style.now) (indent_of c.args.style.now c.args.indent) c.args.word.now.text.now in
     let old = c.args.mixed.now in
     let parts = c.push_word.new.parts.items in
     let before = c.len-before.result in

@@ -5,7 +5,7 @@ use Rattle.paragraphs.proofs.plain.past_letters.Given as goal
 
 -- The bytes so far are letters.
 abbrev pub invariant-bytes : goal.invariant-bytes
-invariant-bytes l = (l.start ≤ l.at) × (l.at ≤ length l.bytes) × EachBetween is_ascii_alphabetic l.bytes l.start l.at
+invariant-bytes l = (l.place.at ≤ l.at) × (l.at ≤ length l.place.bytes.now) × EachBetween is_ascii_alphabetic l.place.bytes.now l.place.at l.at
 
 abbrev pub decreases-bytes : goal.decreases-bytes
-decreases-bytes l = length l.bytes - l.at
+decreases-bytes l = length l.place.bytes.now - l.at

@@ -5,5 +5,5 @@ use Rattle.paragraphs.proofs.plain.past_plain.Goals as goal
 
 pub bytes-preserved : goal.bytes-preserved
 bytes-preserved c =
-    let here : is_plain (get_or c.args.bytes.now c.bytes.at 0) ≡ true = search rules in
-    (search (rules, arith), search (rules, arith), one_more is_plain c.args.bytes.now c.args.start c.bytes.at c.bytes.invariant.2 here)
+    let here : is_plain (get_or c.args.place.bytes.now c.bytes.at 0) ≡ true = search rules in
+    (search (rules, arith), search (rules, arith), one_more is_plain c.args.place.bytes.now c.args.place.at c.bytes.at c.bytes.invariant.2 here)

@@ -6,7 +6,7 @@ use Rattle.paragraphs.proofs.setting.columns_shown.Goals as goal
 
 pub columns_of-requires : goal.columns_of-requires
 columns_of-requires c =
-    let same : c.deref.result.now ≡ shown c.args.text.now = c.deref.ensures ∙ c.in_ok-shown.ensures in
+    let same : c.deref.result.now ≡ shown c.args.text.now = c.deref.ensures ∙ c.in_ok-rest.ensures in
     omega (arith, ap length same, shown_shorter c.args.text.now c.utf8.text, c.requires)
 
 pub returns : goal.returns

@@ -10,19 +10,16 @@ use Rattle.paragraphs.proofs.setting.set.Goals as goal
 
 pub lines-requires : goal.lines-requires
 lines-requires c =
-    let parts = c.args.parts.now in
+    let parts = c.args.placed.parts.now in
     let all = map stretch_of (settings_of parts) in
     let row = c.in_ok-row.row.items in
     let read = c.requires.measured in
     let aimed = subst (λ xs. IsAimedAt c.args.aim xs c.args.columns row) read c.in_ok-row.ensures in
-    record {
-      stand = c.requires.stand;
-      rise = subst (Rise 0 (length parts)) (sym c.deref.ensures.value) (subst (λ n. Rise 0 n row) (length-set_stretches parts) (divides_rise all c.args.columns 0 row (aimed_divides c.args.aim all c.args.columns row aimed)));
-    }
+    subst (Rise 0 (length parts)) (sym c.deref.ensures.value) (subst (λ n. Rise 0 n row) (length-set_stretches parts) (divides_rise all c.args.columns 0 row (aimed_divides c.args.aim all c.args.columns row aimed)))
 
 pub returns : goal.returns
 returns c =
-    let parts = c.args.parts.now in
+    let parts = c.args.placed.parts.now in
     let all = map stretch_of (settings_of parts) in
     let row = c.in_ok-row.row.items in
     let read = c.requires.measured in

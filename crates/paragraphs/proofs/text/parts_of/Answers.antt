@@ -5,7 +5,7 @@ use Rattle.paragraphs.proofs.Places.{ends_after}
 use Rattle.paragraphs.proofs.text.parts_of.Goals as goal
 
 pub push_others-requires : goal.push_others-requires
-push_others-requires g c κs = ((refl, (refl, tt)), ends_after c.args.text.now c.in-Some.first.text.now c.in-Some.first.after.now c.in-Some.ensures.end)
+push_others-requires g c κs = ((refl, (refl, (refl, tt))), ends_after c.args.text.now c.in-Some.first.text.now c.in-Some.first.after.now c.in-Some.ensures.end)
 
 pub returns-clause-places : goal.returns-clause-places
 returns-clause-places g c =

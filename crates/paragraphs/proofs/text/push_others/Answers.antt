@@ -10,7 +10,7 @@ use Rattle.paragraphs.proofs.text.push_others.Goals as goal
 pub push_word_of-requires : goal.push_word_of-requires
 push_word_of-requires g c κs =
     let word = c.in-Some.word in
-    ((refl, (refl, tt)), ends_further c.args.text.now c.loop-word.rest.now (word.text.now ++ word.after.now) c.loop-word.invariant.end c.in-Some.ensures.end)
+    ((refl, (refl, (refl, tt))), ends_further c.args.text.now c.loop-word.rest.now (word.text.now ++ word.after.now) c.loop-word.invariant.end c.in-Some.ensures.end)
 
 pub loop-word-preserved : goal.loop-word-preserved
 loop-word-preserved g c =

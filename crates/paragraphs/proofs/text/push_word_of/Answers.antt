@@ -1,4 +1,4 @@
-use Rattle.std.proofs.Common.{◌<◌, ◌^◌, length, sym, subst, rules, arith}
+use Rattle.std.proofs.Common.{sym, subst}
 use Rattle.std.proofs.lemmas.Str.{IsUtf8-had}
 use Rattle.paragraphs.specs.Private.Places.{WordStands}
 use Rattle.paragraphs.proofs.Places.{word_stands}
@@ -9,7 +9,6 @@ returns-clause-places g c =
     let text = c.args.text.now in
     let word = c.args.word.now.text.now in
     let spaced = c.begins_with_space.result in
-    let short : length text < 2 ^ 63 = search (rules, arith) in
-    let there = word_stands text word c.args.word.now.after.now spaced short (IsUtf8-had _ c.args.word.now.utf8) (IsUtf8-had _ c.args.word.now.utf8_after) c.requires c.begins_with_space.ensures in
+    let there = word_stands text word c.args.word.now.after.now spaced (IsUtf8-had _ c.args.word.now.utf8) (IsUtf8-had _ c.args.word.now.utf8_after) c.requires c.begins_with_space.ensures in
     let stands : WordStands text c.place_of.result word spaced = subst (λ n. WordStands text n word spaced) (sym c.place_of.ensures.value) there in
     λ all. c.in_ok-push_word.ensures.places text stands all

@@ -1,37 +1,32 @@
-use Rattle.std.proofs.Common.{refl, [], ap, sym, subst, ◌∙◌}
-use Rattle.paragraphs.specs.Private.Open.{settings_with}
-use Rattle.paragraphs.specs.Styles.{style_of}
+use Rattle.std.proofs.Common.{refl, ap, sym, subst, ◌∙◌, append-nil}
+use Rattle.paragraphs.specs.Private.Open.{Passes, word_of}
+use Rattle.paragraphs.specs.Parts.{breaks_in}
 use Rattle.word_pieces.specs.Pieces.{AreSlices}
 use Rattle.paragraphs.proofs.OnePiece.{one_piece_offsets, whole_breaks}
 use Rattle.paragraphs.proofs.WordBreaks.{address_breaks, other_breaks}
 use Rattle.std.proofs.lemmas.Str.{IsUtf8-had}
 use Rattle.paragraphs.proofs.word.pass_pieces.Goals as goal
 
-pub pass_piece-requires : goal.pass_piece-requires
-pass_piece-requires g c κs =
-    let word = c.args.word.now.text.now in
-    let are = c.args.word.now.alphabetic c.if-word.true in
-    let one = c.letters_are_one_piece.ensures word are.0 are.1 in
-    let slice = (subst (AreSlices word) (one_piece_offsets word one) (c.pieces_are_slices.ensures.slices word (IsUtf8-had _ c.args.word.now.utf8))).0 in
-    ((refl, (refl, (refl, tt))), (slice, c.requires.from))
-
 pub returns-then-word-clause-goes : goal.returns-then-word-clause-goes
 returns-then-word-clause-goes g c =
     let breaks_of = g.H.Hyphenator.breaks_of c.args.dictionary.now in
-    let word = c.args.word.now.text.now in
-    let are = c.args.word.now.alphabetic c.if-word.true in
+    let word = word_of c.args.current.now in
+    let are = c.args.current.now.word.now.alphabetic c.if-word.true in
     let one = c.letters_are_one_piece.ensures word are.0 are.1 in
-    c.in_ok-pass_piece.ensures.goes [] ∙ ap (settings_with (style_of c.args.word.now.style.now) word c.args.parts.now.items c.args.current.now) (whole_breaks breaks_of word one ∙ other_breaks breaks_of word (c.letters_are_no_address.ensures word are.1))
+    let same = sym (append-nil (breaks_in breaks_of (0, word))) ∙ whole_breaks breaks_of word one ∙ other_breaks breaks_of word (c.letters_are_no_address.ensures word are.1) in
+    subst (λ bs. Passes bs c.args.parts.now.items c.args.current.now c.pass_piece.new.parts.items c.pass_piece.new.current) same c.in_ok-pass_piece.ensures.goes
 
 pub returns-then-is_address-clause-goes : goal.returns-then-is_address-clause-goes
 returns-then-is_address-clause-goes g c =
     let breaks_of = g.H.Hyphenator.breaks_of c.args.dictionary.now in
-    let word = c.args.word.now.text.now in
-    ap (settings_with (style_of c.args.word.now.style.now) word c.args.parts.now.items c.args.current.now) (address_breaks breaks_of word (sym c.is_address.ensures ∙ c.if-is_address.true))
+    let parts = c.args.parts.now.items in
+    let current = c.args.current.now in
+    subst (λ bs. Passes bs parts current parts current) (address_breaks breaks_of (word_of current) (sym c.is_address.ensures ∙ c.if-is_address.true))
+    (record { word = refl; goes = λ others. refl })
 
 pub returns-clause-goes : goal.returns-clause-goes
 returns-clause-goes g c =
     let breaks_of = g.H.Hyphenator.breaks_of c.args.dictionary.now in
-    let word = c.args.word.now.text.now in
-    c.in_ok-pass_each_piece.ensures.goes
-    ∙ ap (settings_with (style_of c.args.word.now.style.now) word c.args.parts.now.items c.args.current.now) (other_breaks breaks_of word (sym c.is_address.ensures ∙ c.if-is_address.false))
+    let word = word_of c.args.current.now in
+    subst (λ bs. Passes bs c.args.parts.now.items c.args.current.now c.pass_each_piece.new.parts.items c.pass_each_piece.new.current)
+    (other_breaks breaks_of word (sym c.is_address.ensures ∙ c.if-is_address.false)) c.in_ok-pass_each_piece.ensures.goes

@@ -1,4 +1,4 @@
-//! Texts as they are shown: without soft hyphens.
+//! Texts without their soft hyphens, as they are shown.
 
 ghost use Rattle.std.specs.Prelude.{◌≡◌, ◌++◌, IfOk, OnOk, chars};
 ghost use Rattle.std.specs.List.{list_all, list_any};
@@ -30,14 +30,14 @@ pub(crate) fn has_soft_hyphen(text: &str) -> bool
 }
 
 // Returns a text without its soft hyphens.
-pub(crate) fn shown(alloc: Global, text: &str) -> Result<String, AllocError>
+pub(crate) fn without_soft_hyphens(alloc: Global, text: &str) -> Result<String, AllocError>
     ensures { IfOk result (λ made. string_bytes made ≡ shown text.now) }
 {
     text.chars().filter(|c| *c != '\u{ad}').collect(alloc)
 }
 
 // Appends a text without its soft hyphens.
-pub(crate) fn push_shown(line: &mut String, text: &str) -> Result<(), AllocError>
+pub(crate) fn push_without_soft_hyphens(line: &mut String, text: &str) -> Result<(), AllocError>
     ensures { OnOk result (string_bytes line.new ≡ string_bytes line.old ++ shown text.now) }
 {
     if is_printable(text) {
@@ -45,8 +45,8 @@ pub(crate) fn push_shown(line: &mut String, text: &str) -> Result<(), AllocError
         return Ok(());
     }
     if has_soft_hyphen(text) {
-        let shown = shown(*line.allocator(), text)?;
-        line.push_str(&shown)?;
+        let rest = without_soft_hyphens(*line.allocator(), text)?;
+        line.push_str(&rest)?;
         return Ok(());
     }
     line.push_str(text)?;

@@ -2,7 +2,7 @@ use Rattle.std.proofs.Common.{◌++◌, ap, sym, ◌∙◌}
 use Rattle.std.specs.String.{string_bytes}
 use Rattle.paragraphs.proofs.Printable.{printable_shown}
 use Rattle.paragraphs.proofs.ShownTexts.{shown_same}
-use Rattle.paragraphs.proofs.shown.push_shown.Goals as goal
+use Rattle.paragraphs.proofs.soft_hyphens.push_without_soft_hyphens.Goals as goal
 
 pub returns-then-is_printable : goal.returns-then-is_printable
 returns-then-is_printable c =
