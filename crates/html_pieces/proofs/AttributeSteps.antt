@@ -4,7 +4,7 @@ use Rattle.std.specs.Option.{unwrap_or}
 use Rattle.html_pieces.specs.declared.bytes.Form.{Form}
 use Rattle.html_pieces.specs.Pieces.{next}
 use Rattle.html_pieces.specs.Private.Parts.{EndsAt}
-use Rattle.html_pieces.specs.Tags.{Attribute, is_name, is_value, is_unquoted, name_on, value_on, ended, attributes_from, attributes_of}
+use Rattle.html_pieces.specs.Tags.{Attribute, is_name, is_value, is_unquoted, attribute_name_after, attribute_value_after, ended, attributes_from, attributes_of}
 use Rattle.html_pieces.specs.declared.tokenizer.State.{State}
 use Rattle.html_pieces.specs.declared.tokenizer.State.TheVariants.{TagOpen, TagEnd}
 use Rattle.html_pieces.proofs.Slices.{drop_more, slice_more, slice_one, slice_none}
@@ -57,13 +57,13 @@ read_first form tag = record { told = refl; name_at = λ h. absurd (cc h); value
 
 pub read_on : (form : Form) (tag : List ℕ) (found found' : List Attribute) (state after : State) (name value name' value' : List ℕ) (i : ℕ) → Read form tag found state name value i → i < length tag
     → after ≡ unwrap_or (next form false state [] (get_or tag i 0)) TagEnd → found' ≡ found ++ ended state after name value
-    → name' ≡ name_on state after name (get_or tag i 0) → value' ≡ value_on state after value (get_or tag i 0)
+    → name' ≡ attribute_name_after state after name (get_or tag i 0) → value' ≡ attribute_value_after state after value (get_or tag i 0)
     → Read form tag found' after name' value' (i + 1)
 read_on form tag found found' state after name value name' value' i r lt a f n v =
-    let rest = attributes_from form after (name_on state after name (get_or tag i 0)) (value_on state after value (get_or tag i 0)) (drop (i + 1) tag) in
+    let rest = attributes_from form after (attribute_name_after state after name (get_or tag i 0)) (attribute_value_after state after value (get_or tag i 0)) (drop (i + 1) tag) in
     let step : attributes_from form state name value (drop i tag) ≡ ended state after name value ++ rest =
     ap (attributes_from form state name value) (drop_more tag i lt)
-    ∙ ap (λ s. ended state s name value ++ attributes_from form s (name_on state s name (get_or tag i 0)) (value_on state s value (get_or tag i 0)) (drop (i + 1) tag)) (sym a) in
+    ∙ ap (λ s. ended state s name value ++ attributes_from form s (attribute_name_after state s name (get_or tag i 0)) (attribute_value_after state s value (get_or tag i 0)) (drop (i + 1) tag)) (sym a) in
     rw (f, n, v) (record {
       told = append_assoc found (ended state after name value) rest ∙ ap (λ xs. found ++ xs) (sym step) ∙ r.told;
       name_at = name_ends tag name i (is_name state) (is_name after) lt r.name_at;

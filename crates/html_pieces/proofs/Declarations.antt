@@ -55,8 +55,8 @@ as_first : (ps : List Piece) → DeclaresFirst ps → Declares ps
 as_first [] d = d
 as_first (p ∷ ps) d = inl d
 
-first_of : (w : ℕ) (ps : List Piece) → is_white_space w ≡ true → FirstOther (declaration w []) ps → DeclaresFirst ps
-first_of w ps white f = subst DeclaresFirst (sym f.is) (refl, white)
+declares_first : (w : ℕ) (ps : List Piece) → is_white_space w ≡ true → FirstOther (declaration w []) ps → DeclaresFirst ps
+declares_first w ps white f = subst DeclaresFirst (sym f.is) (refl, white)
 
 not_end : (w : ℕ) → is_white_space w ≡ true → w == 62 ≡ false
 not_end w e = grind (arith, nat_tests)
@@ -85,11 +85,11 @@ unfolding next
 declared_first Html w more white =
     let front = 60 ∷ 63 ∷ 120 ∷ 109 ∷ 108 ∷ [] in
     let on = html_stays (is_continuation w) (w == 62) (w == 91) (pointwise nat_eq front (codes "<![CDATA")) (not_end w white) (not_bracket w white) in
-    subst DeclaresFirst (sym (pieces_on Html 0 BogusComment BogusComment front w more on)) (first_of w _ white (first_other Html BogusComment (declaration w []) more refl))
+    subst DeclaresFirst (sym (pieces_on Html 0 BogusComment BogusComment front w more on)) (declares_first w _ white (first_other Html BogusComment (declaration w []) more refl))
 declared_first Xml w more white =
     let front = 60 ∷ 63 ∷ 120 ∷ 109 ∷ 108 ∷ [] in
     let on = xml_stays (is_continuation w) (w == 63) (not_question w white) in
-    subst DeclaresFirst (sym (pieces_on Xml 0 ProcessingInstruction ProcessingInstruction front w more on)) (first_of w _ white (first_other Xml ProcessingInstruction (declaration w []) more refl))
+    subst DeclaresFirst (sym (pieces_on Xml 0 ProcessingInstruction ProcessingInstruction front w more on)) (declares_first w _ white (first_other Xml ProcessingInstruction (declaration w []) more refl))
 
 declares_plain : (form : Form) (w : ℕ) (more : List ℕ) → is_white_space w ≡ true → Declares (pieces_of form (declaration w more))
 unfolding begin

@@ -28,7 +28,7 @@ pub any_more : (test : ℕ → Bool) (xs : List ℕ) (b : ℕ) → list_any test
 any_more test [] b e = cc
 any_more test (x ∷ xs) b e = any_true (test x) (list_any test xs) (list_any test (xs ++ b ∷ [])) e (λ f. any_more test xs b f)
 
-or_true : (x : Bool) → x || true ≡ true
+pub or_true : (x : Bool) → x || true ≡ true
 or_true true = refl
 or_true false = refl
 

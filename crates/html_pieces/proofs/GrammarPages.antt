@@ -15,14 +15,14 @@ use Rattle.html_pieces.specs.declared.tokenizer.RawElement.TheVariants.{Script}
 use Rattle.html_pieces.specs.Bytes.{is_continuation, is_white_space, ends_name, is_same_name, is_xml}
 use Rattle.html_pieces.specs.Names.{is_end_tag, name_of, raw_end_tag, is_foreign_root}
 use Rattle.html_pieces.specs.Pieces.{piece, pieces_from, pieces_of, state_after, next, ends_tag, is_script, in_raw, in_escaped, in_double_escaped, begin, kind_of, content_after, depth_after}
-use Rattle.html_pieces.specs.Grammar.{IsInGrammar, AreInGrammar, content_by, depth_by}
+use Rattle.html_pieces.specs.Grammar.{IsInGrammar, AreInGrammar, content_by, since_tag, depth_by}
 use Rattle.html_pieces.proofs.OtherTexts.{no_continuation}
 use Rattle.html_pieces.proofs.RootTags.{lead_only}
 use Rattle.html_pieces.proofs.QuietBytes.{past_if, no_dash}
 use Rattle.html_pieces.proofs.PieceSteps.{after_piece, first_byte, none_means}
 use Rattle.html_pieces.proofs.WholePages.{pieces_join, rest_utf8, at_seam, seam_boundary}
 use Rattle.html_pieces.proofs.FirstEnds.{length_snoc}
-use Rattle.html_pieces.proofs.GrammarSteps.{Stands, is_ascii, To, Starts, step_next, cut, data_starts}
+use Rattle.html_pieces.proofs.GrammarSteps.{and_true, Stands, is_ascii, To, Starts, step_next, cut, data_starts}
 
 -- ---- a byte that is not the first of its character
 
@@ -105,10 +105,6 @@ tag_depth : (n : ℕ) (front : List ℕ) (c r : Bool) → is_end_tag front ≡ c
 tag_depth n front true r e f = refl
 tag_depth n front false r e f = refl
 
-and_true : (x : Bool) → x && true ≡ x
-and_true true = refl
-and_true false = refl
-
 and_not : (x : Bool) → x && false ≡ false
 and_not true = refl
 and_not false = refl
@@ -123,35 +119,35 @@ depth_same n TagEnd front = tag_depth n front (is_end_tag front) (is_foreign_roo
 depth_same n EmptyTagEnd front = empty_depth n front (is_end_tag front) (is_foreign_root (name_of front)) refl refl
 depth_same n _ front = refl
 
-grammar_cases : (form : Form) (depth : ℕ) (within state : State) (front : List ℕ) (b : ℕ) (bs : List ℕ) (o : Option State) → state_after form (nat_lt 0 depth) state front b ≡ o → IsUtf8 (front ++ b ∷ bs) → To form (nat_lt 0 depth) within state front b o
-    → ((after : State) → Stands form (nat_lt 0 depth) within after (front ++ b ∷ []) → (is_ascii after ≡ true → b < 128) → AreInGrammar form depth within (pieces_from form depth after (front ++ b ∷ []) bs))
-    → (IsUtf8 (b ∷ bs) → Starts form (nat_lt 0 (depth_after depth state front)) (content_by form (nat_lt 0 depth) within (kind_of state front) front) (content_after form (nat_lt 0 depth) state front) b
-    → AreInGrammar form (depth_after depth state front) (content_by form (nat_lt 0 depth) within (kind_of state front) front) (after_piece form depth state front b bs))
-    → AreInGrammar form depth within (option_map_or (λ after. pieces_from form depth after (front ++ b ∷ []) bs) o (piece state front ∷ after_piece form depth state front b bs))
-grammar_cases form depth within state front b bs (Some after) e u t on anew = on after t.is.0 t.is.1
-grammar_cases form depth within state front b bs None e u t on anew = (
-  subst (IsInGrammar form (nat_lt 0 depth) within (kind_of state front) front)
+grammar_cases : (form : Form) (depth : ℕ) (before : List ℕ) (within state : State) (front : List ℕ) (b : ℕ) (bs : List ℕ) (o : Option State) → state_after form (nat_lt 0 depth) state front b ≡ o → IsUtf8 (front ++ b ∷ bs) → To form (nat_lt 0 depth) before within state front b o
+    → ((after : State) → Stands form (nat_lt 0 depth) before within after (front ++ b ∷ []) → (is_ascii after ≡ true → b < 128) → AreInGrammar form depth before within (pieces_from form depth after (front ++ b ∷ []) bs))
+    → (IsUtf8 (b ∷ bs) → Starts form (nat_lt 0 (depth_after depth state front)) (since_tag before (kind_of state front) front) (content_by form (nat_lt 0 depth) within (kind_of state front) front) (content_after form (nat_lt 0 depth) state front) b
+    → AreInGrammar form (depth_after depth state front) (since_tag before (kind_of state front) front) (content_by form (nat_lt 0 depth) within (kind_of state front) front) (after_piece form depth state front b bs))
+    → AreInGrammar form depth before within (option_map_or (λ after. pieces_from form depth after (front ++ b ∷ []) bs) o (piece state front ∷ after_piece form depth state front b bs))
+grammar_cases form depth before within state front b bs (Some after) e u t on anew = on after t.is.0 t.is.1
+grammar_cases form depth before within state front b bs None e u t on anew = (
+  subst (IsInGrammar form (nat_lt 0 depth) before within (kind_of state front) front)
       (sym (pieces_join form (depth_after depth state front) (begin (content_after form (nat_lt 0 depth) state front) b) (b ∷ []) bs)) (t.is.0 bs),
-  subst (λ n. AreInGrammar form n (content_by form (nat_lt 0 depth) within (kind_of state front) front) (after_piece form depth state front b bs)) (sym (depth_same depth state front))
+  subst (λ n. AreInGrammar form n (since_tag before (kind_of state front) front) (content_by form (nat_lt 0 depth) within (kind_of state front) front) (after_piece form depth state front b bs)) (sym (depth_same depth state front))
       (anew (rest_utf8 front (b ∷ bs) u (seam_boundary front b bs (first_byte b (none_means (is_continuation b) state (next form (nat_lt 0 depth) state front b) e))))
       (t.is.1 (nat_lt 0 (depth_after depth state front)))),
 )
 
-grammar_from : (form : Form) (depth : ℕ) (within state : State) (f : List ℕ) (last : ℕ) (bs : List ℕ) → IsUtf8 (f ++ last ∷ bs) → Stands form (nat_lt 0 depth) within state (f ++ last ∷ []) → (is_ascii state ≡ true → last < 128)
-    → AreInGrammar form depth within (pieces_from form depth state (f ++ last ∷ []) bs)
-grammar_from form depth within state f last [] u s a = (cut form (nat_lt 0 depth) within state (f ++ last ∷ []) s, tt)
-grammar_from form depth within state f last (b ∷ bs) u s a =
+grammar_from : (form : Form) (depth : ℕ) (before : List ℕ) (within state : State) (f : List ℕ) (last : ℕ) (bs : List ℕ) → IsUtf8 (f ++ last ∷ bs) → Stands form (nat_lt 0 depth) before within state (f ++ last ∷ []) → (is_ascii state ≡ true → last < 128)
+    → AreInGrammar form depth before within (pieces_from form depth state (f ++ last ∷ []) bs)
+grammar_from form depth before within state f last [] u s a = (cut form (nat_lt 0 depth) before within state (f ++ last ∷ []) s, tt)
+grammar_from form depth before within state f last (b ∷ bs) u s a =
     let front : List ℕ = f ++ last ∷ [] in
     let page : IsUtf8 (front ++ b ∷ bs) = subst IsUtf8 (sym (append_assoc f (last ∷ []) (b ∷ bs))) u in
     let same = after_is_next form (nat_lt 0 depth) state front b last a (no_continuation_after f last b bs u) in
-    let goes : To form (nat_lt 0 depth) within state front b (state_after form (nat_lt 0 depth) state front b) =
-    subst (To form (nat_lt 0 depth) within state front b) (sym same) (step_next form (nat_lt 0 depth) within state front b s) in
-    grammar_cases form depth within state front b bs (state_after form (nat_lt 0 depth) state front b) refl page goes
-    (λ after t l. grammar_from form depth within after front b bs page t l)
-    (λ v t. grammar_from form (depth_after depth state front) (content_by form (nat_lt 0 depth) within (kind_of state front) front) (begin (content_after form (nat_lt 0 depth) state front) b) [] b bs v t.0 t.1)
+    let goes : To form (nat_lt 0 depth) before within state front b (state_after form (nat_lt 0 depth) state front b) =
+    subst (To form (nat_lt 0 depth) before within state front b) (sym same) (step_next form (nat_lt 0 depth) before within state front b s) in
+    grammar_cases form depth before within state front b bs (state_after form (nat_lt 0 depth) state front b) refl page goes
+    (λ after t l. grammar_from form depth before within after front b bs page t l)
+    (λ v t. grammar_from form (depth_after depth state front) (since_tag before (kind_of state front) front) (content_by form (nat_lt 0 depth) within (kind_of state front) front) (begin (content_after form (nat_lt 0 depth) state front) b) [] b bs v t.0 t.1)
 
-pub grammar_of_page : (form : Form) (page : List ℕ) → IsUtf8 page → AreInGrammar form 0 Data (pieces_of form page)
+pub grammar_of_page : (form : Form) (page : List ℕ) → IsUtf8 page → AreInGrammar form 0 [] Data (pieces_of form page)
 grammar_of_page form [] u = tt
 grammar_of_page form (b ∷ bs) u =
-    let t = data_starts form false Data b refl in
-    grammar_from form 0 Data (begin Data b) [] b bs u t.0 t.1
+    let t = data_starts form false [] Data b refl in
+    grammar_from form 0 [] Data (begin Data b) [] b bs u t.0 t.1

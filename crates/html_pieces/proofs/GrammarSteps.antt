@@ -1,6 +1,6 @@
 -- The bytes that a piece may have in each state, by the grammar: one byte more, and the piece that ends.
 use Rattle.std.proofs.Common.{◌≡◌, ℕ, ◌<◌, ◌==◌, ◌||◌, ◌&&◌, ◌⊎◌, inl, inr, List, [], ◌∷◌, ◌++◌, length, reverse, take, drop, zero, suc, refl, ap, sym, ◌∙◌, append_assoc, subst, Option, Some, None, Bool, true, false, not, get_or, arith, nat_eq, codes, eqb-true, if◌then◌else◌}
-use Rattle.std.proofs.lemmas.List.{take_all}
+use Rattle.std.proofs.lemmas.List.{take_all, reverse-append}
 use Rattle.std.proofs.lemmas.Bool.{cases_lt, and_right as and_false, or_parts, not_from_true, not-true}
 use Rattle.std.proofs.lemmas.Bool.Decides.{nat_tests}
 use Rattle.std.specs.Char.{to_ascii_lowercase}
@@ -18,11 +18,13 @@ use Rattle.html_pieces.specs.Bytes.{is_white_space, is_alphanumeric, is_name_sta
 use Rattle.html_pieces.specs.Names.{is_end_tag, name_of, raw_end_tag, raw_element}
 use Rattle.html_pieces.specs.Laws.{IsPlain}
 use Rattle.html_pieces.specs.Pieces.{next, in_tag, in_attribute, before_value, in_unquoted_value, ends_tag, is_script, in_raw, in_escaped, in_double_escaped, begin, kind_of, content_of, content_after, content_after_tag}
-use Rattle.html_pieces.specs.Grammar.{begins_with, ends_in, StopsAt, is_reference_name, IsReference, is_comment, is_section, is_instruction, ends_markup, opens_markup, IsMarkup, begins_tag, IsInQuotes, IsEndTagOf, BeginsTag, IsTag, IsRawText, IsOther, IsInGrammar, content_by}
+use Rattle.html_pieces.specs.Grammar.{TagPart, Gap, Name, Equals, Quoted, Unquoted, may_follow, HasParts, IsDoubleEscaped, since_tag, has_bracket, closes_part, ends_after_part, begins_with, ends_in, StopsAt, is_reference_name, IsReference, is_comment, is_section, is_instruction, ends_markup, opens_markup, IsMarkup, begins_tag, IsInQuotes, IsEndTagOf, BeginsTag, IsTag, IsRawText, IsOther, IsInGrammar, content_by}
 use Rattle.html_pieces.proofs.NamesEqual.{and_left, and_right, pointwise_same}
 use Rattle.html_pieces.proofs.OtherTexts.{plain_more}
 use Rattle.html_pieces.proofs.WholePages.{at_seam}
 use Rattle.html_pieces.proofs.FirstEnds.{NoneEnds, none_begun, none_more, ends_here, cut_here, snoc_ends, any_snoc, any_more, any_last, begins_snoc, take_snoc, length_snoc, get_snoc}
+use Rattle.html_pieces.proofs.TagParts.{InGap, InName, PastName, PastEquals, InValue, PastValue, InQuotes, name_grown, gap_part, slash_part, no_name_end, gap_after, name_after, in_name_more, in_name_spaced, past_name_spaced, past_name_more, equals_after, equals_spaced, value_after, value_more, quotes_opened, quotes_more, quotes_closed, tag_begun, raw_end_parts}
+use Rattle.html_pieces.proofs.Scripts.{both_true, begins_longer, BeginsPart, part_longer, EscapedFront, DoubleFront, escaped_begun, escaped_on, escaped_anew, double_begun, double_on, double_anew, double_closed}
 use Rattle.html_pieces.proofs.Comments.{CommentFront, dash_more, other_more, comment_done, comment_ends}
 
 -- ---- tags
@@ -86,6 +88,7 @@ pub record TagDone (form : Form) (within : State) (bytes : List ℕ) : Type 0 wh
   pub whole : bytes ≡ front ++ 62 ∷ []
   pub begins : BeginsTag form within bytes
   pub quoted : AreQuoted front
+  pub parts : (parts : List TagPart) × HasParts front parts
 
 tag_is : (form : Form) (within : State) (bytes : List ℕ) → TagDone form within bytes → IsTag form within bytes
 tag_is form within bytes t = record {
@@ -96,6 +99,7 @@ tag_is form within bytes t = record {
       let same : take n bytes ≡ take n t.front = ap (take n) t.whole ∙ take_snoc t.front 62 n (omega (arith, less)) in
       let byte : get_or t.front n 0 ≡ 62 = sym (get_snoc t.front 62 n less) ∙ ap (λ xs. get_or xs n 0) (sym t.whole) ∙ is in
       subst IsInQuotes (sym same) (t.quoted n less byte);
+  outside = (t.front, t.parts.0, t.whole, t.parts.1);
 }
 
 -- ---- what the states say
@@ -122,15 +126,21 @@ pub record Declared (form : Form) (foreign : Bool) (front : List ℕ) : Type 0 w
   pub no_comment : NoComment front
   pub no_instruction : (more : List ℕ) → is_instruction form (front ++ more) ≡ false
   pub no_section : is_section form foreign front ≡ false
+  pub no_bracket : has_bracket front && is_xml form ≡ false
+  pub bracket_next : form ≡ Xml → has_bracket (front ++ 91 ∷ []) ≡ true
   pub none : NoneEnds (ends_markup form foreign) front
 
--- a document type with a part in brackets
-pub record WithPart (form : Form) (front : List ℕ) : Type 0 where
+-- a document type with a part in brackets, that has not ended
+pub record WithPart (form : Form) (foreign : Bool) (front : List ℕ) (closed : Bool) : Type 0 where
   pub opens : opens_markup front ≡ true
   pub no_tag : NoTag form front
   pub no_comment : NoComment front
+  pub no_instruction : (more : List ℕ) → is_instruction form (front ++ more) ≡ false
+  pub no_section : is_section form foreign front ≡ false
   pub xml : form ≡ Xml
-  pub part : list_any (λ b. b == 91) front ≡ true
+  pub bracket : has_bracket front ≡ true
+  pub none : NoneEnds (ends_markup form foreign) front
+  pub closed_is : closes_part (reverse front) ≡ closed
 
 -- an instruction or a section so far, after this beginning, that has not ended
 pub record Sectioned (form : Form) (foreign : Bool) (start front : List ℕ) (last last_two : Bool) : Type 0 where
@@ -157,10 +167,12 @@ abbrev pub InComment : Form → Bool → List ℕ → Type 0
 InComment form foreign front = (bang : Bool) × CommentFront form foreign front false false false false bang × (not (is_xml form) && bang ≡ false)
 
 -- a part of a raw text
-pub record RawFront (element : RawElement) (front : List ℕ) : Type 0 where
+pub record RawFront (element : RawElement) (before front : List ℕ) : Type 0 where
   pub part : list_any (λ b. b == 60) (drop 1 front) ≡ false
   pub some : (b : ℕ) × (bs : List ℕ) × (front ≡ b ∷ bs)
-  pub goes_on : is_script element ≡ false → (n : ℕ) → n < length front → ends_tag (raw_end_tag element) (take n front) (get_or front n 0) ≡ false
+  pub begins : BeginsPart before front
+  pub goes_on : (n : ℕ) → n < length front → ends_tag (raw_end_tag element) (take n front) (get_or front n 0) ≡ true
+      → (is_script element ≡ true) × IsDoubleEscaped (before ++ take n front)
 
 pub record ValueFront (front : List ℕ) : Type 0 where
   pub head : List ℕ
@@ -176,46 +188,46 @@ pub record QuotedFront (front : List ℕ) (quote : ℕ) : Type 0 where
   pub white : list_any (λ b. not (is_white_space b)) spaces ≡ false
   pub unclosed : list_any (λ b. b == quote) value ≡ false
 
-abbrev pub Stands : Form → Bool → State → State → List ℕ → Type 0
-Stands form foreign within Data front = (within ≡ Data) × IsPlain front
-Stands form foreign within CharacterReference front = (within ≡ Data) × (front ≡ codes "&")
-Stands form foreign within ReferenceName front = (within ≡ Data) × (b : ℕ) × (name : List ℕ) × (front ≡ 38 ∷ b ∷ name) × (is_reference_name (b ∷ name) ≡ true)
-Stands form foreign within ReferenceEnd front = (within ≡ Data) × IsReference front
-Stands form foreign within TagOpen front = (within ≡ Data) × (front ≡ codes "<")
-Stands form foreign within EndTagOpen front = (within ≡ Data) × (front ≡ codes "</")
-Stands form foreign within TagName front = TagFront form within front
-Stands form foreign within BeforeAttributeName front = TagFront form within front
-Stands form foreign within AttributeName front = TagFront form within front
-Stands form foreign within AfterAttributeName front = TagFront form within front
-Stands form foreign within BeforeAttributeValue front = TagFront form within front × ValueFront front
-Stands form foreign within DoubleQuotedValue front = TagFront form within front × QuotedFront front 34
-Stands form foreign within SingleQuotedValue front = TagFront form within front × QuotedFront front 39
-Stands form foreign within UnquotedValue front = TagFront form within front
-Stands form foreign within AfterQuotedValue front = TagFront form within front
-Stands form foreign within SelfClosingTag front = TagFront form within front × (begins_with (codes "/") (reverse front) ≡ true)
-Stands form foreign within TagEnd front = TagDone form within front
-Stands form foreign within EmptyTagEnd front = TagDone form within front × (ends_in (codes "/>") front ≡ true)
-Stands form foreign within MarkupDeclarationOpen front = (within ≡ Data) × (front ≡ codes "<!")
-Stands form foreign within MarkupDeclarationDash front = (within ≡ Data) × (front ≡ codes "<!-")
-Stands form foreign within BogusComment front = (within ≡ Data) × Declared form foreign front
-Stands form foreign within DoctypeSubset front = (within ≡ Data) × WithPart form front
-Stands form foreign within DoctypeSubsetEnd front = (within ≡ Data) × WithPart form front
-Stands form foreign within ProcessingInstruction front = (within ≡ Data) × Instructed form foreign front false
-Stands form foreign within ProcessingInstructionMark front = (within ≡ Data) × Instructed form foreign front true
-Stands form foreign within CommentStart front = (within ≡ Data) × (front ≡ codes "<!--") × CommentFront form foreign front true true false false false
-Stands form foreign within CommentStartDash front = (within ≡ Data) × CommentFront form foreign front true true true false false
-Stands form foreign within Comment front = (within ≡ Data) × InComment form foreign front
-Stands form foreign within CommentEndDash front = (within ≡ Data) × CommentFront form foreign front true false true false false
-Stands form foreign within CommentEnd front = (within ≡ Data) × CommentFront form foreign front true true true true false
-Stands form foreign within CommentEndBang front = (within ≡ Data) × (form ≡ Html) × CommentFront form foreign front false false false false true
-Stands form foreign within CdataSection front = (within ≡ Data) × Sectioned form foreign (codes "<![CDATA[") front false false
-Stands form foreign within CdataSectionBracket front = (within ≡ Data) × Sectioned form foreign (codes "<![CDATA[") front true false
-Stands form foreign within CdataSectionEnd front = (within ≡ Data) × Sectioned form foreign (codes "<![CDATA[") front true true
-Stands form foreign within MarkupEnd front = (within ≡ Data) × MarkupDone form foreign front
-Stands form foreign within (Raw element) front = (within ≡ Raw element) × RawFront element front
-Stands form foreign within ScriptEscaped front = (within ≡ Raw Script) × RawFront Script front
-Stands form foreign within ScriptDoubleEscaped front = (within ≡ Raw Script) × RawFront Script front
-Stands form foreign within Plaintext front = within ≡ Plaintext
+abbrev pub Stands : Form → Bool → List ℕ → State → State → List ℕ → Type 0
+Stands form foreign before within Data front = (within ≡ Data) × IsPlain front
+Stands form foreign before within CharacterReference front = (within ≡ Data) × (front ≡ codes "&")
+Stands form foreign before within ReferenceName front = (within ≡ Data) × (b : ℕ) × (name : List ℕ) × (front ≡ 38 ∷ b ∷ name) × (is_reference_name (b ∷ name) ≡ true)
+Stands form foreign before within ReferenceEnd front = (within ≡ Data) × IsReference front
+Stands form foreign before within TagOpen front = (within ≡ Data) × (front ≡ codes "<")
+Stands form foreign before within EndTagOpen front = (within ≡ Data) × (front ≡ codes "</")
+Stands form foreign before within TagName front = TagFront form within front × HasParts front []
+Stands form foreign before within BeforeAttributeName front = TagFront form within front × InGap front
+Stands form foreign before within AttributeName front = TagFront form within front × InName front
+Stands form foreign before within AfterAttributeName front = TagFront form within front × PastName front
+Stands form foreign before within BeforeAttributeValue front = TagFront form within front × ValueFront front × PastEquals front
+Stands form foreign before within DoubleQuotedValue front = TagFront form within front × QuotedFront front 34 × InQuotes front 34
+Stands form foreign before within SingleQuotedValue front = TagFront form within front × QuotedFront front 39 × InQuotes front 39
+Stands form foreign before within UnquotedValue front = TagFront form within front × InValue front
+Stands form foreign before within AfterQuotedValue front = TagFront form within front × PastValue front
+Stands form foreign before within SelfClosingTag front = TagFront form within front × (begins_with (codes "/") (reverse front) ≡ true) × InGap front
+Stands form foreign before within TagEnd front = TagDone form within front
+Stands form foreign before within EmptyTagEnd front = TagDone form within front × (ends_in (codes "/>") front ≡ true)
+Stands form foreign before within MarkupDeclarationOpen front = (within ≡ Data) × (front ≡ codes "<!")
+Stands form foreign before within MarkupDeclarationDash front = (within ≡ Data) × (front ≡ codes "<!-")
+Stands form foreign before within BogusComment front = (within ≡ Data) × Declared form foreign front
+Stands form foreign before within DoctypeSubset front = (within ≡ Data) × WithPart form foreign front false
+Stands form foreign before within DoctypeSubsetEnd front = (within ≡ Data) × WithPart form foreign front true
+Stands form foreign before within ProcessingInstruction front = (within ≡ Data) × Instructed form foreign front false
+Stands form foreign before within ProcessingInstructionMark front = (within ≡ Data) × Instructed form foreign front true
+Stands form foreign before within CommentStart front = (within ≡ Data) × (front ≡ codes "<!--") × CommentFront form foreign front true true false false false
+Stands form foreign before within CommentStartDash front = (within ≡ Data) × CommentFront form foreign front true true true false false
+Stands form foreign before within Comment front = (within ≡ Data) × InComment form foreign front
+Stands form foreign before within CommentEndDash front = (within ≡ Data) × CommentFront form foreign front true false true false false
+Stands form foreign before within CommentEnd front = (within ≡ Data) × CommentFront form foreign front true true true true false
+Stands form foreign before within CommentEndBang front = (within ≡ Data) × (form ≡ Html) × CommentFront form foreign front false false false false true
+Stands form foreign before within CdataSection front = (within ≡ Data) × Sectioned form foreign (codes "<![CDATA[") front false false
+Stands form foreign before within CdataSectionBracket front = (within ≡ Data) × Sectioned form foreign (codes "<![CDATA[") front true false
+Stands form foreign before within CdataSectionEnd front = (within ≡ Data) × Sectioned form foreign (codes "<![CDATA[") front true true
+Stands form foreign before within MarkupEnd front = (within ≡ Data) × MarkupDone form foreign front
+Stands form foreign before within (Raw element) front = (within ≡ Raw element) × RawFront element before front
+Stands form foreign before within ScriptEscaped front = (within ≡ Raw Script) × RawFront Script before front × EscapedFront before front
+Stands form foreign before within ScriptDoubleEscaped front = (within ≡ Raw Script) × RawFront Script before front × DoubleFront before front
+Stands form foreign before within Plaintext front = within ≡ Plaintext
 
 -- the states that only an ASCII byte leads to
 abbrev pub is_ascii : State → Bool
@@ -264,63 +276,103 @@ snoc_is front start b k e h = ap (λ xs. xs ++ b ∷ []) e ∙ ap (λ x. start +
 
 -- ---- one byte more
 
-abbrev pub Starts : Form → Bool → State → State → ℕ → Type 0
-Starts form foreign within state b = Stands form foreign within (begin state b) (b ∷ []) × (is_ascii (begin state b) ≡ true → b < 128)
+abbrev pub Starts : Form → Bool → List ℕ → State → State → ℕ → Type 0
+Starts form foreign before within state b = Stands form foreign before within (begin state b) (b ∷ []) × (is_ascii (begin state b) ≡ true → b < 128)
 
-abbrev pub Goes : Form → Bool → State → State → List ℕ → ℕ → Option State → Type 0
-Goes form foreign within state front b None = ((rest : List ℕ) → IsInGrammar form foreign within (kind_of state front) front (b ∷ rest))
-    × ((next_foreign : Bool) → Starts form next_foreign (content_by form foreign within (kind_of state front) front) (content_after form foreign state front) b)
-Goes form foreign within state front b (Some after) = Stands form foreign within after (front ++ b ∷ []) × (is_ascii after ≡ true → b < 128)
+abbrev pub Goes : Form → Bool → List ℕ → State → State → List ℕ → ℕ → Option State → Type 0
+Goes form foreign before within state front b None = ((rest : List ℕ) → IsInGrammar form foreign before within (kind_of state front) front (b ∷ rest))
+    × ((next_foreign : Bool) → Starts form next_foreign (since_tag before (kind_of state front) front) (content_by form foreign within (kind_of state front) front) (content_after form foreign state front) b)
+Goes form foreign before within state front b (Some after) = Stands form foreign before within after (front ++ b ∷ []) × (is_ascii after ≡ true → b < 128)
 
-pub record To (form : Form) (foreign : Bool) (within state : State) (front : List ℕ) (b : ℕ) (o : Option State) : Type 0 where
-  pub is : Goes form foreign within state front b o
+pub record To (form : Form) (foreign : Bool) (before : List ℕ) (within state : State) (front : List ℕ) (b : ℕ) (o : Option State) : Type 0 where
+  pub is : Goes form foreign before within state front b o
 
-to_if : {form : Form} {foreign : Bool} {within state : State} {front : List ℕ} {b : ℕ} (c : Bool) (x y : Option State)
-    → (c ≡ true → To form foreign within state front b x) → (c ≡ false → To form foreign within state front b y) → To form foreign within state front b (if c then x else y)
+to_if : {form : Form} {foreign : Bool} {before : List ℕ} {within state : State} {front : List ℕ} {b : ℕ} (c : Bool) (x y : Option State)
+    → (c ≡ true → To form foreign before within state front b x) → (c ≡ false → To form foreign before within state front b y) → To form foreign before within state front b (if c then x else y)
 to_if true x y p q = p refl
 to_if false x y p q = q refl
 
-some_if : {form : Form} {foreign : Bool} {within state : State} {front : List ℕ} {b : ℕ} (c : Bool) (x y : State)
-    → (c ≡ true → To form foreign within state front b (Some x)) → (c ≡ false → To form foreign within state front b (Some y)) → To form foreign within state front b (Some (if c then x else y))
+some_if : {form : Form} {foreign : Bool} {before : List ℕ} {within state : State} {front : List ℕ} {b : ℕ} (c : Bool) (x y : State)
+    → (c ≡ true → To form foreign before within state front b (Some x)) → (c ≡ false → To form foreign before within state front b (Some y)) → To form foreign before within state front b (Some (if c then x else y))
 some_if true x y p q = p refl
 some_if false x y p q = q refl
 
 -- ---- tags
 
-tag_ended : (form : Form) (within : State) (front : List ℕ) (b : ℕ) → BeginsTag form within (front ++ b ∷ []) → AreQuoted front → b == 62 ≡ true → TagDone form within (front ++ b ∷ [])
-tag_ended form within front b begins quoted e = record { front = front; whole = ap (λ x. front ++ x ∷ []) (eqb-true b 62 e); begins = begins; quoted = quoted }
+tag_ended : (form : Form) (within : State) (front : List ℕ) (b : ℕ) → BeginsTag form within (front ++ b ∷ []) → AreQuoted front → (parts : List TagPart) → HasParts front parts → b == 62 ≡ true → TagDone form within (front ++ b ∷ [])
+tag_ended form within front b begins quoted parts h e = record {
+  front = front;
+  whole = ap (λ x. front ++ x ∷ []) (eqb-true b 62 e);
+  begins = begins;
+  quoted = quoted;
+  parts = (parts, h);
+}
 
-tag_to : (form : Form) (foreign : Bool) (within state : State) (front : List ℕ) (b : ℕ) (other : State) → BeginsTag form within (front ++ b ∷ []) → AreQuoted front
-    → (TagFront form within (front ++ b ∷ []) → To form foreign within state front b (Some other)) → To form foreign within state front b (Some (in_tag b other))
-tag_to form foreign within state front b other begins quoted goes =
+tag_to : (form : Form) (foreign : Bool) (before : List ℕ) (within state : State) (front : List ℕ) (b : ℕ) (other : State) → BeginsTag form within (front ++ b ∷ []) → AreQuoted front
+    → (parts : List TagPart) → HasParts front parts → may_follow (Gap b) parts ≡ true
+    → (TagFront form within (front ++ b ∷ []) → ends_name b ≡ false → To form foreign before within state front b (Some other)) → To form foreign before within state front b (Some (in_tag b other))
+tag_to form foreign before within state front b other begins quoted parts h follows goes =
     some_if (is_white_space b) BeforeAttributeName (if b == 47 then SelfClosingTag else if b == 62 then TagEnd else other)
-    (λ e. record { is = (record { begins = begins; quoted = quoted_more front b quoted (white_no_end b e) }, λ _. white_below b e) })
-    (λ _. some_if (b == 47) SelfClosingTag (if b == 62 then TagEnd else other)
-    (λ e. record { is = ((record { begins = begins; quoted = quoted_more front b quoted (no_end b (other_byte b 47 e 62 refl)) }, snoc_ends 47 [] front b ∙ ap (λ x. x && true) e), λ _. is_byte b 47 e (omega arith)) })
-    (λ _. some_if (b == 62) TagEnd other
-    (λ e. record { is = (tag_ended form within front b begins quoted e, λ _. is_byte b 62 e (omega arith)) })
-    (λ e. goes (record { begins = begins; quoted = quoted_more front b quoted (no_end b e) }))))
+    (λ e. record { is = ((record { begins = begins; quoted = quoted_more front b quoted (white_no_end b e) }, gap_after h b (gap_part b e) follows), λ _. white_below b e) })
+    (λ w. some_if (b == 47) SelfClosingTag (if b == 62 then TagEnd else other)
+    (λ e. record {
+      is = (
+        (
+          record { begins = begins; quoted = quoted_more front b quoted (no_end b (other_byte b 47 e 62 refl)) },
+          snoc_ends 47 [] front b ∙ ap (λ x. x && true) e,
+          gap_after h b (slash_part b e) follows,
+        ),
+        λ _. is_byte b 47 e (omega arith),
+      );
+    })
+    (λ s. some_if (b == 62) TagEnd other
+    (λ e. record { is = (tag_ended form within front b begins quoted parts h e, λ _. is_byte b 62 e (omega arith)) })
+    (λ e. goes (record { begins = begins; quoted = quoted_more front b quoted (no_end b e) }) (no_name_end b w s e))))
 
-attribute_to : (form : Form) (foreign : Bool) (within state : State) (front : List ℕ) (b : ℕ) → TagFront form within front → To form foreign within state front b (Some (in_attribute b))
-attribute_to form foreign within state front b t =
+attribute_to : (form : Form) (foreign : Bool) (before : List ℕ) (within state : State) (front : List ℕ) (b n : ℕ) (ns spaces : List ℕ) (ps : List TagPart) → TagFront form within front → HasParts front (Name n ns spaces ∷ ps)
+    → (is_white_space b ≡ true → PastName (front ++ b ∷ [])) → (ends_name b ≡ false → b == 61 ≡ false → InName (front ++ b ∷ []))
+    → To form foreign before within state front b (Some (in_attribute b))
+attribute_to form foreign before within state front b n ns spaces ps t h spaced more =
     let begins = begins_more form within front b t.begins in
     some_if (is_white_space b) AfterAttributeName (if b == 47 then SelfClosingTag else if b == 62 then TagEnd else if b == 61 then BeforeAttributeValue else AttributeName)
-    (λ e. record { is = (tag_front t b (white_no_end b e), λ _. white_below b e) })
-    (λ _. some_if (b == 47) SelfClosingTag (if b == 62 then TagEnd else if b == 61 then BeforeAttributeValue else AttributeName)
-    (λ e. record { is = ((tag_front t b (no_end b (other_byte b 47 e 62 refl)), snoc_ends 47 [] front b ∙ ap (λ x. x && true) e), λ _. is_byte b 47 e (omega arith)) })
-    (λ _. some_if (b == 62) TagEnd (if b == 61 then BeforeAttributeValue else AttributeName)
-    (λ e. record { is = (tag_ended form within front b begins t.quoted e, λ _. is_byte b 62 e (omega arith)) })
-    (λ n. some_if (b == 61) BeforeAttributeValue AttributeName
-    (λ e. record { is = ((tag_front t b (no_end b n), record { head = front; spaces = []; whole = ap (λ x. front ++ x ∷ []) (eqb-true b 61 e); white = refl }), λ _. is_byte b 61 e (omega arith)) })
-    (λ _. record { is = (tag_front t b (no_end b n), absurd_bool) }))))
+    (λ e. record { is = ((tag_front t b (white_no_end b e), spaced e), λ _. white_below b e) })
+    (λ w. some_if (b == 47) SelfClosingTag (if b == 62 then TagEnd else if b == 61 then BeforeAttributeValue else AttributeName)
+    (λ e. record {
+      is = (
+        (tag_front t b (no_end b (other_byte b 47 e 62 refl)), snoc_ends 47 [] front b ∙ ap (λ x. x && true) e, gap_after h b (slash_part b e) e),
+        λ _. is_byte b 47 e (omega arith),
+      );
+    })
+    (λ s. some_if (b == 62) TagEnd (if b == 61 then BeforeAttributeValue else AttributeName)
+    (λ e. record { is = (tag_ended form within front b begins t.quoted (Name n ns spaces ∷ ps) h e, λ _. is_byte b 62 e (omega arith)) })
+    (λ x. some_if (b == 61) BeforeAttributeValue AttributeName
+    (λ e. record {
+      is = (
+        (
+          tag_front t b (no_end b x),
+          record { head = front; spaces = []; whole = ap (λ k. front ++ k ∷ []) (eqb-true b 61 e); white = refl },
+          equals_after h b e,
+        ),
+        λ _. is_byte b 61 e (omega arith),
+      );
+    })
+    (λ q. record { is = ((tag_front t b (no_end b x), more (no_name_end b w s x) q), absurd_bool) }))))
 
-unquoted_to : (form : Form) (foreign : Bool) (within state : State) (front : List ℕ) (b : ℕ) → TagFront form within front → To form foreign within state front b (Some (in_unquoted_value b))
-unquoted_to form foreign within state front b t =
+in_name_to : (form : Form) (foreign : Bool) (before : List ℕ) (within state : State) (front : List ℕ) (b : ℕ) → TagFront form within front → InName front → To form foreign before within state front b (Some (in_attribute b))
+in_name_to form foreign before within state front b t (n, ns, ps, h) =
+    attribute_to form foreign before within state front b n ns [] ps t h (in_name_spaced (n, ns, ps, h) b) (in_name_more (n, ns, ps, h) b)
+
+past_name_to : (form : Form) (foreign : Bool) (before : List ℕ) (within state : State) (front : List ℕ) (b : ℕ) → TagFront form within front → PastName front → To form foreign before within state front b (Some (in_attribute b))
+past_name_to form foreign before within state front b t (n, ns, s, spaces, ps, h) =
+    attribute_to form foreign before within state front b n ns (s ∷ spaces) ps t h (past_name_spaced (n, ns, s, spaces, ps, h) b) (past_name_more (n, ns, s, spaces, ps, h) b)
+
+unquoted_to : (form : Form) (foreign : Bool) (before : List ℕ) (within state : State) (front : List ℕ) (b : ℕ) → TagFront form within front → InValue front → To form foreign before within state front b (Some (in_unquoted_value b))
+unquoted_to form foreign before within state front b t (v, vs, ps, h) =
     some_if (is_white_space b) BeforeAttributeName (if b == 62 then TagEnd else UnquotedValue)
-    (λ e. record { is = (tag_front t b (white_no_end b e), λ _. white_below b e) })
-    (λ _. some_if (b == 62) TagEnd UnquotedValue
-    (λ e. record { is = (tag_ended form within front b (begins_more form within front b t.begins) t.quoted e, λ _. is_byte b 62 e (omega arith)) })
-    (λ e. record { is = (tag_front t b (no_end b e), absurd_bool) }))
+    (λ e. record { is = ((tag_front t b (white_no_end b e), gap_after h b (gap_part b e) refl), λ _. white_below b e) })
+    (λ w. some_if (b == 62) TagEnd UnquotedValue
+    (λ e. record { is = (tag_ended form within front b (begins_more form within front b t.begins) t.quoted (Unquoted v vs ∷ ps) h e, λ _. is_byte b 62 e (omega arith)) })
+    (λ e. record { is = ((tag_front t b (no_end b e), value_more (v, vs, ps, h) b w e), absurd_bool) }))
 
 value_opens : (front : List ℕ) (v : ValueFront front) (b k : ℕ) → b == k ≡ true → QuotedFront (front ++ b ∷ []) k
 value_opens front v b k e = record {
@@ -332,8 +384,8 @@ value_opens front v b k e = record {
   unclosed = refl;
 }
 
-value_to : (form : Form) (foreign : Bool) (within state : State) (front : List ℕ) (b : ℕ) → TagFront form within front → ValueFront front → To form foreign within state front b (Some (before_value b))
-value_to form foreign within state front b t v =
+value_to : (form : Form) (foreign : Bool) (before : List ℕ) (within state : State) (front : List ℕ) (b : ℕ) → TagFront form within front → ValueFront front → PastEquals front → To form foreign before within state front b (Some (before_value b))
+value_to form foreign before within state front b t v (spaces, ps, h) =
     some_if (is_white_space b) BeforeAttributeValue (if b == 34 then DoubleQuotedValue else if b == 39 then SingleQuotedValue else if b == 62 then TagEnd else UnquotedValue)
     (λ e. record {
       is = (
@@ -345,17 +397,18 @@ value_to form foreign within state front b t v =
             whole = ap (λ xs. xs ++ b ∷ []) v.whole ∙ append_assoc v.head (61 ∷ v.spaces) (b ∷ []);
             white = any_snoc (λ x. not (is_white_space x)) v.spaces b v.white (not_from_true (is_white_space b) e);
           },
+          equals_spaced (spaces, ps, h) b e,
         ),
         λ _. white_below b e,
       );
     })
-    (λ _. some_if (b == 34) DoubleQuotedValue (if b == 39 then SingleQuotedValue else if b == 62 then TagEnd else UnquotedValue)
-    (λ e. record { is = ((tag_front t b (no_end b (other_byte b 34 e 62 refl)), value_opens front v b 34 e), absurd_bool) })
-    (λ _. some_if (b == 39) SingleQuotedValue (if b == 62 then TagEnd else UnquotedValue)
-    (λ e. record { is = ((tag_front t b (no_end b (other_byte b 39 e 62 refl)), value_opens front v b 39 e), absurd_bool) })
-    (λ _. some_if (b == 62) TagEnd UnquotedValue
-    (λ e. record { is = (tag_ended form within front b (begins_more form within front b t.begins) t.quoted e, λ _. is_byte b 62 e (omega arith)) })
-    (λ e. record { is = (tag_front t b (no_end b e), absurd_bool) }))))
+    (λ w. some_if (b == 34) DoubleQuotedValue (if b == 39 then SingleQuotedValue else if b == 62 then TagEnd else UnquotedValue)
+    (λ e. record { is = ((tag_front t b (no_end b (other_byte b 34 e 62 refl)), value_opens front v b 34 e, quotes_opened (spaces, ps, h) b 34 e), absurd_bool) })
+    (λ d. some_if (b == 39) SingleQuotedValue (if b == 62 then TagEnd else UnquotedValue)
+    (λ e. record { is = ((tag_front t b (no_end b (other_byte b 39 e 62 refl)), value_opens front v b 39 e, quotes_opened (spaces, ps, h) b 39 e), absurd_bool) })
+    (λ s. some_if (b == 62) TagEnd UnquotedValue
+    (λ e. record { is = (tag_ended form within front b (begins_more form within front b t.begins) t.quoted (Equals spaces ∷ ps) h e, λ _. is_byte b 62 e (omega arith)) })
+    (λ e. record { is = ((tag_front t b (no_end b e), value_after (spaces, ps, h) b w d s e), absurd_bool) }))))
 
 in_quotes : (front : List ℕ) (quote : ℕ) → quote == 34 || quote == 39 ≡ true → QuotedFront front quote → IsInQuotes front
 in_quotes front quote k q = record { front = q.head; spaces = q.spaces; quote = quote; value = q.value; whole = q.whole; white = q.white; quotes = k; unclosed = q.unclosed }
@@ -371,15 +424,6 @@ quoted_on front quote b q e = record {
 }
 
 -- ---- markup that is no tag
-
-both_true : (x y z : Bool) → x && y ≡ true → (y ≡ true → z ≡ true) → x && z ≡ true
-both_true true y z e h = h e
-both_true false y z e h = cc
-
-begins_longer : (s front more : List ℕ) → begins_with s front ≡ true → begins_with s (front ++ more) ≡ true
-begins_longer [] front more e = refl
-begins_longer (c ∷ s) [] more e = cc
-begins_longer (c ∷ s) (f ∷ front) more e = both_true (f == c) (begins_with s front) (begins_with s (front ++ more)) e (begins_longer s front more)
 
 true_among : (p r : Bool) → p || true || r ≡ true
 true_among true r = refl
@@ -406,14 +450,86 @@ chosen_last false true i x y z w e f g = cc
 chosen_last false false true x y z w e f g = cc
 chosen_last false false false x y z w e f g = refl
 
+-- a '[' that begins a part in brackets
+without_true : (x : Bool) → x && true ≡ false → x ≡ false
+without_true true e = cc
+without_true false e = refl
+
+any_in : (c : Bool) (xs ys : List ℕ) → list_any (λ x. x == 91) xs ≡ false → list_any (λ x. x == 91) ys ≡ false → list_any (λ x. x == 91) (if c then xs else ys) ≡ false
+any_in true xs ys e f = e
+any_in false xs ys e f = f
+
+bracket_three : (a b c : ℕ) → has_bracket (a ∷ b ∷ c ∷ []) ≡ false
+bracket_three a b c = any_in (b == 33 && c == 45) [] [] refl refl
+
+bracket_four : (k : Bool) (bs : List ℕ) (b : ℕ) → list_any (λ x. x == 91) (if k then drop 1 bs else bs) ≡ false → b == 91 ≡ false
+    → list_any (λ x. x == 91) (if k then drop 1 (bs ++ b ∷ []) else bs ++ b ∷ []) ≡ false
+bracket_four true [] b e n = refl
+bracket_four true (x ∷ bs) b e n = any_snoc (λ x. x == 91) bs b e n
+bracket_four false bs b e n = any_snoc (λ x. x == 91) bs b e n
+
+bracket_snoc : (front : List ℕ) (b : ℕ) → has_bracket front ≡ false → b == 91 ≡ false → has_bracket (front ++ b ∷ []) ≡ false
+bracket_snoc [] b e n = refl
+bracket_snoc (x ∷ []) b e n = refl
+bracket_snoc (x ∷ y ∷ []) b e n = bracket_three x y b
+bracket_snoc (x ∷ y ∷ z ∷ front) b e n = bracket_four (y == 33 && z == 45) front b e n
+
+longer_four : (k : Bool) (bs : List ℕ) (b : ℕ) → list_any (λ x. x == 91) (if k then drop 1 bs else bs) ≡ true
+    → list_any (λ x. x == 91) (if k then drop 1 (bs ++ b ∷ []) else bs ++ b ∷ []) ≡ true
+longer_four true [] b e = cc
+longer_four true (x ∷ bs) b e = any_more (λ x. x == 91) bs b e
+longer_four false bs b e = any_more (λ x. x == 91) bs b e
+
+bracket_longer : (front : List ℕ) (b : ℕ) → has_bracket front ≡ true → has_bracket (front ++ b ∷ []) ≡ true
+bracket_longer [] b e = cc
+bracket_longer (x ∷ []) b e = cc
+bracket_longer (x ∷ y ∷ []) b e = cc
+bracket_longer (x ∷ y ∷ z ∷ front) b e = longer_four (y == 33 && z == 45) front b e
+
+next_four : (k : Bool) (bs : List ℕ) (b : ℕ) → list_any (λ x. x == 91) (if k then drop 1 (bs ++ 91 ∷ []) else bs ++ 91 ∷ []) ≡ true
+    → list_any (λ x. x == 91) (if k then drop 1 ((bs ++ b ∷ []) ++ 91 ∷ []) else (bs ++ b ∷ []) ++ 91 ∷ []) ≡ true
+next_four true [] b e = refl
+next_four true (x ∷ bs) b e = any_last (λ x. x == 91) (bs ++ b ∷ []) 91 refl
+next_four false bs b e = any_last (λ x. x == 91) (bs ++ b ∷ []) 91 refl
+
+next_more : (front : List ℕ) (b : ℕ) → has_bracket (front ++ 91 ∷ []) ≡ true → has_bracket ((front ++ b ∷ []) ++ 91 ∷ []) ≡ true
+next_more [] b e = cc
+next_more (x ∷ []) b e = cc
+next_more (x ∷ y ∷ []) b e = absurd_bool (sym (bracket_three x y 91) ∙ e)
+next_more (x ∷ y ∷ z ∷ front) b e = next_four (y == 33 && z == 45) front b e
+
+bracket_cases : (x : Bool) (front : List ℕ) (b : ℕ) → has_bracket front && x ≡ false → b == 91 && x ≡ false → has_bracket (front ++ b ∷ []) && x ≡ false
+bracket_cases true front b e n = ap (λ c. c && true) (bracket_snoc front b (without_true (has_bracket front) e) (without_true (b == 91) n))
+bracket_cases false front b e n = and_false (has_bracket (front ++ b ∷ [])) false refl
+
+no_start_of_section : (front : List ℕ) → has_bracket front ≡ true → (c : Bool) → pointwise nat_eq front (codes "<![CDATA") ≡ c → c ≡ false
+no_start_of_section front e true h = absurd_bool (sym (ap has_bracket (pointwise_same front (codes "<![CDATA") h)) ∙ e)
+no_start_of_section front e false h = refl
+
 ends_declared : (form : Form) (foreign : Bool) (bytes : List ℕ) → is_comment bytes ≡ false → is_section form foreign bytes ≡ false → is_instruction form bytes ≡ false
-    → ends_markup form foreign bytes ≡ ends_in (codes ">") bytes
+    → ends_markup form foreign bytes ≡ (if has_bracket bytes && is_xml form then ends_after_part (reverse bytes) else ends_in (codes ">") bytes)
 ends_declared form foreign bytes c s i =
-    chosen_last (is_comment bytes) (is_section form foreign bytes) (is_instruction form bytes) _ _ _ (ends_in (codes ">") bytes) c s i
+    chosen_last (is_comment bytes) (is_section form foreign bytes) (is_instruction form bytes) _ _ _ _ c s i
+
+ends_plain : (form : Form) (foreign : Bool) (bytes : List ℕ) → is_comment bytes ≡ false → is_section form foreign bytes ≡ false → is_instruction form bytes ≡ false → has_bracket bytes && is_xml form ≡ false
+    → ends_markup form foreign bytes ≡ ends_in (codes ">") bytes
+ends_plain form foreign bytes c s i k =
+    ends_declared form foreign bytes c s i ∙ ap (λ x. if x then ends_after_part (reverse bytes) else ends_in (codes ">") bytes) k
 
 ends_snoc : (form : Form) (foreign : Bool) (front : List ℕ) (b : ℕ) → NoComment front → is_section form foreign (front ++ b ∷ []) ≡ false
-    → ((more : List ℕ) → is_instruction form (front ++ more) ≡ false) → ends_markup form foreign (front ++ b ∷ []) ≡ (b == 62 && true)
-ends_snoc form foreign front b c s i = ends_declared form foreign (front ++ b ∷ []) (c (b ∷ [])) s (i (b ∷ [])) ∙ snoc_ends 62 [] front b
+    → ((more : List ℕ) → is_instruction form (front ++ more) ≡ false) → has_bracket (front ++ b ∷ []) && is_xml form ≡ false → ends_markup form foreign (front ++ b ∷ []) ≡ (b == 62 && true)
+ends_snoc form foreign front b c s i k = ends_plain form foreign (front ++ b ∷ []) (c (b ∷ [])) s (i (b ∷ [])) k ∙ snoc_ends 62 [] front b
+
+closes_snoc : (front : List ℕ) (b : ℕ) → closes_part (reverse (front ++ b ∷ [])) ≡ (b == 93 || is_white_space b && closes_part (reverse front))
+closes_snoc front b = ap closes_part (reverse-append front (b ∷ []))
+
+part_snoc : (form : Form) (foreign : Bool) (front : List ℕ) (b : ℕ) → NoComment front → is_section form foreign (front ++ b ∷ []) ≡ false
+    → ((more : List ℕ) → is_instruction form (front ++ more) ≡ false) → has_bracket (front ++ b ∷ []) ≡ true → form ≡ Xml → ends_markup form foreign (front ++ b ∷ []) ≡ (b == 62 && closes_part (reverse front))
+part_snoc form foreign front b c s i k x =
+    ends_declared form foreign (front ++ b ∷ []) (c (b ∷ [])) s (i (b ∷ []))
+    ∙ ap (λ y. if y && is_xml form then ends_after_part (reverse (front ++ b ∷ [])) else ends_in (codes ">") (front ++ b ∷ [])) k
+    ∙ ap (λ y. if is_xml y then ends_after_part (reverse (front ++ b ∷ [])) else ends_in (codes ">") (front ++ b ∷ [])) x
+    ∙ ap ends_after_part (reverse-append front (b ∷ []))
 
 section_snoc : (form : Form) (foreign : Bool) (front : List ℕ) (b : ℕ) → is_section form foreign front ≡ false → b == 91 && (is_xml form || foreign) && pointwise nat_eq front (codes "<![CDATA") ≡ false
     → is_section form foreign (front ++ b ∷ []) ≡ false
@@ -421,56 +537,83 @@ section_snoc form foreign front b e n =
     section_not (begins_with (codes "<![CDATA[") (front ++ b ∷ [])) (begins_with (codes "<![CDATA[") front) (pointwise nat_eq front (codes "<![CDATA")) (b == 91) (is_xml form || foreign)
     (begins_snoc (codes "<![CDATA") front 91 b) e n
 
-declared_more : (form : Form) (foreign : Bool) (front : List ℕ) (b : ℕ) → Declared form foreign front → b == 62 ≡ false → is_section form foreign (front ++ b ∷ []) ≡ false → Declared form foreign (front ++ b ∷ [])
-declared_more form foreign front b d e s = record {
+declared_more : (form : Form) (foreign : Bool) (front : List ℕ) (b : ℕ) → Declared form foreign front → b == 62 ≡ false → is_section form foreign (front ++ b ∷ []) ≡ false → b == 91 && is_xml form ≡ false
+    → Declared form foreign (front ++ b ∷ [])
+declared_more form foreign front b d e s k = record {
   opens = opens_more front (b ∷ []) d.opens;
   no_tag = λ more. ap (begins_tag form) (append_assoc front (b ∷ []) more) ∙ d.no_tag (b ∷ more);
   no_comment = λ more. ap is_comment (append_assoc front (b ∷ []) more) ∙ d.no_comment (b ∷ more);
   no_instruction = λ more. ap (is_instruction form) (append_assoc front (b ∷ []) more) ∙ d.no_instruction (b ∷ more);
   no_section = s;
-  none = none_more (ends_markup form foreign) front b d.none (ends_snoc form foreign front b d.no_comment s d.no_instruction ∙ ap (λ x. x && true) e);
+  no_bracket = bracket_cases (is_xml form) front b d.no_bracket k;
+  bracket_next = λ x. next_more front b (d.bracket_next x);
+  none = none_more (ends_markup form foreign) front b d.none (ends_snoc form foreign front b d.no_comment s d.no_instruction (bracket_cases (is_xml form) front b d.no_bracket k) ∙ ap (λ x. x && true) e);
 }
 
 declared_done : (form : Form) (foreign : Bool) (front : List ℕ) (b : ℕ) → Declared form foreign front → b == 62 ≡ true → MarkupDone form foreign (front ++ b ∷ [])
 declared_done form foreign front b d e =
     let s = section_snoc form foreign front b d.no_section (ap (λ x. x && (is_xml form || foreign) && pointwise nat_eq front (codes "<![CDATA")) (other_byte b 62 e 91 refl)) in
+    let k = bracket_cases (is_xml form) front b d.no_bracket (ap (λ x. x && is_xml form) (other_byte b 62 e 91 refl)) in
     record {
       no_tag = d.no_tag (b ∷ []);
       is = λ rest. (
         opens_more front (b ∷ []) d.opens,
-        inl (ends_here (ends_markup form foreign) front b rest d.none (ends_snoc form foreign front b d.no_comment s d.no_instruction ∙ ap (λ x. x && true) e)),
+        (ends_here (ends_markup form foreign) front b rest d.none (ends_snoc form foreign front b d.no_comment s d.no_instruction k ∙ ap (λ x. x && true) e)),
       );
     }
 
-with_part : (form : Form) (foreign : Bool) (front : List ℕ) (b : ℕ) → Declared form foreign front → form ≡ Xml → b == 91 ≡ true → WithPart form (front ++ b ∷ [])
-with_part form foreign front b d x e = record {
-  opens = opens_more front (b ∷ []) d.opens;
-  no_tag = λ more. ap (begins_tag form) (append_assoc front (b ∷ []) more) ∙ d.no_tag (b ∷ more);
-  no_comment = λ more. ap is_comment (append_assoc front (b ∷ []) more) ∙ d.no_comment (b ∷ more);
-  xml = x;
-  part = any_last (λ c. c == 91) front b e;
-}
+with_part : (form : Form) (foreign : Bool) (front : List ℕ) (b : ℕ) → Declared form foreign front → form ≡ Xml → b == 91 ≡ true → is_section form foreign (front ++ b ∷ []) ≡ false → WithPart form foreign (front ++ b ∷ []) false
+with_part form foreign front b d x e s =
+    let bracket : has_bracket (front ++ b ∷ []) ≡ true = ap (λ k. has_bracket (front ++ k ∷ [])) (eqb-true b 91 e) ∙ d.bracket_next x in
+    record {
+      opens = opens_more front (b ∷ []) d.opens;
+      no_tag = λ more. ap (begins_tag form) (append_assoc front (b ∷ []) more) ∙ d.no_tag (b ∷ more);
+      no_comment = λ more. ap is_comment (append_assoc front (b ∷ []) more) ∙ d.no_comment (b ∷ more);
+      no_instruction = λ more. ap (is_instruction form) (append_assoc front (b ∷ []) more) ∙ d.no_instruction (b ∷ more);
+      no_section = s;
+      xml = x;
+      bracket = bracket;
+      none = none_more (ends_markup form foreign) front b d.none
+          (part_snoc form foreign front b d.no_comment s d.no_instruction bracket x ∙ ap (λ y. y && closes_part (reverse front)) (other_byte b 91 e 62 refl));
+      closed_is = closes_snoc front b ∙ ap (λ k. k == 93 || is_white_space k && closes_part (reverse front)) (eqb-true b 91 e);
+    }
 
-part_more : (form : Form) (front : List ℕ) (b : ℕ) → WithPart form front → WithPart form (front ++ b ∷ [])
-part_more form front b d = record {
-  opens = opens_more front (b ∷ []) d.opens;
-  no_tag = λ more. ap (begins_tag form) (append_assoc front (b ∷ []) more) ∙ d.no_tag (b ∷ more);
-  no_comment = λ more. ap is_comment (append_assoc front (b ∷ []) more) ∙ d.no_comment (b ∷ more);
-  xml = d.xml;
-  part = any_more (λ c. c == 91) front b d.part;
-}
+part_section : (form : Form) (foreign : Bool) (front : List ℕ) (b : ℕ) (closed : Bool) → WithPart form foreign front closed → is_section form foreign (front ++ b ∷ []) ≡ false
+part_section form foreign front b closed d =
+    section_snoc form foreign front b d.no_section
+    (and_false (b == 91 && (is_xml form || foreign)) (pointwise nat_eq front (codes "<![CDATA")) (no_start_of_section front d.bracket (pointwise nat_eq front (codes "<![CDATA")) refl))
+
+part_more : (form : Form) (foreign : Bool) (front : List ℕ) (b : ℕ) (closed next : Bool) → WithPart form foreign front closed → b == 62 && closed ≡ false → (b == 93 || is_white_space b && closed) ≡ next
+    → WithPart form foreign (front ++ b ∷ []) next
+part_more form foreign front b closed next d e n =
+    let s = part_section form foreign front b closed d in
+    let bracket = bracket_longer front b d.bracket in
+    record {
+      opens = opens_more front (b ∷ []) d.opens;
+      no_tag = λ more. ap (begins_tag form) (append_assoc front (b ∷ []) more) ∙ d.no_tag (b ∷ more);
+      no_comment = λ more. ap is_comment (append_assoc front (b ∷ []) more) ∙ d.no_comment (b ∷ more);
+      no_instruction = λ more. ap (is_instruction form) (append_assoc front (b ∷ []) more) ∙ d.no_instruction (b ∷ more);
+      no_section = s;
+      xml = d.xml;
+      bracket = bracket;
+      none = none_more (ends_markup form foreign) front b d.none (part_snoc form foreign front b d.no_comment s d.no_instruction bracket d.xml ∙ ap (λ y. b == 62 && y) d.closed_is ∙ e);
+      closed_is = closes_snoc front b ∙ ap (λ y. b == 93 || is_white_space b && y) d.closed_is ∙ n;
+    }
 
 nothing_more : (front : List ℕ) → front ++ [] ≡ front
 nothing_more [] = refl
 nothing_more (x ∷ front) = ap (λ xs. x ∷ xs) (nothing_more front)
 
-part_markup : (form : Form) (foreign : Bool) (front rest : List ℕ) → WithPart form front → IsMarkup form foreign front rest
-part_markup form foreign front rest d = (d.opens, inr (d.xml, ap is_comment (sym (nothing_more front)) ∙ d.no_comment [], d.part))
-
-part_done : (form : Form) (foreign : Bool) (front : List ℕ) (b : ℕ) → WithPart form front → MarkupDone form foreign (front ++ b ∷ [])
-part_done form foreign front b d =
-    let p = part_more form front b d in
-    record { no_tag = d.no_tag (b ∷ []); is = λ rest. part_markup form foreign (front ++ b ∷ []) rest p }
+part_done : (form : Form) (foreign : Bool) (front : List ℕ) (b : ℕ) → WithPart form foreign front true → b == 62 ≡ true → MarkupDone form foreign (front ++ b ∷ [])
+part_done form foreign front b d e = record {
+  no_tag = d.no_tag (b ∷ []);
+  is = λ rest. (
+    opens_more front (b ∷ []) d.opens,
+    ends_here (ends_markup form foreign) front b rest d.none
+        (part_snoc form foreign front b d.no_comment (part_section form foreign front b true d) d.no_instruction (bracket_longer front b d.bracket) d.xml
+        ∙ ap (λ y. b == 62 && y) d.closed_is ∙ ap (λ x. x && true) e),
+  );
+}
 
 -- markup that begins so is no tag
 bang_no_tag : (form : Form) (more : List ℕ) → begins_tag form (60 ∷ 33 ∷ more) ≡ false
@@ -491,6 +634,10 @@ slash_tag Xml b e = ap (λ x. false || x) e
 
 open_tag : (form : Form) (b : ℕ) → is_name_start form b ≡ true → begins_tag form (60 ∷ b ∷ []) ≡ true
 open_tag form b e = ap (λ x. x || (b == 47 && true) && false) e
+
+name_start_stays : (form : Form) (b : ℕ) → is_name_start form b ≡ true → ends_name b ≡ false
+name_start_stays Html b e = grind (arith, nat_tests)
+name_start_stays Xml b e = grind (arith, nat_tests)
 
 end_no_name : {A : Type 0} (form : Form) (b : ℕ) → is_name_start form b ≡ true → b ≡ 62 → A
 end_no_name Html b e is = absurd_bool (subst (λ x. is_name_start Html x ≡ true) is e)
@@ -535,7 +682,7 @@ comment_markup form foreign front dash dashes own_dash own_dashes bang b c e =
     let whole : front ++ b ∷ [] ≡ 60 ∷ 33 ∷ 45 ∷ 45 ∷ (c.body ++ b ∷ []) = ap (λ xs. xs ++ b ∷ []) c.whole in
     record {
       no_tag = ap (begins_tag form) whole ∙ bang_no_tag form (45 ∷ 45 ∷ (c.body ++ b ∷ []));
-      is = λ rest. (ap opens_markup whole, inl (comment_done form foreign front dash dashes own_dash own_dashes bang b rest c e));
+      is = λ rest. (ap opens_markup whole, (comment_done form foreign front dash dashes own_dash own_dashes bang b rest c e));
     }
 
 in_comment_ends : (form : Form) (bang : Bool) (b : ℕ) → not (is_xml form) && bang ≡ false → comment_ends form false false bang b ≡ false
@@ -580,7 +727,7 @@ xml_by Xml e = refl
 cdata_ends : (form : Form) (foreign : Bool) (bytes body : List ℕ) → bytes ≡ 60 ∷ 33 ∷ 91 ∷ 67 ∷ 68 ∷ 65 ∷ 84 ∷ 65 ∷ 91 ∷ body → is_xml form || foreign ≡ true → ends_markup form foreign bytes ≡ ends_in (codes "]]>") bytes
 cdata_ends form foreign bytes body whole taken =
     ap (ends_markup form foreign) whole
-    ∙ ap (λ c. if c then ends_in (codes "]]>") (60 ∷ 33 ∷ 91 ∷ 67 ∷ 68 ∷ 65 ∷ 84 ∷ 65 ∷ 91 ∷ body) else ends_in (codes ">") (60 ∷ 33 ∷ 91 ∷ 67 ∷ 68 ∷ 65 ∷ 84 ∷ 65 ∷ 91 ∷ body)) taken
+    ∙ ap (λ c. if c then ends_in (codes "]]>") (60 ∷ 33 ∷ 91 ∷ 67 ∷ 68 ∷ 65 ∷ 84 ∷ 65 ∷ 91 ∷ body) else if is_xml form then ends_after_part (reverse (60 ∷ 33 ∷ 91 ∷ 67 ∷ 68 ∷ 65 ∷ 84 ∷ 65 ∷ 91 ∷ body)) else ends_in (codes ">") (60 ∷ 33 ∷ 91 ∷ 67 ∷ 68 ∷ 65 ∷ 84 ∷ 65 ∷ 91 ∷ body)) taken
     ∙ ap (ends_in (codes "]]>")) (sym whole)
 
 section_more : (form : Form) (foreign : Bool) (front : List ℕ) (last two : Bool) (b : ℕ) → Sectioned form foreign (codes "<![CDATA[") front last two → b == 62 && two ≡ false
@@ -614,7 +761,7 @@ section_done form foreign front last b s e =
       no_tag = ap (begins_tag form) whole ∙ bang_no_tag form (91 ∷ 67 ∷ 68 ∷ 65 ∷ 84 ∷ 65 ∷ 91 ∷ (s.body ++ b ∷ []));
       is = λ rest. (
         ap opens_markup whole,
-        inl (ends_here (ends_markup form foreign) front b rest s.none
+        (ends_here (ends_markup form foreign) front b rest s.none
             (cdata_ends form foreign (front ++ b ∷ []) (s.body ++ b ∷ []) whole s.taken ∙ snoc_ends 62 (93 ∷ 93 ∷ []) front b ∙ ap (λ x. b == 62 && x) s.last_two_is ∙ ap (λ x. x && true) e)),
       );
     }
@@ -657,7 +804,7 @@ instruction_done form foreign front b s e =
       no_tag = ap (begins_tag form) whole ∙ mark_no_tag form (s.body ++ b ∷ []);
       is = λ rest. (
         ap opens_markup whole,
-        inl (ends_here (ends_markup form foreign) front b rest s.none
+        (ends_here (ends_markup form foreign) front b rest s.none
             (instruction_ends form foreign (front ++ b ∷ []) (s.body ++ b ∷ []) whole s.xml ∙ snoc_ends 62 (63 ∷ []) s.body b ∙ ap (λ x. b == 62 && x) s.mark_is ∙ ap (λ x. x && true) e)),
       );
     }
@@ -676,6 +823,8 @@ question_declared form foreign x = record {
   no_comment = λ more. refl;
   no_instruction = λ more. x;
   no_section = refl;
+  no_bracket = refl;
+  bracket_next = λ xml. absurd_bool (sym x ∙ ap is_xml xml);
   none = none_mark form foreign;
 }
 
@@ -689,7 +838,9 @@ bang_declared form foreign b d e =
       no_comment = c;
       no_instruction = λ more. refl;
       no_section = s;
-      none = none_more (ends_markup form foreign) (60 ∷ 33 ∷ []) b (none_bang form foreign) (ends_declared form foreign (60 ∷ 33 ∷ b ∷ []) (c []) s refl ∙ snoc_ends 62 [] (60 ∷ 33 ∷ []) b ∙ ap (λ x. x && true) e);
+      no_bracket = ap (λ x. x && is_xml form) (bracket_three 60 33 b);
+      bracket_next = λ _. ap (λ k. list_any (λ x. x == 91) (if k then drop 1 (91 ∷ []) else 91 ∷ [])) d;
+      none = none_more (ends_markup form foreign) (60 ∷ 33 ∷ []) b (none_bang form foreign) (ends_plain form foreign (60 ∷ 33 ∷ b ∷ []) (c []) s refl (ap (λ x. x && is_xml form) (bracket_three 60 33 b)) ∙ snoc_ends 62 [] (60 ∷ 33 ∷ []) b ∙ ap (λ x. x && true) e);
     }
 
 dash_declared : (form : Form) (foreign : Bool) (b : ℕ) → b == 45 ≡ false → b == 62 ≡ false → Declared form foreign (60 ∷ 33 ∷ 45 ∷ b ∷ [])
@@ -701,7 +852,9 @@ dash_declared form foreign b d e =
       no_comment = c;
       no_instruction = λ more. refl;
       no_section = refl;
-      none = none_more (ends_markup form foreign) (60 ∷ 33 ∷ 45 ∷ []) b (none_dash form foreign) (ends_declared form foreign (60 ∷ 33 ∷ 45 ∷ b ∷ []) (c []) refl refl ∙ snoc_ends 62 [] (60 ∷ 33 ∷ 45 ∷ []) b ∙ ap (λ x. x && true) e);
+      no_bracket = refl;
+      bracket_next = λ _. refl;
+      none = none_more (ends_markup form foreign) (60 ∷ 33 ∷ 45 ∷ []) b (none_dash form foreign) (ends_plain form foreign (60 ∷ 33 ∷ 45 ∷ b ∷ []) (c []) refl refl refl ∙ snoc_ends 62 [] (60 ∷ 33 ∷ 45 ∷ []) b ∙ ap (λ x. x && true) e);
     }
 
 slash_declared : (form : Form) (foreign : Bool) (b : ℕ) → is_name_start form b ≡ false → b == 62 ≡ false → Declared form foreign (60 ∷ 47 ∷ b ∷ [])
@@ -711,6 +864,8 @@ slash_declared form foreign b d e = record {
   no_comment = λ more. refl;
   no_instruction = λ more. refl;
   no_section = refl;
+  no_bracket = refl;
+  bracket_next = λ _. refl;
   none = none_more (ends_markup form foreign) (60 ∷ 47 ∷ []) b (none_slash form foreign) (snoc_ends 62 [] (60 ∷ 47 ∷ []) b ∙ ap (λ x. x && true) e);
 }
 
@@ -718,13 +873,13 @@ slash_declared form foreign b d e = record {
 bang_done : (form : Form) (foreign : Bool) → MarkupDone form foreign (60 ∷ 33 ∷ 62 ∷ [])
 bang_done form foreign = record {
   no_tag = bang_no_tag form (62 ∷ []);
-  is = λ rest. (refl, inl (ends_here (ends_markup form foreign) (60 ∷ 33 ∷ []) 62 rest (none_bang form foreign) refl));
+  is = λ rest. (refl, (ends_here (ends_markup form foreign) (60 ∷ 33 ∷ []) 62 rest (none_bang form foreign) refl));
 }
 
 dash_done : (form : Form) (foreign : Bool) → MarkupDone form foreign (60 ∷ 33 ∷ 45 ∷ 62 ∷ [])
 dash_done form foreign = record {
   no_tag = bang_no_tag form (45 ∷ 62 ∷ []);
-  is = λ rest. (refl, inl (ends_here (ends_markup form foreign) (60 ∷ 33 ∷ 45 ∷ []) 62 rest (none_dash form foreign) refl));
+  is = λ rest. (refl, (ends_here (ends_markup form foreign) (60 ∷ 33 ∷ 45 ∷ []) 62 rest (none_dash form foreign) refl));
 }
 
 no_name : (form : Form) → is_name_start form 62 ≡ false
@@ -734,7 +889,7 @@ no_name Xml = refl
 slash_done : (form : Form) (foreign : Bool) → MarkupDone form foreign (60 ∷ 47 ∷ 62 ∷ [])
 slash_done form foreign = record {
   no_tag = slash_no_tag form 62 [] (no_name form);
-  is = λ rest. (refl, inl (ends_here (ends_markup form foreign) (60 ∷ 47 ∷ []) 62 rest (none_slash form foreign) refl));
+  is = λ rest. (refl, (ends_here (ends_markup form foreign) (60 ∷ 47 ∷ []) 62 rest (none_slash form foreign) refl));
 }
 
 -- ---- raw text
@@ -751,36 +906,50 @@ raw_part (f ∷ front) b some e h = any_snoc (λ c. c == 60) front b e h
 some_more : (front : List ℕ) (b : ℕ) → (x : ℕ) × (xs : List ℕ) × (front ≡ x ∷ xs) → (x : ℕ) × (xs : List ℕ) × (front ++ b ∷ [] ≡ x ∷ xs)
 some_more front b (x, xs, is) = (x, xs ++ b ∷ [], ap (λ ys. ys ++ b ∷ []) is)
 
-raw_more : (element : RawElement) (front : List ℕ) (b : ℕ) → RawFront element front → b == 60 ≡ false → (is_script element ≡ false → ends_tag (raw_end_tag element) front b ≡ false) → RawFront element (front ++ b ∷ [])
-raw_more element front b r e ends = record {
+raw_more : (element : RawElement) (before front : List ℕ) (b : ℕ) → RawFront element before front → b == 60 ≡ false
+    → (ends_tag (raw_end_tag element) front b ≡ true → (is_script element ≡ true) × IsDoubleEscaped (before ++ front)) → RawFront element before (front ++ b ∷ [])
+raw_more element before front b r e ends = record {
   part = raw_part front b r.some r.part e;
   some = some_more front b r.some;
-  goes_on = λ script n lt.
+  begins = part_longer r.begins b;
+  goes_on = λ n lt is.
       elim (cases_lt n (length front)) [
         | inl less ↦
-            ap (λ xs. ends_tag (raw_end_tag element) xs (get_or (front ++ b ∷ []) n 0)) (take_snoc front b n (omega (arith, less)))
-            ∙ ap (λ x. ends_tag (raw_end_tag element) (take n front) x) (get_snoc front b n less) ∙ r.goes_on script n less
+            let same : take n (front ++ b ∷ []) ≡ take n front = take_snoc front b n (omega (arith, less)) in
+            let told =
+            r.goes_on n less
+            (ap (λ xs. ends_tag (raw_end_tag element) xs (get_or front n 0)) (sym same)
+            ∙ ap (λ x. ends_tag (raw_end_tag element) (take n (front ++ b ∷ [])) x) (sym (get_snoc front b n less)) ∙ is) in
+            (told.0, subst (λ xs. IsDoubleEscaped (before ++ xs)) (sym same) told.1)
         | inr more ↦
             let same : length front ≡ n = omega (arith, more, lt, length_snoc front b) in
-            subst (λ k. ends_tag (raw_end_tag element) (take k (front ++ b ∷ [])) (get_or (front ++ b ∷ []) k 0) ≡ false) same (last_ends (raw_end_tag element) front b ∙ ends script)
+            let all : take n (front ++ b ∷ []) ≡ front = take_snoc front b n (omega (arith, same)) ∙ take_all n front (omega (arith, same)) in
+            let told =
+            ends
+            (sym (last_ends (raw_end_tag element) front b)
+            ∙ ap (λ k. ends_tag (raw_end_tag element) (take k (front ++ b ∷ [])) (get_or (front ++ b ∷ []) k 0)) same ∙ is) in
+            (told.0, subst (λ xs. IsDoubleEscaped (before ++ xs)) (sym all) told.1)
       ];
 }
 
-raw_is : (element : RawElement) (front rest : List ℕ) → RawFront element front → StopsAt (λ b. b == 60) rest → IsRawText element front rest
-raw_is element front rest r s = record { part = r.part; stops = s; goes_on = r.goes_on }
+raw_is : (element : RawElement) (before front rest : List ℕ) → RawFront element before front → StopsAt (λ b. b == 60) rest → IsRawText element before front rest
+raw_is element before front rest r s = record { part = r.part; stops = s; goes_on = r.goes_on }
 
 closes : (element : RawElement) (front : List ℕ) (b : ℕ) → ends_tag (raw_end_tag element) front b ≡ true → IsEndTagOf element (front ++ b ∷ [])
 closes element front b e = (length front, omega (arith, length_snoc front b), last_ends (raw_end_tag element) front b ∙ e)
 
 -- ---- one byte more, by each state
 
-ascii : {form : Form} {foreign : Bool} {within state : State} {front : List ℕ} {b : ℕ} (after : State) → Stands form foreign within after (front ++ b ∷ []) → b < 128
-    → To form foreign within state front b (Some after)
+ascii : {form : Form} {foreign : Bool} {before : List ℕ} {within state : State} {front : List ℕ} {b : ℕ} (after : State) → Stands form foreign before within after (front ++ b ∷ []) → b < 128
+    → To form foreign before within state front b (Some after)
 ascii after s lt = record { is = (s, λ _. lt) }
 
-any : {form : Form} {foreign : Bool} {within state : State} {front : List ℕ} {b : ℕ} (after : State) → Stands form foreign within after (front ++ b ∷ []) → is_ascii after ≡ false
-    → To form foreign within state front b (Some after)
+any : {form : Form} {foreign : Bool} {before : List ℕ} {within state : State} {front : List ℕ} {b : ℕ} (after : State) → Stands form foreign before within after (front ++ b ∷ []) → is_ascii after ≡ false
+    → To form foreign before within state front b (Some after)
 any after s e = record { is = (s, λ h. absurd_bool (sym e ∙ h)) }
+
+name_start_parts : (form : Form) (front start : List ℕ) (b : ℕ) → (start ≡ codes "<") ⊎ (start ≡ codes "</") → front ≡ start → is_name_start form b ≡ true → HasParts (front ++ b ∷ []) []
+name_start_parts form front start b starts e name = tag_begun front start b starts e (name_start_stays form b name)
 
 name_begun : (form : Form) (within : State) (front start : List ℕ) (b : ℕ) → within ≡ Data → front ≡ start → AreQuoted start → begins_tag form (start ++ b ∷ []) ≡ true → is_name_start form b ≡ true
     → TagFront form within (front ++ b ∷ [])
@@ -799,25 +968,25 @@ one_name b e = ap (λ x. x && true) e
 comment_on : {form : Form} {foreign : Bool} {front : List ℕ} (bang : Bool) → CommentFront form foreign front false false false false bang → not (is_xml form) && bang ≡ false → InComment form foreign front
 comment_on bang c e = (bang, c, e)
 
-stray : (form : Form) (foreign : Bool) (within : State) (front rest : List ℕ) → within ≡ Data → front ≡ codes "<" → IsOther form foreign within front rest
-stray form foreign within front rest c e =
-    subst (λ k. IsOther form foreign k front rest) (sym c)
+stray : (form : Form) (foreign : Bool) (before : List ℕ) (within : State) (front rest : List ℕ) → within ≡ Data → front ≡ codes "<" → IsOther form foreign before within front rest
+stray form foreign before within front rest c e =
+    subst (λ k. IsOther form foreign before k front rest) (sym c)
     ((λ t. absurd_bool (sym (ap (begins_tag form) e) ∙ t)), (λ _. inl e))
 
-markup_other : (form : Form) (foreign : Bool) (within : State) (front rest : List ℕ) → within ≡ Data → begins_tag form front ≡ false → IsMarkup form foreign front rest → IsOther form foreign within front rest
-markup_other form foreign within front rest c n m = subst (λ k. IsOther form foreign k front rest) (sym c) ((λ t. absurd_bool (sym n ∙ t)), (λ _. inr m))
+markup_other : (form : Form) (foreign : Bool) (before : List ℕ) (within : State) (front rest : List ℕ) → within ≡ Data → begins_tag form front ≡ false → IsMarkup form foreign front rest → IsOther form foreign before within front rest
+markup_other form foreign before within front rest c n m = subst (λ k. IsOther form foreign before k front rest) (sym c) ((λ t. absurd_bool (sym n ∙ t)), (λ _. inr m))
 
-raw_other : (form : Form) (foreign : Bool) (within : State) (element : RawElement) (front rest : List ℕ) → within ≡ Raw element → RawFront element front → StopsAt (λ b. b == 60) rest → IsOther form foreign within front rest
-raw_other form foreign within element front rest c r s = subst (λ k. IsOther form foreign k front rest) (sym c) (inl (raw_is element front rest r s))
+raw_other : (form : Form) (foreign : Bool) (before : List ℕ) (within : State) (element : RawElement) (front rest : List ℕ) → within ≡ Raw element → RawFront element before front → StopsAt (λ b. b == 60) rest → IsOther form foreign before within front rest
+raw_other form foreign before within element front rest c r s = subst (λ k. IsOther form foreign before k front rest) (sym c) (inl (raw_is element before front rest r s))
 
-tag_kind : (form : Form) (foreign : Bool) (within : State) (front rest : List ℕ) (c : Bool) → is_end_tag front ≡ c → TagDone form within front → IsInGrammar form foreign within (if c then EndTag else StartTag) front rest
-tag_kind form foreign within front rest true e t = (tag_is form within front t, e)
-tag_kind form foreign within front rest false e t = (tag_is form within front t, e)
+tag_kind : (form : Form) (foreign : Bool) (before : List ℕ) (within : State) (front rest : List ℕ) (c : Bool) → is_end_tag front ≡ c → TagDone form within front → IsInGrammar form foreign before within (if c then EndTag else StartTag) front rest
+tag_kind form foreign before within front rest true e t = (tag_is form within front t, e)
+tag_kind form foreign before within front rest false e t = (tag_is form within front t, e)
 
-empty_kind : (form : Form) (foreign : Bool) (within : State) (front rest : List ℕ) (c : Bool) → is_end_tag front ≡ c → TagDone form within front → ends_in (codes "/>") front ≡ true
-    → IsInGrammar form foreign within (if c then EndTag else EmptyTag) front rest
-empty_kind form foreign within front rest true e t s = (tag_is form within front t, e)
-empty_kind form foreign within front rest false e t s = (tag_is form within front t, e, s)
+empty_kind : (form : Form) (foreign : Bool) (before : List ℕ) (within : State) (front rest : List ℕ) (c : Bool) → is_end_tag front ≡ c → TagDone form within front → ends_in (codes "/>") front ≡ true
+    → IsInGrammar form foreign before within (if c then EndTag else EmptyTag) front rest
+empty_kind form foreign before within front rest true e t s = (tag_is form within front t, e)
+empty_kind form foreign before within front rest false e t s = (tag_is form within front t, e, s)
 
 -- in raw text there is no '>' before the end of the name of its end tag
 lower_end : (b t : ℕ) → nat_eq (to_ascii_lowercase b) (to_ascii_lowercase t) ≡ true → to_ascii_lowercase t == 62 ≡ false → b ≡ 62 → ⊥
@@ -853,14 +1022,23 @@ script_by Noframes e = cc
 raw_quoted : (element : RawElement) (front : List ℕ) (b : ℕ) → ends_tag (raw_end_tag element) front b ≡ true → AreQuoted front
 raw_quoted element front b e = λ n lt is. absurd (name_quoted front (raw_end_tag element) (and_right (ends_name b) (is_same_name front (raw_end_tag element)) e) (raw_tag_plain element) n lt is)
 
-raw_ended : (form : Form) (foreign : Bool) (within state : State) (element : RawElement) (front : List ℕ) (b : ℕ) → within ≡ Raw element → ends_tag (raw_end_tag element) front b ≡ true
-    → To form foreign within state front b (Some (in_tag b TagName))
-raw_ended form foreign within state element front b c e =
-    tag_to form foreign within state front b TagName (subst (λ k. BeginsTag form k (front ++ b ∷ [])) (sym c) (closes element front b e)) (raw_quoted element front b e) (λ t. any TagName t refl)
+raw_ended : (form : Form) (foreign : Bool) (before : List ℕ) (within state : State) (element : RawElement) (front : List ℕ) (b : ℕ) → within ≡ Raw element → ends_tag (raw_end_tag element) front b ≡ true
+    → To form foreign before within state front b (Some (in_tag b TagName))
+raw_ended form foreign before within state element front b c e =
+    let h = raw_end_parts element front (and_right (ends_name b) (is_same_name front (raw_end_tag element)) e) in
+    tag_to form foreign before within state front b TagName (subst (λ k. BeginsTag form k (front ++ b ∷ [])) (sym c) (closes element front b e)) (raw_quoted element front b e) [] h refl
+    (λ t n. any TagName (t, name_grown h b n) refl)
 
-raw_on : (element : RawElement) (front : List ℕ) (b : ℕ) → RawFront element front → element ≡ Script → b == 60 ≡ false → RawFront Script (front ++ b ∷ [])
-raw_on element front b r is e =
-    subst (λ x. RawFront x (front ++ b ∷ [])) is (raw_more element front b r e (λ n. absurd_bool (sym n ∙ ap is_script is)))
+raw_on : (element : RawElement) (before front : List ℕ) (b : ℕ) → RawFront element before front → element ≡ Script → b == 60 ≡ false
+    → (ends_tag (raw_end_tag element) front b ≡ true → (is_script element ≡ true) × IsDoubleEscaped (before ++ front)) → RawFront Script before (front ++ b ∷ [])
+raw_on element before front b r is e ends = subst (λ x. RawFront x before (front ++ b ∷ [])) is (raw_more element before front b r e ends)
+
+none_ends : {A : Type 0} (c : Bool) → c ≡ false → c ≡ true → A
+none_ends c e h = absurd_bool (sym e ∙ h)
+
+pub and_true : (x : Bool) → x && true ≡ x
+and_true true = refl
+and_true false = refl
 
 part_below : (b : ℕ) → b == 93 || is_white_space b ≡ true → b < 128
 part_below b e = grind (arith, nat_tests)
@@ -873,15 +1051,15 @@ section_on : (form : Form) (foreign : Bool) (front : List ℕ) (last two : Bool)
 section_on form foreign front last two b last' two' s e f g =
     section_at form foreign (front ++ b ∷ []) (b == 93 && true) (b == 93 && last) last' two' (section_more form foreign front last two b s e) f g
 
-start_cases : (form : Form) (foreign : Bool) (within : State) (b : ℕ) (x y : Bool) → b == 60 ≡ x → b == 38 ≡ y → within ≡ Data
-    → Stands form foreign within (if x then TagOpen else if y then CharacterReference else Data) (b ∷ []) × (is_ascii (if x then TagOpen else if y then CharacterReference else Data) ≡ true → b < 128)
-start_cases form foreign within b true y e f c = ((c, ap (λ k. k ∷ []) (eqb-true b 60 e)), λ _. is_byte b 60 e (omega arith))
-start_cases form foreign within b false true e f c = ((c, ap (λ k. k ∷ []) (eqb-true b 38 f)), λ _. is_byte b 38 f (omega arith))
-start_cases form foreign within b false false e f c = ((c, (ap (λ k. k || b == 38) e ∙ f, tt)), absurd_bool)
+start_cases : (form : Form) (foreign : Bool) (before : List ℕ) (within : State) (b : ℕ) (x y : Bool) → b == 60 ≡ x → b == 38 ≡ y → within ≡ Data
+    → Stands form foreign before within (if x then TagOpen else if y then CharacterReference else Data) (b ∷ []) × (is_ascii (if x then TagOpen else if y then CharacterReference else Data) ≡ true → b < 128)
+start_cases form foreign before within b true y e f c = ((c, ap (λ k. k ∷ []) (eqb-true b 60 e)), λ _. is_byte b 60 e (omega arith))
+start_cases form foreign before within b false true e f c = ((c, ap (λ k. k ∷ []) (eqb-true b 38 f)), λ _. is_byte b 38 f (omega arith))
+start_cases form foreign before within b false false e f c = ((c, (ap (λ k. k || b == 38) e ∙ f, tt)), absurd_bool)
 
-pub data_starts : (form : Form) (foreign : Bool) (within : State) (b : ℕ) → within ≡ Data → Starts form foreign within Data b
+pub data_starts : (form : Form) (foreign : Bool) (before : List ℕ) (within : State) (b : ℕ) → within ≡ Data → Starts form foreign before within Data b
 unfolding begin
-data_starts form foreign within b c = start_cases form foreign within b (b == 60) (b == 38) refl refl c
+data_starts form foreign before within b c = start_cases form foreign before within b (b == 60) (b == 38) refl refl c
 
 raw_tag_some : (element : RawElement) → is_same_name [] (raw_end_tag element) ≡ false
 unfolding is_same_name
@@ -894,14 +1072,19 @@ raw_tag_some Iframe = refl
 raw_tag_some Noembed = refl
 raw_tag_some Noframes = refl
 
-raw_starts : (element : RawElement) (b : ℕ) → RawFront element (b ∷ [])
-raw_starts element b = record {
+raw_starts : (element : RawElement) (before : List ℕ) (b : ℕ) → BeginsPart before (b ∷ []) → RawFront element before (b ∷ [])
+raw_starts element before b begins = record {
   part = refl;
   some = (b, [], refl);
-  goes_on = λ _ n lt.
+  begins = begins;
+  goes_on = λ n lt is.
       let first : 0 ≡ n = omega (arith, lt) in
-      subst (λ k. ends_tag (raw_end_tag element) (take k (b ∷ [])) (get_or (b ∷ []) k 0) ≡ false) first (and_false (ends_name b) (is_same_name [] (raw_end_tag element)) (raw_tag_some element));
+      none_ends (ends_tag (raw_end_tag element) (take n (b ∷ [])) (get_or (b ∷ []) n 0))
+      (subst (λ k. ends_tag (raw_end_tag element) (take k (b ∷ [])) (get_or (b ∷ []) k 0) ≡ false) first (and_false (ends_name b) (is_same_name [] (raw_end_tag element)) (raw_tag_some element))) is;
 }
+
+part_opens : (before : List ℕ) (b : ℕ) → b == 60 ≡ true → BeginsPart before (b ∷ [])
+part_opens before b e = inr ([], ap (λ x. x ∷ []) (eqb-true b 60 e))
 
 by_kind : (form : Form) (foreign : Bool) (within : State) (front : List ℕ) (c : Bool) → content_by form foreign within (if c then EndTag else StartTag) front ≡ (if c then Data else if is_xml form || foreign then Data else content_of (name_of front))
 by_kind form foreign within front true = refl
@@ -917,12 +1100,12 @@ IsContent (Raw element) = Unit {0}
 IsContent Plaintext = Unit {0}
 IsContent _ = ⊥
 
-content_starts : (form : Form) (foreign : Bool) (within : State) (b : ℕ) → IsContent within → Starts form foreign within within b
+content_starts : (form : Form) (foreign : Bool) (before : List ℕ) (within : State) (b : ℕ) → before ≡ [] → IsContent within → Starts form foreign before within within b
 unfolding begin
-content_starts form foreign Data b i = data_starts form foreign Data b refl
-content_starts form foreign (Raw element) b i = ((refl, raw_starts element b), absurd_bool)
-content_starts form foreign Plaintext b i = (refl, absurd_bool)
-content_starts form foreign _ b i = absurd i
+content_starts form foreign before Data b e i = data_starts form foreign before Data b refl
+content_starts form foreign before (Raw element) b e i = ((refl, raw_starts element before b (inl e)), absurd_bool)
+content_starts form foreign before Plaintext b e i = (refl, absurd_bool)
+content_starts form foreign before _ b e i = absurd i
 
 if_content : (c : Bool) (x y : State) → IsContent x → IsContent y → IsContent (if c then x else y)
 if_content true x y p q = p
@@ -945,30 +1128,38 @@ same_content form foreign within front false true false = refl
 same_content form foreign within front false false true = refl
 same_content form foreign within front false false false = refl
 
-after_tag : (form : Form) (foreign next_foreign : Bool) (front : List ℕ) (b : ℕ) (within : State) → within ≡ (if is_end_tag front then Data else if is_xml form || foreign then Data else content_of (name_of front))
-    → Starts form next_foreign within (content_after_tag form foreign front) b
-after_tag form foreign next_foreign front b within e =
-    let same : within ≡ content_after_tag form foreign front = e ∙ sym (same_content form foreign within front (is_xml form) foreign (is_end_tag front)) in
-    subst (λ k. Starts form next_foreign k (content_after_tag form foreign front) b) (sym same)
-    (content_starts form next_foreign (content_after_tag form foreign front) b (if_content (is_xml form || foreign || is_end_tag front) Data (content_of (name_of front)) tt (name_content (name_of front))))
+since_by : (before front : List ℕ) (c : Bool) → since_tag before (if c then EndTag else StartTag) front ≡ []
+since_by before front true = refl
+since_by before front false = refl
 
-pub step_next : (form : Form) (foreign : Bool) (within state : State) (front : List ℕ) (b : ℕ) → Stands form foreign within state front → To form foreign within state front b (next form foreign state front b)
+since_empty_by : (before front : List ℕ) (c : Bool) → since_tag before (if c then EndTag else EmptyTag) front ≡ []
+since_empty_by before front true = refl
+since_empty_by before front false = refl
+
+after_tag : (form : Form) (foreign next_foreign : Bool) (front : List ℕ) (b : ℕ) (before : List ℕ) (within : State) → before ≡ [] → within ≡ (if is_end_tag front then Data else if is_xml form || foreign then Data else content_of (name_of front))
+    → Starts form next_foreign before within (content_after_tag form foreign front) b
+after_tag form foreign next_foreign front b before within none e =
+    let same : within ≡ content_after_tag form foreign front = e ∙ sym (same_content form foreign within front (is_xml form) foreign (is_end_tag front)) in
+    subst (λ k. Starts form next_foreign before k (content_after_tag form foreign front) b) (sym same)
+    (content_starts form next_foreign before (content_after_tag form foreign front) b none (if_content (is_xml form || foreign || is_end_tag front) Data (content_of (name_of front)) tt (name_content (name_of front))))
+
+pub step_next : (form : Form) (foreign : Bool) (before : List ℕ) (within state : State) (front : List ℕ) (b : ℕ) → Stands form foreign before within state front → To form foreign before within state front b (next form foreign state front b)
 unfolding next in_raw in_escaped in_double_escaped kind_of content_after begin
-step_next form foreign within Data front b s =
-    to_if (b == 60 || b == 38) None (Some Data) (λ e. record { is = ((λ rest. (s.0, (s.1, e))), λ next_foreign. data_starts form next_foreign within b s.0) }) (λ e. any Data (s.0, plain_more front b s.1 e) refl)
-step_next form foreign within CharacterReference front b s =
+step_next form foreign before within Data front b s =
+    to_if (b == 60 || b == 38) None (Some Data) (λ e. record { is = ((λ rest. (s.0, (s.1, e))), λ next_foreign. data_starts form next_foreign _ within b s.0) }) (λ e. any Data (s.0, plain_more front b s.1 e) refl)
+step_next form foreign before within CharacterReference front b s =
     to_if (is_alphanumeric b || b == 35) (Some ReferenceName) None
     (λ e. ascii ReferenceName (s.0, b, [], ap (λ xs. xs ++ b ∷ []) s.1, one_name b e) (reference_below b e))
-    (λ _. record { is = ((λ rest. (s.0, record { name = []; whole = inl s.1; is_name = refl })), λ next_foreign. data_starts form next_foreign within b s.0) })
-step_next form foreign within ReferenceName front b (c, x, name, whole, named) =
+    (λ _. record { is = ((λ rest. (s.0, record { name = []; whole = inl s.1; is_name = refl })), λ next_foreign. data_starts form next_foreign _ within b s.0) })
+step_next form foreign before within ReferenceName front b (c, x, name, whole, named) =
     to_if (is_alphanumeric b) (Some ReferenceName) (if b == 59 then Some ReferenceEnd else None)
     (λ e. ascii ReferenceName (c, x, name ++ b ∷ [], ap (λ xs. xs ++ b ∷ []) whole, name_more x b name named e) (alphanumeric_below b e))
     (λ _. to_if (b == 59) (Some ReferenceEnd) None
     (λ e. ascii ReferenceEnd (c, record { name = x ∷ name; whole = inr (snoc_is front (38 ∷ x ∷ name) b 59 whole e); is_name = named }) (is_byte b 59 e (omega arith)))
-    (λ _. record { is = ((λ rest. (c, record { name = x ∷ name; whole = inl whole; is_name = named })), λ next_foreign. data_starts form next_foreign within b c) }))
-step_next form foreign within TagOpen front b s =
+    (λ _. record { is = ((λ rest. (c, record { name = x ∷ name; whole = inl whole; is_name = named })), λ next_foreign. data_starts form next_foreign _ within b c) }))
+step_next form foreign before within TagOpen front b s =
     to_if (is_name_start form b) (Some TagName) (if b == 47 then Some EndTagOpen else if b == 33 then Some MarkupDeclarationOpen else if b == 63 then Some (if is_xml form then ProcessingInstruction else BogusComment) else None)
-    (λ e. any TagName (name_begun form within front (codes "<") b s.0 s.1 quoted_one (open_tag form b e) e) refl)
+    (λ e. any TagName (name_begun form within front (codes "<") b s.0 s.1 quoted_one (open_tag form b e) e, name_start_parts form front (codes "<") b (inl refl) s.1 e) refl)
     (λ _. to_if (b == 47) (Some EndTagOpen) (if b == 33 then Some MarkupDeclarationOpen else if b == 63 then Some (if is_xml form then ProcessingInstruction else BogusComment) else None)
     (λ e. ascii EndTagOpen (s.0, snoc_is front (codes "<") b 47 s.1 e) (is_byte b 47 e (omega arith)))
     (λ _. to_if (b == 33) (Some MarkupDeclarationOpen) (if b == 63 then Some (if is_xml form then ProcessingInstruction else BogusComment) else None)
@@ -977,47 +1168,48 @@ step_next form foreign within TagOpen front b s =
     (λ e. some_if (is_xml form) ProcessingInstruction BogusComment
     (λ x. any ProcessingInstruction (s.0, subst (λ xs. Instructed form foreign xs false) (sym (snoc_is front (codes "<") b 63 s.1 e)) (instruction_begun form foreign (xml_by form x))) refl)
     (λ x. any BogusComment (s.0, subst (Declared form foreign) (sym (snoc_is front (codes "<") b 63 s.1 e)) (question_declared form foreign x)) refl))
-    (λ _. record { is = ((λ rest. stray form foreign within front (b ∷ rest) s.0 s.1), λ next_foreign. data_starts form next_foreign within b s.0) }))))
-step_next form foreign within EndTagOpen front b s =
+    (λ _. record { is = ((λ rest. stray form foreign before within front (b ∷ rest) s.0 s.1), λ next_foreign. data_starts form next_foreign _ within b s.0) }))))
+step_next form foreign before within EndTagOpen front b s =
     to_if (is_name_start form b) (Some TagName) (if b == 62 then Some MarkupEnd else Some BogusComment)
-    (λ e. any TagName (name_begun form within front (codes "</") b s.0 s.1 quoted_two (slash_tag form b e) e) refl)
+    (λ e. any TagName (name_begun form within front (codes "</") b s.0 s.1 quoted_two (slash_tag form b e) e, name_start_parts form front (codes "</") b (inr refl) s.1 e) refl)
     (λ n. to_if (b == 62) (Some MarkupEnd) (Some BogusComment)
     (λ e. ascii MarkupEnd (s.0, subst (MarkupDone form foreign) (sym (snoc_is front (codes "</") b 62 s.1 e)) (slash_done form foreign)) (is_byte b 62 e (omega arith)))
     (λ e. any BogusComment (s.0, subst (λ xs. Declared form foreign (xs ++ b ∷ [])) (sym s.1) (slash_declared form foreign b n e)) refl))
-step_next form foreign within TagName front b t = tag_to form foreign within TagName front b TagName (begins_more form within front b t.begins) t.quoted (λ n. any TagName n refl)
-step_next form foreign within BeforeAttributeName front b t =
-    tag_to form foreign within BeforeAttributeName front b AttributeName (begins_more form within front b t.begins) t.quoted (λ n. any AttributeName n refl)
-step_next form foreign within AttributeName front b t = attribute_to form foreign within AttributeName front b t
-step_next form foreign within AfterAttributeName front b t = attribute_to form foreign within AfterAttributeName front b t
-step_next form foreign within BeforeAttributeValue front b (t, v) = value_to form foreign within BeforeAttributeValue front b t v
-step_next form foreign within DoubleQuotedValue front b (t, q) =
+step_next form foreign before within TagName front b (t, h) =
+    tag_to form foreign before within TagName front b TagName (begins_more form within front b t.begins) t.quoted [] h refl (λ n e. any TagName (n, name_grown h b e) refl)
+step_next form foreign before within BeforeAttributeName front b (t, (c, ps, h)) =
+    tag_to form foreign before within BeforeAttributeName front b AttributeName (begins_more form within front b t.begins) t.quoted (Gap c ∷ ps) h refl (λ n e. any AttributeName (n, name_after h b e refl) refl)
+step_next form foreign before within AttributeName front b (t, h) = in_name_to form foreign before within AttributeName front b t h
+step_next form foreign before within AfterAttributeName front b (t, h) = past_name_to form foreign before within AfterAttributeName front b t h
+step_next form foreign before within BeforeAttributeValue front b (t, v, h) = value_to form foreign before within BeforeAttributeValue front b t v h
+step_next form foreign before within DoubleQuotedValue front b (t, q, h) =
     to_if (b == 34) (Some AfterQuotedValue) (Some DoubleQuotedValue)
-    (λ e. ascii AfterQuotedValue (tag_front t b (no_end b (other_byte b 34 e 62 refl))) (is_byte b 34 e (omega arith)))
-    (λ e. any DoubleQuotedValue (tag_front t b (λ _. in_quotes front 34 refl q), quoted_on front 34 b q e) refl)
-step_next form foreign within SingleQuotedValue front b (t, q) =
+    (λ e. ascii AfterQuotedValue (tag_front t b (no_end b (other_byte b 34 e 62 refl)), quotes_closed h b e refl) (is_byte b 34 e (omega arith)))
+    (λ e. any DoubleQuotedValue (tag_front t b (λ _. in_quotes front 34 refl q), quoted_on front 34 b q e, quotes_more h b e) refl)
+step_next form foreign before within SingleQuotedValue front b (t, q, h) =
     to_if (b == 39) (Some AfterQuotedValue) (Some SingleQuotedValue)
-    (λ e. ascii AfterQuotedValue (tag_front t b (no_end b (other_byte b 39 e 62 refl))) (is_byte b 39 e (omega arith)))
-    (λ e. any SingleQuotedValue (tag_front t b (λ _. in_quotes front 39 refl q), quoted_on front 39 b q e) refl)
-step_next form foreign within UnquotedValue front b t = unquoted_to form foreign within UnquotedValue front b t
-step_next form foreign within AfterQuotedValue front b t =
-    tag_to form foreign within AfterQuotedValue front b AttributeName (begins_more form within front b t.begins) t.quoted (λ n. any AttributeName n refl)
-step_next form foreign within SelfClosingTag front b (t, slash) =
+    (λ e. ascii AfterQuotedValue (tag_front t b (no_end b (other_byte b 39 e 62 refl)), quotes_closed h b e refl) (is_byte b 39 e (omega arith)))
+    (λ e. any SingleQuotedValue (tag_front t b (λ _. in_quotes front 39 refl q), quoted_on front 39 b q e, quotes_more h b e) refl)
+step_next form foreign before within UnquotedValue front b (t, h) = unquoted_to form foreign before within UnquotedValue front b t h
+step_next form foreign before within AfterQuotedValue front b (t, (quote, value, ps, h)) =
+    tag_to form foreign before within AfterQuotedValue front b AttributeName (begins_more form within front b t.begins) t.quoted (Quoted quote value ∷ ps) h refl (λ n e. any AttributeName (n, name_after h b e refl) refl)
+step_next form foreign before within SelfClosingTag front b (t, slash, (c, ps, h)) =
     to_if (b == 62) (Some EmptyTagEnd) (Some (in_tag b AttributeName))
-    (λ e. ascii EmptyTagEnd (tag_ended form within front b (begins_more form within front b t.begins) t.quoted e, snoc_ends 62 (47 ∷ []) front b ∙ ap (λ x. b == 62 && x) slash ∙ ap (λ x. x && true) e) (is_byte b 62 e (omega arith)))
-    (λ _. tag_to form foreign within SelfClosingTag front b AttributeName (begins_more form within front b t.begins) t.quoted (λ n. any AttributeName n refl))
-step_next form foreign within MarkupDeclarationOpen front b s =
+    (λ e. ascii EmptyTagEnd (tag_ended form within front b (begins_more form within front b t.begins) t.quoted (Gap c ∷ ps) h e, snoc_ends 62 (47 ∷ []) front b ∙ ap (λ x. b == 62 && x) slash ∙ ap (λ x. x && true) e) (is_byte b 62 e (omega arith)))
+    (λ _. tag_to form foreign before within SelfClosingTag front b AttributeName (begins_more form within front b t.begins) t.quoted (Gap c ∷ ps) h refl (λ n e. any AttributeName (n, name_after h b e refl) refl))
+step_next form foreign before within MarkupDeclarationOpen front b s =
     to_if (b == 45) (Some MarkupDeclarationDash) (if b == 62 then Some MarkupEnd else Some BogusComment)
     (λ e. ascii MarkupDeclarationDash (s.0, snoc_is front (codes "<!") b 45 s.1 e) (is_byte b 45 e (omega arith)))
     (λ d. to_if (b == 62) (Some MarkupEnd) (Some BogusComment)
     (λ e. ascii MarkupEnd (s.0, subst (MarkupDone form foreign) (sym (snoc_is front (codes "<!") b 62 s.1 e)) (bang_done form foreign)) (is_byte b 62 e (omega arith)))
     (λ e. any BogusComment (s.0, subst (λ xs. Declared form foreign (xs ++ b ∷ [])) (sym s.1) (bang_declared form foreign b d e)) refl))
-step_next form foreign within MarkupDeclarationDash front b s =
+step_next form foreign before within MarkupDeclarationDash front b s =
     to_if (b == 45) (Some CommentStart) (if b == 62 then Some MarkupEnd else Some BogusComment)
     (λ e. ascii CommentStart (s.0, snoc_is front (codes "<!-") b 45 s.1 e, subst (λ xs. CommentFront form foreign xs true true false false false) (sym (snoc_is front (codes "<!-") b 45 s.1 e)) (comment_begun form foreign)) (is_byte b 45 e (omega arith)))
     (λ d. to_if (b == 62) (Some MarkupEnd) (Some BogusComment)
     (λ e. ascii MarkupEnd (s.0, subst (MarkupDone form foreign) (sym (snoc_is front (codes "<!-") b 62 s.1 e)) (dash_done form foreign)) (is_byte b 62 e (omega arith)))
     (λ e. any BogusComment (s.0, subst (λ xs. Declared form foreign (xs ++ b ∷ [])) (sym s.1) (dash_declared form foreign b d e)) refl))
-step_next form foreign within BogusComment front b (c, d) =
+step_next form foreign before within BogusComment front b (c, d) =
     to_if (b == 62) (Some MarkupEnd) (if b == 91 && (is_xml form || foreign) && pointwise nat_eq front (codes "<![CDATA") then Some CdataSection else if b == 91 && is_xml form then Some DoctypeSubset else Some BogusComment)
     (λ e. ascii MarkupEnd (c, declared_done form foreign front b d e) (is_byte b 62 e (omega arith)))
     (λ n. to_if (b == 91 && (is_xml form || foreign) && pointwise nat_eq front (codes "<![CDATA")) (Some CdataSection) (if b == 91 && is_xml form then Some DoctypeSubset else Some BogusComment)
@@ -1027,49 +1219,49 @@ step_next form foreign within BogusComment front b (c, d) =
           (pointwise_same front (codes "<![CDATA") (and_right (b == 91 && (is_xml form || foreign)) _ e)) (and_left (b == 91) _ (and_left (b == 91 && (is_xml form || foreign)) _ e)) (and_right (b == 91) _ (and_left (b == 91 && (is_xml form || foreign)) _ e)),
     ) refl)
     (λ m. to_if (b == 91 && is_xml form) (Some DoctypeSubset) (Some BogusComment)
-    (λ e. any DoctypeSubset (c, with_part form foreign front b d (xml_by form (and_right (b == 91) (is_xml form) e)) (and_left (b == 91) (is_xml form) e)) refl)
-    (λ _. any BogusComment (c, declared_more form foreign front b d n (section_snoc form foreign front b d.no_section m)) refl)))
-step_next form foreign within DoctypeSubset front b (c, d) =
+    (λ e. any DoctypeSubset (c, with_part form foreign front b d (xml_by form (and_right (b == 91) (is_xml form) e)) (and_left (b == 91) (is_xml form) e) (section_snoc form foreign front b d.no_section m)) refl)
+    (λ k. any BogusComment (c, declared_more form foreign front b d n (section_snoc form foreign front b d.no_section m) k) refl)))
+step_next form foreign before within DoctypeSubset front b (c, d) =
     to_if (b == 93) (Some DoctypeSubsetEnd) (Some DoctypeSubset)
-    (λ e. ascii DoctypeSubsetEnd (c, part_more form front b d) (is_byte b 93 e (omega arith)))
-    (λ _. any DoctypeSubset (c, part_more form front b d) refl)
-step_next form foreign within DoctypeSubsetEnd front b (c, d) =
+    (λ e. ascii DoctypeSubsetEnd (c, part_more form foreign front b false true d (and_false (b == 62) false refl) (ap (λ x. x || is_white_space b && false) e)) (is_byte b 93 e (omega arith)))
+    (λ e. any DoctypeSubset (c, part_more form foreign front b false false d (and_false (b == 62) false refl) (ap (λ x. x || is_white_space b && false) e ∙ and_false (is_white_space b) false refl)) refl)
+step_next form foreign before within DoctypeSubsetEnd front b (c, d) =
     to_if (b == 62) (Some MarkupEnd) (if b == 93 || is_white_space b then Some DoctypeSubsetEnd else Some DoctypeSubset)
-    (λ e. ascii MarkupEnd (c, part_done form foreign front b d) (is_byte b 62 e (omega arith)))
-    (λ _. to_if (b == 93 || is_white_space b) (Some DoctypeSubsetEnd) (Some DoctypeSubset)
-    (λ e. ascii DoctypeSubsetEnd (c, part_more form front b d) (part_below b e))
-    (λ _. any DoctypeSubset (c, part_more form front b d) refl))
-step_next form foreign within ProcessingInstruction front b (c, d) =
+    (λ e. ascii MarkupEnd (c, part_done form foreign front b d e) (is_byte b 62 e (omega arith)))
+    (λ n. to_if (b == 93 || is_white_space b) (Some DoctypeSubsetEnd) (Some DoctypeSubset)
+    (λ e. ascii DoctypeSubsetEnd (c, part_more form foreign front b true true d (ap (λ x. x && true) n) (ap (λ x. b == 93 || x) (and_true (is_white_space b)) ∙ e)) (part_below b e))
+    (λ e. any DoctypeSubset (c, part_more form foreign front b true false d (ap (λ x. x && true) n) (ap (λ x. b == 93 || x) (and_true (is_white_space b)) ∙ e)) refl))
+step_next form foreign before within ProcessingInstruction front b (c, d) =
     to_if (b == 63) (Some ProcessingInstructionMark) (Some ProcessingInstruction)
     (λ e. ascii ProcessingInstructionMark (c, instruction_at form foreign (front ++ b ∷ []) (b == 63 && true) true (instruction_more form foreign front false b d (and_false (b == 62) false refl)) (ap (λ x. x && true) e)) (is_byte b 63 e (omega arith)))
     (λ e. any ProcessingInstruction (c, instruction_at form foreign (front ++ b ∷ []) (b == 63 && true) false (instruction_more form foreign front false b d (and_false (b == 62) false refl)) (ap (λ x. x && true) e)) refl)
-step_next form foreign within ProcessingInstructionMark front b (c, d) =
+step_next form foreign before within ProcessingInstructionMark front b (c, d) =
     to_if (b == 62) (Some MarkupEnd) (if b == 63 then Some ProcessingInstructionMark else Some ProcessingInstruction)
     (λ e. ascii MarkupEnd (c, instruction_done form foreign front b d e) (is_byte b 62 e (omega arith)))
     (λ n. to_if (b == 63) (Some ProcessingInstructionMark) (Some ProcessingInstruction)
     (λ e. ascii ProcessingInstructionMark (c, instruction_at form foreign (front ++ b ∷ []) (b == 63 && true) true (instruction_more form foreign front true b d (ap (λ x. x && true) n)) (ap (λ x. x && true) e)) (is_byte b 63 e (omega arith)))
     (λ e. any ProcessingInstruction (c, instruction_at form foreign (front ++ b ∷ []) (b == 63 && true) false (instruction_more form foreign front true b d (ap (λ x. x && true) n)) (ap (λ x. x && true) e)) refl))
-step_next form foreign within CommentStart front b (c, _, d) =
+step_next form foreign before within CommentStart front b (c, _, d) =
     to_if (b == 45) (Some CommentStartDash) (if b == 62 && not (is_xml form) then Some MarkupEnd else Some Comment)
     (λ e. ascii CommentStartDash (c, dash_more form foreign front true true false false false b d e) (is_byte b 45 e (omega arith)))
     (λ n. to_if (b == 62 && not (is_xml form)) (Some MarkupEnd) (Some Comment)
     (λ e. ascii MarkupEnd (c, comment_markup form foreign front true true false false false b d (abrupt_end form b e)) (is_byte b 62 (and_left (b == 62) (not (is_xml form)) e) (omega arith)))
     (λ e. any Comment (c, comment_on (b == 33 && false) (other_more form foreign front true true false false false b d n (start_ends form b e)) (no_bang (not (is_xml form)) (b == 33))) refl))
-step_next form foreign within CommentStartDash front b (c, d) =
+step_next form foreign before within CommentStartDash front b (c, d) =
     to_if (b == 45) (Some CommentEnd) (if b == 62 && not (is_xml form) then Some MarkupEnd else Some Comment)
     (λ e. ascii CommentEnd (c, dash_more form foreign front true true true false false b d e) (is_byte b 45 e (omega arith)))
     (λ n. to_if (b == 62 && not (is_xml form)) (Some MarkupEnd) (Some Comment)
     (λ e. ascii MarkupEnd (c, comment_markup form foreign front true true true false false b d (abrupt_end form b e)) (is_byte b 62 (and_left (b == 62) (not (is_xml form)) e) (omega arith)))
     (λ e. any Comment (c, comment_on (b == 33 && false) (other_more form foreign front true true true false false b d n (start_ends form b e)) (no_bang (not (is_xml form)) (b == 33))) refl))
-step_next form foreign within Comment front b (c, (bang, d, h)) =
+step_next form foreign before within Comment front b (c, (bang, d, h)) =
     to_if (b == 45) (Some CommentEndDash) (Some Comment)
     (λ e. ascii CommentEndDash (c, dash_more form foreign front false false false false bang b d e) (is_byte b 45 e (omega arith)))
     (λ n. any Comment (c, comment_on (b == 33 && false) (other_more form foreign front false false false false bang b d n (in_comment_ends form bang b h)) (no_bang (not (is_xml form)) (b == 33))) refl)
-step_next form foreign within CommentEndDash front b (c, d) =
+step_next form foreign before within CommentEndDash front b (c, d) =
     to_if (b == 45) (Some CommentEnd) (Some Comment)
     (λ e. ascii CommentEnd (c, dash_more form foreign front true false true false false b d e) (is_byte b 45 e (omega arith)))
     (λ n. any Comment (c, comment_on (b == 33 && false) (other_more form foreign front true false true false false b d n (in_comment_ends form false b (and_false (not (is_xml form)) false refl))) (no_bang (not (is_xml form)) (b == 33))) refl)
-step_next form foreign within CommentEnd front b (c, d) =
+step_next form foreign before within CommentEnd front b (c, d) =
     to_if (b == 62) (Some MarkupEnd) (if b == 33 && not (is_xml form) then Some CommentEndBang else if b == 45 then Some CommentEnd else Some Comment)
     (λ e. ascii MarkupEnd (c, comment_markup form foreign front true true true true false b d (any_end form b e)) (is_byte b 62 e (omega arith)))
     (λ n. to_if (b == 33 && not (is_xml form)) (Some CommentEndBang) (if b == 45 then Some CommentEnd else Some Comment)
@@ -1082,137 +1274,146 @@ step_next form foreign within CommentEnd front b (c, d) =
     (λ m. to_if (b == 45) (Some CommentEnd) (Some Comment)
     (λ e. ascii CommentEnd (c, dash_more form foreign front true true true true false b d e) (is_byte b 45 e (omega arith)))
     (λ e. any Comment (c, comment_on (b == 33 && true) (other_more form foreign front true true true true false b d e (no_other_end form true true false b n)) (swapped (not (is_xml form)) (b == 33) m)) refl)))
-step_next form foreign within CommentEndBang front b (c, html, d) =
+step_next form foreign before within CommentEndBang front b (c, html, d) =
     to_if (b == 45) (Some CommentEndDash) (if b == 62 then Some MarkupEnd else Some Comment)
     (λ e. ascii CommentEndDash (c, dash_more form foreign front false false false false true b d e) (is_byte b 45 e (omega arith)))
     (λ n. to_if (b == 62) (Some MarkupEnd) (Some Comment)
     (λ e. ascii MarkupEnd (c, comment_markup form foreign front false false false false true b d (bang_end form b html e)) (is_byte b 62 e (omega arith)))
     (λ e. any Comment (c, comment_on (b == 33 && false) (other_more form foreign front false false false false true b d n (no_other_end form false false true b e)) (no_bang (not (is_xml form)) (b == 33))) refl))
-step_next form foreign within CdataSection front b (c, d) =
+step_next form foreign before within CdataSection front b (c, d) =
     to_if (b == 93) (Some CdataSectionBracket) (Some CdataSection)
     (λ e. ascii CdataSectionBracket (c, section_on form foreign front false false b true false d (and_false (b == 62) false refl) (ap (λ x. x && true) e) (and_false (b == 93) false refl)) (is_byte b 93 e (omega arith)))
     (λ e. any CdataSection (c, section_on form foreign front false false b false false d (and_false (b == 62) false refl) (ap (λ x. x && true) e) (and_false (b == 93) false refl)) refl)
-step_next form foreign within CdataSectionBracket front b (c, d) =
+step_next form foreign before within CdataSectionBracket front b (c, d) =
     to_if (b == 93) (Some CdataSectionEnd) (Some CdataSection)
     (λ e. ascii CdataSectionEnd (c, section_on form foreign front true false b true true d (and_false (b == 62) false refl) (ap (λ x. x && true) e) (ap (λ x. x && true) e)) (is_byte b 93 e (omega arith)))
     (λ e. any CdataSection (c, section_on form foreign front true false b false false d (and_false (b == 62) false refl) (ap (λ x. x && true) e) (ap (λ x. x && true) e)) refl)
-step_next form foreign within CdataSectionEnd front b (c, d) =
+step_next form foreign before within CdataSectionEnd front b (c, d) =
     to_if (b == 93) (Some CdataSectionEnd) (if b == 62 then Some MarkupEnd else Some CdataSection)
     (λ e. ascii CdataSectionEnd (c, section_on form foreign front true true b true true d (ap (λ x. x && true) (other_byte b 93 e 62 refl)) (ap (λ x. x && true) e) (ap (λ x. x && true) e)) (is_byte b 93 e (omega arith)))
     (λ n. to_if (b == 62) (Some MarkupEnd) (Some CdataSection)
     (λ e. ascii MarkupEnd (c, section_done form foreign front true b d e) (is_byte b 62 e (omega arith)))
     (λ e. any CdataSection (c, section_on form foreign front true true b false false d (ap (λ x. x && true) e) (ap (λ x. x && true) n) (ap (λ x. x && true) n)) refl))
-step_next form foreign within (Raw element) front b (c, r) =
+step_next form foreign before within (Raw element) front b (c, r) =
     to_if (b == 60) None (if ends_tag (raw_end_tag element) front b then Some (in_tag b TagName) else if b == 45 && is_same_name front (codes "<!-") && is_script element then Some ScriptEscaped else Some (Raw element))
-    (λ e. record { is = ((λ rest. raw_other form foreign within element front (b ∷ rest) c r e), λ next_foreign. ((c, raw_starts element b), absurd_bool)) })
+    (λ e. record { is = ((λ rest. raw_other form foreign before within element front (b ∷ rest) c r e), λ next_foreign. ((c, raw_starts element (before ++ front) b (part_opens (before ++ front) b e)), absurd_bool)) })
     (λ n. to_if (ends_tag (raw_end_tag element) front b) (Some (in_tag b TagName)) (if b == 45 && is_same_name front (codes "<!-") && is_script element then Some ScriptEscaped else Some (Raw element))
-    (λ e. raw_ended form foreign within (Raw element) element front b c e)
+    (λ e. raw_ended form foreign before within (Raw element) element front b c e)
     (λ m. to_if (b == 45 && is_same_name front (codes "<!-") && is_script element) (Some ScriptEscaped) (Some (Raw element))
-    (λ e. let is = script_by element (and_right (b == 45 && is_same_name front (codes "<!-")) (is_script element) e) in any ScriptEscaped (c ∙ ap (λ x. Raw x) is, raw_on element front b r is n) refl)
-    (λ _. any (Raw element) (c, raw_more element front b r n (λ _. m)) refl)))
-step_next form foreign within ScriptEscaped front b (c, r) =
+    (λ e. let is = script_by element (and_right (b == 45 && is_same_name front (codes "<!-")) (is_script element) e) in
+    let start = and_left (b == 45 && is_same_name front (codes "<!-")) (is_script element) e in
+    any ScriptEscaped (
+      c ∙ ap (λ x. Raw x) is,
+      raw_on element before front b r is n (none_ends (ends_tag (raw_end_tag element) front b) m),
+      escaped_begun before front b (and_right (b == 45) (is_same_name front (codes "<!-")) start) (and_left (b == 45) (is_same_name front (codes "<!-")) start),
+    ) refl)
+    (λ _. any (Raw element) (c, raw_more element before front b r n (none_ends (ends_tag (raw_end_tag element) front b) m)) refl)))
+step_next form foreign before within ScriptEscaped front b (c, r, d) =
     to_if (b == 60) None (if ends_tag (codes "</script") front b then Some (in_tag b TagName) else if ends_tag (codes "<script") front b then Some ScriptDoubleEscaped else if b == 62 && ends_with nat_eq front (codes "--") then Some (Raw Script) else Some ScriptEscaped)
-    (λ e. record { is = ((λ rest. raw_other form foreign within Script front (b ∷ rest) c r e), λ next_foreign. ((c, raw_starts Script b), absurd_bool)) })
+    (λ e. record { is = ((λ rest. raw_other form foreign before within Script front (b ∷ rest) c r e), λ next_foreign. ((c, raw_starts Script (before ++ front) b (part_opens (before ++ front) b e), escaped_anew b d e), absurd_bool)) })
     (λ n. to_if (ends_tag (codes "</script") front b) (Some (in_tag b TagName)) (if ends_tag (codes "<script") front b then Some ScriptDoubleEscaped else if b == 62 && ends_with nat_eq front (codes "--") then Some (Raw Script) else Some ScriptEscaped)
-    (λ e. raw_ended form foreign within ScriptEscaped Script front b c e)
-    (λ _. to_if (ends_tag (codes "<script") front b) (Some ScriptDoubleEscaped) (if b == 62 && ends_with nat_eq front (codes "--") then Some (Raw Script) else Some ScriptEscaped)
-    (λ _. any ScriptDoubleEscaped (c, raw_on Script front b r refl n) refl)
+    (λ e. raw_ended form foreign before within ScriptEscaped Script front b c e)
+    (λ m. let more = raw_on Script before front b r refl n (none_ends (ends_tag (codes "</script") front b) m) in
+    to_if (ends_tag (codes "<script") front b) (Some ScriptDoubleEscaped) (if b == 62 && ends_with nat_eq front (codes "--") then Some (Raw Script) else Some ScriptEscaped)
+    (λ e. any ScriptDoubleEscaped (c, more, double_begun b r.begins d e) refl)
     (λ _. to_if (b == 62 && ends_with nat_eq front (codes "--")) (Some (Raw Script)) (Some ScriptEscaped)
-    (λ _. any (Raw Script) (c, raw_on Script front b r refl n) refl)
-    (λ _. any ScriptEscaped (c, raw_on Script front b r refl n) refl))))
-step_next form foreign within ScriptDoubleEscaped front b (c, r) =
+    (λ _. any (Raw Script) (c, more) refl)
+    (λ e. any ScriptEscaped (c, more, escaped_on b r.begins d e) refl))))
+step_next form foreign before within ScriptDoubleEscaped front b (c, r, d) =
     to_if (b == 60) None (if ends_tag (codes "</script") front b then Some ScriptEscaped else if b == 62 && ends_with nat_eq front (codes "--") then Some (Raw Script) else Some ScriptDoubleEscaped)
-    (λ e. record { is = ((λ rest. raw_other form foreign within Script front (b ∷ rest) c r e), λ next_foreign. ((c, raw_starts Script b), absurd_bool)) })
-    (λ n. to_if (ends_tag (codes "</script") front b) (Some ScriptEscaped) (if b == 62 && ends_with nat_eq front (codes "--") then Some (Raw Script) else Some ScriptDoubleEscaped)
-    (λ _. any ScriptEscaped (c, raw_on Script front b r refl n) refl)
-    (λ _. to_if (b == 62 && ends_with nat_eq front (codes "--")) (Some (Raw Script)) (Some ScriptDoubleEscaped)
-    (λ _. any (Raw Script) (c, raw_on Script front b r refl n) refl)
-    (λ _. any ScriptDoubleEscaped (c, raw_on Script front b r refl n) refl)))
-step_next form foreign within Plaintext front b s = any Plaintext s refl
-step_next form foreign within ReferenceEnd front b s = record { is = ((λ rest. s), λ next_foreign. data_starts form next_foreign within b s.0) }
-step_next form foreign within TagEnd front b t = record { is = ((λ rest. tag_kind form foreign within front (b ∷ rest) (is_end_tag front) refl t), λ next_foreign. after_tag form foreign next_foreign front b _ (by_kind form foreign within front (is_end_tag front))) }
-step_next form foreign within EmptyTagEnd front b (t, e) = record { is = ((λ rest. empty_kind form foreign within front (b ∷ rest) (is_end_tag front) refl t e), λ next_foreign. after_tag form foreign next_foreign front b _ (by_empty_kind form foreign within front (is_end_tag front))) }
-step_next form foreign within MarkupEnd front b (c, d) = record { is = ((λ rest. markup_other form foreign within front (b ∷ rest) c d.no_tag (d.is (b ∷ rest))), λ next_foreign. data_starts form next_foreign within b c) }
+    (λ e. record { is = ((λ rest. raw_other form foreign before within Script front (b ∷ rest) c r e), λ next_foreign. ((c, raw_starts Script (before ++ front) b (part_opens (before ++ front) b e), double_anew b d e), absurd_bool)) })
+    (λ n. let more = raw_on Script before front b r refl n (λ _. (refl, d.script)) in
+    to_if (ends_tag (codes "</script") front b) (Some ScriptEscaped) (if b == 62 && ends_with nat_eq front (codes "--") then Some (Raw Script) else Some ScriptDoubleEscaped)
+    (λ e. any ScriptEscaped (c, more, double_closed b r.begins d e) refl)
+    (λ m. to_if (b == 62 && ends_with nat_eq front (codes "--")) (Some (Raw Script)) (Some ScriptDoubleEscaped)
+    (λ _. any (Raw Script) (c, more) refl)
+    (λ e. any ScriptDoubleEscaped (c, more, double_on b r.begins d r.part m e) refl)))
+step_next form foreign before within Plaintext front b s = any Plaintext s refl
+step_next form foreign before within ReferenceEnd front b s = record { is = ((λ rest. s), λ next_foreign. data_starts form next_foreign _ within b s.0) }
+step_next form foreign before within TagEnd front b t = record { is = ((λ rest. tag_kind form foreign before within front (b ∷ rest) (is_end_tag front) refl t), λ next_foreign. after_tag form foreign next_foreign front b _ _ (since_by before front (is_end_tag front)) (by_kind form foreign within front (is_end_tag front))) }
+step_next form foreign before within EmptyTagEnd front b (t, e) = record { is = ((λ rest. empty_kind form foreign before within front (b ∷ rest) (is_end_tag front) refl t e), λ next_foreign. after_tag form foreign next_foreign front b _ _ (since_empty_by before front (is_end_tag front)) (by_empty_kind form foreign within front (is_end_tag front))) }
+step_next form foreign before within MarkupEnd front b (c, d) = record { is = ((λ rest. markup_other form foreign before within front (b ∷ rest) c d.no_tag (d.is (b ∷ rest))), λ next_foreign. data_starts form next_foreign _ within b c) }
 
 -- ---- the end of the page
 
-tag_cut_by : (form : Form) (foreign : Bool) (within : State) (front : List ℕ) → BeginsTag form within front → IsOther form foreign within front []
-tag_cut_by form foreign Data front e = ((λ _. refl), (λ n. absurd_bool (sym n ∙ e)))
-tag_cut_by form foreign (Raw element) front e = inr (e, refl)
-tag_cut_by form foreign _ front e = absurd e
+tag_cut_by : (form : Form) (foreign : Bool) (before : List ℕ) (within : State) (front : List ℕ) → BeginsTag form within front → IsOther form foreign before within front []
+tag_cut_by form foreign before Data front e = ((λ _. refl), (λ n. absurd_bool (sym n ∙ e)))
+tag_cut_by form foreign before (Raw element) front e = inr (e, refl)
+tag_cut_by form foreign before _ front e = absurd e
 
-tag_cut : (form : Form) (foreign : Bool) (within : State) (front : List ℕ) → TagFront form within front → IsOther form foreign within front []
-tag_cut form foreign within front t = tag_cut_by form foreign within front t.begins
+tag_cut : (form : Form) (foreign : Bool) (before : List ℕ) (within : State) (front : List ℕ) → TagFront form within front → IsOther form foreign before within front []
+tag_cut form foreign before within front t = tag_cut_by form foreign before within front t.begins
 
-comment_cut : (form : Form) (foreign : Bool) (within : State) (front : List ℕ) (dash dashes own_dash own_dashes bang : Bool) → within ≡ Data → CommentFront form foreign front dash dashes own_dash own_dashes bang
-    → IsOther form foreign within front []
-comment_cut form foreign within front dash dashes own_dash own_dashes bang e c =
-    markup_other form foreign within front [] e (ap (begins_tag form) c.whole ∙ bang_no_tag form (45 ∷ 45 ∷ c.body)) (ap opens_markup c.whole, inl (cut_here (ends_markup form foreign) front c.none))
+comment_cut : (form : Form) (foreign : Bool) (before : List ℕ) (within : State) (front : List ℕ) (dash dashes own_dash own_dashes bang : Bool) → within ≡ Data → CommentFront form foreign front dash dashes own_dash own_dashes bang
+    → IsOther form foreign before within front []
+comment_cut form foreign before within front dash dashes own_dash own_dashes bang e c =
+    markup_other form foreign before within front [] e (ap (begins_tag form) c.whole ∙ bang_no_tag form (45 ∷ 45 ∷ c.body)) (ap opens_markup c.whole, (cut_here (ends_markup form foreign) front c.none))
 
-section_cut : (form : Form) (foreign : Bool) (within : State) (front : List ℕ) (last two : Bool) → within ≡ Data → Sectioned form foreign (codes "<![CDATA[") front last two → IsOther form foreign within front []
-section_cut form foreign within front last two e c =
-    markup_other form foreign within front [] e (ap (begins_tag form) c.whole ∙ bang_no_tag form (91 ∷ 67 ∷ 68 ∷ 65 ∷ 84 ∷ 65 ∷ 91 ∷ c.body)) (ap opens_markup c.whole, inl (cut_here (ends_markup form foreign) front c.none))
+section_cut : (form : Form) (foreign : Bool) (before : List ℕ) (within : State) (front : List ℕ) (last two : Bool) → within ≡ Data → Sectioned form foreign (codes "<![CDATA[") front last two → IsOther form foreign before within front []
+section_cut form foreign before within front last two e c =
+    markup_other form foreign before within front [] e (ap (begins_tag form) c.whole ∙ bang_no_tag form (91 ∷ 67 ∷ 68 ∷ 65 ∷ 84 ∷ 65 ∷ 91 ∷ c.body)) (ap opens_markup c.whole, (cut_here (ends_markup form foreign) front c.none))
 
-instruction_cut : (form : Form) (foreign : Bool) (within : State) (front : List ℕ) (mark : Bool) → within ≡ Data → Instructed form foreign front mark → IsOther form foreign within front []
-instruction_cut form foreign within front mark e c =
-    markup_other form foreign within front [] e (ap (begins_tag form) c.whole ∙ mark_no_tag form c.body) (ap opens_markup c.whole, inl (cut_here (ends_markup form foreign) front c.none))
+instruction_cut : (form : Form) (foreign : Bool) (before : List ℕ) (within : State) (front : List ℕ) (mark : Bool) → within ≡ Data → Instructed form foreign front mark → IsOther form foreign before within front []
+instruction_cut form foreign before within front mark e c =
+    markup_other form foreign before within front [] e (ap (begins_tag form) c.whole ∙ mark_no_tag form c.body) (ap opens_markup c.whole, (cut_here (ends_markup form foreign) front c.none))
 
-declared_cut : (form : Form) (foreign : Bool) (within : State) (front : List ℕ) → within ≡ Data → Declared form foreign front → IsOther form foreign within front []
-declared_cut form foreign within front e c =
-    markup_other form foreign within front [] e (ap (begins_tag form) (sym (nothing_more front)) ∙ c.no_tag []) (c.opens, inl (cut_here (ends_markup form foreign) front c.none))
+declared_cut : (form : Form) (foreign : Bool) (before : List ℕ) (within : State) (front : List ℕ) → within ≡ Data → Declared form foreign front → IsOther form foreign before within front []
+declared_cut form foreign before within front e c =
+    markup_other form foreign before within front [] e (ap (begins_tag form) (sym (nothing_more front)) ∙ c.no_tag []) (c.opens, (cut_here (ends_markup form foreign) front c.none))
 
-part_cut : (form : Form) (foreign : Bool) (within : State) (front : List ℕ) → within ≡ Data → WithPart form front → IsOther form foreign within front []
-part_cut form foreign within front e c = markup_other form foreign within front [] e (ap (begins_tag form) (sym (nothing_more front)) ∙ c.no_tag []) (part_markup form foreign front [] c)
+part_cut : (form : Form) (foreign : Bool) (before : List ℕ) (within : State) (front : List ℕ) (closed : Bool) → within ≡ Data → WithPart form foreign front closed → IsOther form foreign before within front []
+part_cut form foreign before within front closed e c =
+    markup_other form foreign before within front [] e (ap (begins_tag form) (sym (nothing_more front)) ∙ c.no_tag []) (c.opens, cut_here (ends_markup form foreign) front c.none)
 
-open_cut : (form : Form) (foreign : Bool) (within : State) (front start : List ℕ) → within ≡ Data → front ≡ start → begins_tag form start ≡ false → opens_markup start ≡ true → NoneEnds (ends_markup form foreign) start → IsOther form foreign within front []
-open_cut form foreign within front start e is tag opens none =
-    subst (λ xs. IsOther form foreign within xs []) (sym is) (markup_other form foreign within start [] e tag (opens, inl (cut_here (ends_markup form foreign) start none)))
+open_cut : (form : Form) (foreign : Bool) (before : List ℕ) (within : State) (front start : List ℕ) → within ≡ Data → front ≡ start → begins_tag form start ≡ false → opens_markup start ≡ true → NoneEnds (ends_markup form foreign) start → IsOther form foreign before within front []
+open_cut form foreign before within front start e is tag opens none =
+    subst (λ xs. IsOther form foreign before within xs []) (sym is) (markup_other form foreign before within start [] e tag (opens, (cut_here (ends_markup form foreign) start none)))
 
 slash_only : (form : Form) → begins_tag form (60 ∷ 47 ∷ []) ≡ false
 slash_only Html = refl
 slash_only Xml = refl
 
-plain_cut : (form : Form) (foreign : Bool) (within : State) (front : List ℕ) → within ≡ Plaintext → IsOther form foreign within front []
-plain_cut form foreign within front e = subst (λ k. IsOther form foreign k front []) (sym e) refl
+plain_cut : (form : Form) (foreign : Bool) (before : List ℕ) (within : State) (front : List ℕ) → within ≡ Plaintext → IsOther form foreign before within front []
+plain_cut form foreign before within front e = subst (λ k. IsOther form foreign before k front []) (sym e) refl
 
-pub cut : (form : Form) (foreign : Bool) (within state : State) (front : List ℕ) → Stands form foreign within state front → IsInGrammar form foreign within (kind_of state front) front []
+pub cut : (form : Form) (foreign : Bool) (before : List ℕ) (within state : State) (front : List ℕ) → Stands form foreign before within state front → IsInGrammar form foreign before within (kind_of state front) front []
 unfolding kind_of
-cut form foreign within Data front s = (s.0, (s.1, tt))
-cut form foreign within CharacterReference front s = (s.0, record { name = []; whole = inl s.1; is_name = refl })
-cut form foreign within ReferenceName front (c, x, name, whole, named) = (c, record { name = x ∷ name; whole = inl whole; is_name = named })
-cut form foreign within ReferenceEnd front s = s
-cut form foreign within TagOpen front s = stray form foreign within front [] s.0 s.1
-cut form foreign within EndTagOpen front s = open_cut form foreign within front (codes "</") s.0 s.1 (slash_only form) refl (none_slash form foreign)
-cut form foreign within TagName front t = tag_cut form foreign within front t
-cut form foreign within BeforeAttributeName front t = tag_cut form foreign within front t
-cut form foreign within AttributeName front t = tag_cut form foreign within front t
-cut form foreign within AfterAttributeName front t = tag_cut form foreign within front t
-cut form foreign within BeforeAttributeValue front (t, _) = tag_cut form foreign within front t
-cut form foreign within DoubleQuotedValue front (t, _) = tag_cut form foreign within front t
-cut form foreign within SingleQuotedValue front (t, _) = tag_cut form foreign within front t
-cut form foreign within UnquotedValue front t = tag_cut form foreign within front t
-cut form foreign within AfterQuotedValue front t = tag_cut form foreign within front t
-cut form foreign within SelfClosingTag front (t, _) = tag_cut form foreign within front t
-cut form foreign within TagEnd front t = tag_kind form foreign within front [] (is_end_tag front) refl t
-cut form foreign within EmptyTagEnd front (t, e) = empty_kind form foreign within front [] (is_end_tag front) refl t e
-cut form foreign within MarkupDeclarationOpen front s = open_cut form foreign within front (codes "<!") s.0 s.1 (bang_no_tag form []) refl (none_bang form foreign)
-cut form foreign within MarkupDeclarationDash front s = open_cut form foreign within front (codes "<!-") s.0 s.1 (bang_no_tag form (45 ∷ [])) refl (none_dash form foreign)
-cut form foreign within BogusComment front (c, d) = declared_cut form foreign within front c d
-cut form foreign within DoctypeSubset front (c, d) = part_cut form foreign within front c d
-cut form foreign within DoctypeSubsetEnd front (c, d) = part_cut form foreign within front c d
-cut form foreign within ProcessingInstruction front (c, d) = instruction_cut form foreign within front false c d
-cut form foreign within ProcessingInstructionMark front (c, d) = instruction_cut form foreign within front true c d
-cut form foreign within CommentStart front (c, _, d) = comment_cut form foreign within front true true false false false c d
-cut form foreign within CommentStartDash front (c, d) = comment_cut form foreign within front true true true false false c d
-cut form foreign within Comment front (c, (bang, d, _)) = comment_cut form foreign within front false false false false bang c d
-cut form foreign within CommentEndDash front (c, d) = comment_cut form foreign within front true false true false false c d
-cut form foreign within CommentEnd front (c, d) = comment_cut form foreign within front true true true true false c d
-cut form foreign within CommentEndBang front (c, _, d) = comment_cut form foreign within front false false false false true c d
-cut form foreign within CdataSection front (c, d) = section_cut form foreign within front false false c d
-cut form foreign within CdataSectionBracket front (c, d) = section_cut form foreign within front true false c d
-cut form foreign within CdataSectionEnd front (c, d) = section_cut form foreign within front true true c d
-cut form foreign within MarkupEnd front (c, d) = markup_other form foreign within front [] c d.no_tag (d.is [])
-cut form foreign within (Raw element) front (c, r) = raw_other form foreign within element front [] c r tt
-cut form foreign within ScriptEscaped front (c, r) = raw_other form foreign within Script front [] c r tt
-cut form foreign within ScriptDoubleEscaped front (c, r) = raw_other form foreign within Script front [] c r tt
-cut form foreign within Plaintext front s = plain_cut form foreign within front s
+cut form foreign before within Data front s = (s.0, (s.1, tt))
+cut form foreign before within CharacterReference front s = (s.0, record { name = []; whole = inl s.1; is_name = refl })
+cut form foreign before within ReferenceName front (c, x, name, whole, named) = (c, record { name = x ∷ name; whole = inl whole; is_name = named })
+cut form foreign before within ReferenceEnd front s = s
+cut form foreign before within TagOpen front s = stray form foreign before within front [] s.0 s.1
+cut form foreign before within EndTagOpen front s = open_cut form foreign before within front (codes "</") s.0 s.1 (slash_only form) refl (none_slash form foreign)
+cut form foreign before within TagName front (t, _) = tag_cut form foreign before within front t
+cut form foreign before within BeforeAttributeName front (t, _) = tag_cut form foreign before within front t
+cut form foreign before within AttributeName front (t, _) = tag_cut form foreign before within front t
+cut form foreign before within AfterAttributeName front (t, _) = tag_cut form foreign before within front t
+cut form foreign before within BeforeAttributeValue front (t, _, _) = tag_cut form foreign before within front t
+cut form foreign before within DoubleQuotedValue front (t, _, _) = tag_cut form foreign before within front t
+cut form foreign before within SingleQuotedValue front (t, _, _) = tag_cut form foreign before within front t
+cut form foreign before within UnquotedValue front (t, _) = tag_cut form foreign before within front t
+cut form foreign before within AfterQuotedValue front (t, _) = tag_cut form foreign before within front t
+cut form foreign before within SelfClosingTag front (t, _, _) = tag_cut form foreign before within front t
+cut form foreign before within TagEnd front t = tag_kind form foreign before within front [] (is_end_tag front) refl t
+cut form foreign before within EmptyTagEnd front (t, e) = empty_kind form foreign before within front [] (is_end_tag front) refl t e
+cut form foreign before within MarkupDeclarationOpen front s = open_cut form foreign before within front (codes "<!") s.0 s.1 (bang_no_tag form []) refl (none_bang form foreign)
+cut form foreign before within MarkupDeclarationDash front s = open_cut form foreign before within front (codes "<!-") s.0 s.1 (bang_no_tag form (45 ∷ [])) refl (none_dash form foreign)
+cut form foreign before within BogusComment front (c, d) = declared_cut form foreign before within front c d
+cut form foreign before within DoctypeSubset front (c, d) = part_cut form foreign before within front false c d
+cut form foreign before within DoctypeSubsetEnd front (c, d) = part_cut form foreign before within front true c d
+cut form foreign before within ProcessingInstruction front (c, d) = instruction_cut form foreign before within front false c d
+cut form foreign before within ProcessingInstructionMark front (c, d) = instruction_cut form foreign before within front true c d
+cut form foreign before within CommentStart front (c, _, d) = comment_cut form foreign before within front true true false false false c d
+cut form foreign before within CommentStartDash front (c, d) = comment_cut form foreign before within front true true true false false c d
+cut form foreign before within Comment front (c, (bang, d, _)) = comment_cut form foreign before within front false false false false bang c d
+cut form foreign before within CommentEndDash front (c, d) = comment_cut form foreign before within front true false true false false c d
+cut form foreign before within CommentEnd front (c, d) = comment_cut form foreign before within front true true true true false c d
+cut form foreign before within CommentEndBang front (c, _, d) = comment_cut form foreign before within front false false false false true c d
+cut form foreign before within CdataSection front (c, d) = section_cut form foreign before within front false false c d
+cut form foreign before within CdataSectionBracket front (c, d) = section_cut form foreign before within front true false c d
+cut form foreign before within CdataSectionEnd front (c, d) = section_cut form foreign before within front true true c d
+cut form foreign before within MarkupEnd front (c, d) = markup_other form foreign before within front [] c d.no_tag (d.is [])
+cut form foreign before within (Raw element) front (c, r) = raw_other form foreign before within element front [] c r tt
+cut form foreign before within ScriptEscaped front (c, r, _) = raw_other form foreign before within Script front [] c r tt
+cut form foreign before within ScriptDoubleEscaped front (c, r, _) = raw_other form foreign before within Script front [] c r tt
+cut form foreign before within Plaintext front s = plain_cut form foreign before within front s

@@ -18,5 +18,7 @@ pub mod ValueSteps
 pub mod WordsWithin
 pub mod FirstEnds
 pub mod Comments
+pub mod TagParts
+pub mod Scripts
 pub mod GrammarSteps
 pub mod GrammarPages

@@ -12,8 +12,8 @@ use Rattle.html_pieces.specs.Groups.{group_of, is_void, ends, stops, bounds, is_
 use Rattle.html_pieces.specs.References.{read_value}
 use Rattle.html_pieces.specs.Tags.{Attribute, attributes_of, value_of}
 use Rattle.html_pieces.specs.declared.bytes.Form.{Form}
-use Rattle.html_pieces.specs.declared.groups.Group.{Group}
-use Rattle.html_pieces.specs.declared.groups.Group.TheVariants.{Ordinary, Formatting, Root}
+use Rattle.html_pieces.specs.declared.groups.ElementGroup.{ElementGroup}
+use Rattle.html_pieces.specs.declared.groups.ElementGroup.TheVariants.{Ordinary, Formatting, Root}
 use Rattle.html_pieces.specs.declared.elements.Element as declared
 use Rattle.html_pieces.specs.declared.tokenizer.Kind.TheVariants.{StartTag, EmptyTag, EndTag}
 use Rattle.html_pieces.specs.declared.tokenizer.Kind.{Kind}
@@ -24,7 +24,7 @@ use Rattle.html_pieces.specs.declared.tokenizer.Kind.{Kind}
 -- From a formatting element on, it is altered where a language or `translate` is named.
 pub record Element : Type 0 where
   pub name : List ℕ
-  pub group : Group
+  pub group : ElementGroup
   pub language : List ℕ
   pub is_apart : Bool
   pub is_translated : Bool
@@ -128,11 +128,11 @@ abbrev pub language_of : Form → List Attribute → List ℕ → List ℕ
 language_of form attributes around = option_map_or language_by (language_value form attributes) around
 
 -- The group of an element that begins. Only HTML has groups.
-abbrev pub group_in : Form → Bool → List ℕ → Group
+abbrev pub group_in : Form → Bool → List ℕ → ElementGroup
 group_in form foreign name = if is_xml form || foreign then Ordinary else group_of name
 
 -- A formatting element, which may be opened anew in others (13.2.4.3).
-abbrev pub is_formatting : Group → Bool
+abbrev pub is_formatting : ElementGroup → Bool
 is_formatting Formatting = true
 is_formatting _ = false
 
@@ -180,7 +180,7 @@ depth_limit = 512
 
 -- The elements that stay open where one of a group begins, by the `left` next ones: those around the outermost one that it
 -- ends. As far as it has looked, `kept` stay.
-abbrev pub kept_open : Group → ℕ → List Element → List Element → List Element
+abbrev pub kept_open : ElementGroup → ℕ → List Element → List Element → List Element
 kept_open new left kept [] = kept
 kept_open new left kept (e ∷ es) =
     if left == 0 then kept
@@ -189,27 +189,27 @@ kept_open new left kept (e ∷ es) =
     else kept_open new (left - 1) kept es
 
 -- The elements that stay open where one of a group begins.
-abbrev pub before_new : Group → List Element → List Element
+abbrev pub before_new : ElementGroup → List Element → List Element
 before_new new elements = kept_open new depth_limit elements elements
 
 -- The elements around the first one of this name, among the `left` next ones and within its scope; none where there is no
 -- element of that name. The end tag of a heading closes any heading.
-abbrev pub around_first : Form → List ℕ → Group → ℕ → List Element → Option (List Element)
-around_first form name tag left [] = None
-around_first form name tag left (e ∷ es) =
+abbrev pub around_nearest_in_scope : Form → List ℕ → ElementGroup → ℕ → List Element → Option (List Element)
+around_nearest_in_scope form name tag left [] = None
+around_nearest_in_scope form name tag left (e ∷ es) =
     if left == 0 then None
     else if is_same_in form e.name name || is_heading tag && is_heading e.group then Some es
     else if bounds tag e.group then None
-    else around_first form name tag (left - 1) es
+    else around_nearest_in_scope form name tag (left - 1) es
 
 -- The open elements after an end tag: it closes the nearest one of its name with those in it; where none is open, it is
 -- passed by.
-abbrev pub closed_as : Form → List ℕ → Group → List Element → List Element
+abbrev pub closed_as : Form → List ℕ → ElementGroup → List Element → List Element
 closed_as form name tag elements =
-    if is_root tag then elements else unwrap_or (around_first form name tag depth_limit elements) elements
+    if is_root tag then elements else unwrap_or (around_nearest_in_scope form name tag depth_limit elements) elements
 
 -- The open elements after a start tag whose element is of a group.
-abbrev pub begun_as : Form → List ℕ → Element → Group → List ℕ → List Element → List Element
+abbrev pub begun_as : Form → List ℕ → Element → ElementGroup → List ℕ → List Element → List Element
 begun_as form class page new tag elements =
     if is_void new then before_new new elements
     else opened form class (innermost page (before_new new elements)) tag ∷ before_new new elements
@@ -219,7 +219,7 @@ abbrev pub is_closed_by_slash : Form → Bool → List ℕ → Bool
 is_closed_by_slash form foreign name = is_xml form || foreign || is_foreign_root name
 
 -- The open elements after a piece of a kind, whose element is of a group. `class` is the class whose elements are left alone.
-abbrev pub elements_by : Form → List ℕ → Group → Kind → List ℕ → Element → List Element → List Element
+abbrev pub elements_by : Form → List ℕ → ElementGroup → Kind → List ℕ → Element → List Element → List Element
 elements_by form class group StartTag tag page elements = begun_as form class page group tag elements
 elements_by form class group EmptyTag tag page elements =
     if is_closed_by_slash form (innermost page elements).is_foreign (name_of tag) then elements
@@ -228,7 +228,7 @@ elements_by form class group EndTag tag page elements = closed_as form (name_of 
 elements_by form class group _ tag page elements = elements
 
 -- The group of the element that a tag begins or ends, within another one.
-abbrev pub group_by : Form → Element → Kind → List ℕ → Group
+abbrev pub group_by : Form → Element → Kind → List ℕ → ElementGroup
 group_by form around StartTag tag = group_in form around.is_foreign (name_of tag)
 group_by form around EmptyTag tag = group_in form around.is_foreign (name_of tag)
 group_by form around EndTag tag = group_in form around.is_foreign (name_of tag)
@@ -239,7 +239,7 @@ abbrev pub as_elements : List declared.Element → List Element
 as_elements held = reverse (map as_element held)
 
 -- Open elements, as the code holds them, became those after a piece, whose element is of a group.
-abbrev pub Passes : Form → List ℕ → Group → Piece → Element → List declared.Element → List declared.Element → Type 0
+abbrev pub Passes : Form → List ℕ → ElementGroup → Piece → Element → List declared.Element → List declared.Element → Type 0
 Passes form class group p page old new = as_elements new ≡ elements_by form class group p.kind p.bytes page (as_elements old)
 
 -- The page as what is around all its elements.

@@ -3,8 +3,8 @@
 -- and 13.2.6.4.7 to 16 (the start tags that close open elements).
 use Rattle.std.specs.Prelude.{ℕ, Bool, true, false, not, List, [], ◌∷◌, codes, if◌then◌else◌}
 use Rattle.html_pieces.specs.Bytes.{is_same_name, is_one_of}
-use Rattle.html_pieces.specs.declared.groups.Group.{Group}
-use Rattle.html_pieces.specs.declared.groups.Group.TheVariants.{Ordinary, Formatting, Paragraph, Division, Heading, Listing, Block, Rule, Item, Term, Choice, Choices, Ruby, Cell, Row, Rows, Caption, Columns, Column, Table, Scope, Root, Head, HeadContent, HeadVoid, Template, Void}
+use Rattle.html_pieces.specs.declared.groups.ElementGroup.{ElementGroup}
+use Rattle.html_pieces.specs.declared.groups.ElementGroup.TheVariants.{Ordinary, Formatting, Paragraph, Division, Heading, Listing, Block, Rule, Item, Term, Choice, Choices, Ruby, Cell, Row, Rows, Caption, Columns, Column, Table, Scope, Root, Head, HeadContent, HeadVoid, Template, Void}
 
 -- Sections, and what is around them. Their start tags end a paragraph: "close a p element".
 abbrev pub section_names : List (List ℕ)
@@ -49,7 +49,7 @@ abbrev pub head_names : List (List ℕ)
 head_names = codes "noframes" ∷ codes "noscript" ∷ codes "script" ∷ codes "style" ∷ codes "title" ∷ []
 
 -- The group of the elements of a name.
-unfoldable pub group_of : List ℕ → Group
+unfoldable pub group_of : List ℕ → ElementGroup
 group_of name =
     if is_same_name name (codes "p") then Paragraph
     else if is_one_of (codes "div" ∷ codes "address" ∷ codes "dialog" ∷ []) name then Division
@@ -81,7 +81,7 @@ group_of name =
     else Ordinary
 
 -- Elements without content.
-abbrev pub is_void : Group → Bool
+abbrev pub is_void : ElementGroup → Bool
 is_void Rule = true
 is_void Column = true
 is_void HeadVoid = true
@@ -89,7 +89,7 @@ is_void Void = true
 is_void _ = false
 
 -- They end a paragraph.
-abbrev pub ends_paragraph : Group → Bool
+abbrev pub ends_paragraph : ElementGroup → Bool
 ends_paragraph Paragraph = true
 ends_paragraph Division = true
 ends_paragraph Heading = true
@@ -102,14 +102,14 @@ ends_paragraph Table = true
 ends_paragraph _ = false
 
 -- They are in a head.
-abbrev pub is_in_head : Group → Bool
+abbrev pub is_in_head : ElementGroup → Bool
 is_in_head HeadContent = true
 is_in_head HeadVoid = true
 is_in_head Template = true
 is_in_head _ = false
 
 -- They are parts of a table that are in a row group, or hold rows or columns: each ends a caption.
-abbrev pub is_table_part : Group → Bool
+abbrev pub is_table_part : ElementGroup → Bool
 is_table_part Cell = true
 is_table_part Row = true
 is_table_part Rows = true
@@ -119,7 +119,7 @@ is_table_part Column = true
 is_table_part _ = false
 
 -- They are no cells, and so end a row.
-abbrev pub ends_row : Group → Bool
+abbrev pub ends_row : ElementGroup → Bool
 ends_row Row = true
 ends_row Rows = true
 ends_row Caption = true
@@ -128,7 +128,7 @@ ends_row Column = true
 ends_row _ = false
 
 -- They are neither cells nor rows, and so end a row group.
-abbrev pub ends_rows : Group → Bool
+abbrev pub ends_rows : ElementGroup → Bool
 ends_rows Rows = true
 ends_rows Caption = true
 ends_rows Columns = true
@@ -136,7 +136,7 @@ ends_rows Column = true
 ends_rows _ = false
 
 -- They end a group of columns: all parts of a table but its columns.
-abbrev pub ends_columns : Group → Bool
+abbrev pub ends_columns : ElementGroup → Bool
 ends_columns Cell = true
 ends_columns Row = true
 ends_columns Rows = true
@@ -145,35 +145,35 @@ ends_columns Columns = true
 ends_columns _ = false
 
 -- It is an item of a list.
-abbrev pub is_item : Group → Bool
+abbrev pub is_item : ElementGroup → Bool
 is_item Item = true
 is_item _ = false
 
 -- It is a term, or what is said of one.
-abbrev pub is_term : Group → Bool
+abbrev pub is_term : ElementGroup → Bool
 is_term Term = true
 is_term _ = false
 
 -- They end an option.
-abbrev pub ends_choice : Group → Bool
+abbrev pub ends_choice : ElementGroup → Bool
 ends_choice Choice = true
 ends_choice Choices = true
 ends_choice Rule = true
 ends_choice _ = false
 
 -- They end a group of options.
-abbrev pub ends_choices : Group → Bool
+abbrev pub ends_choices : ElementGroup → Bool
 ends_choices Choices = true
 ends_choices Rule = true
 ends_choices _ = false
 
 -- It is a reading, or a parenthesis around one.
-abbrev pub is_ruby : Group → Bool
+abbrev pub is_ruby : ElementGroup → Bool
 is_ruby Ruby = true
 is_ruby _ = false
 
 -- An element of the first group that begins ends an open one of the second: the end tag of that one may be left out.
-unfoldable pub ends : Group → Group → Bool
+unfoldable pub ends : ElementGroup → ElementGroup → Bool
 ends new Paragraph = ends_paragraph new
 ends new Item = is_item new
 ends new Term = is_term new
@@ -189,7 +189,7 @@ ends new Head = not (is_in_head new)
 ends new _ = false
 
 -- Tables and their parts, and the elements that hold a scope of their own.
-abbrev pub is_boundary : Group → Bool
+abbrev pub is_boundary : ElementGroup → Bool
 is_boundary Table = true
 is_boundary Cell = true
 is_boundary Row = true
@@ -202,7 +202,7 @@ is_boundary Template = true
 is_boundary _ = false
 
 -- The search for an item of a list goes on past them.
-abbrev pub is_passed_by_items : Group → Bool
+abbrev pub is_passed_by_items : ElementGroup → Bool
 is_passed_by_items Ordinary = true
 is_passed_by_items Formatting = true
 is_passed_by_items Division = true
@@ -214,7 +214,7 @@ is_passed_by_items _ = false
 -- How far an element of the first group that begins looks for those that it ends. It does not look past an open one of the
 -- second. Items and terms do not look past an item's contents, and paragraphs and parts of tables not past a boundary. All
 -- others look only at the innermost elements.
-unfoldable pub stops : Group → Group → Bool
+unfoldable pub stops : ElementGroup → ElementGroup → Bool
 stops Item other = not (is_passed_by_items other)
 stops Term other = not (is_passed_by_items other)
 stops Paragraph other = is_boundary other
@@ -233,19 +233,19 @@ stops Column other = is_boundary other
 stops _ other = true
 
 -- It is a table or a part of one.
-abbrev pub is_table : Group → Bool
+abbrev pub is_table : ElementGroup → Bool
 is_table Table = true
 is_table g = is_table_part g
 
 -- Where the scope of tables ends.
-abbrev pub ends_table_scope : Group → Bool
+abbrev pub ends_table_scope : ElementGroup → Bool
 ends_table_scope Table = true
 ends_table_scope Root = true
 ends_table_scope Template = true
 ends_table_scope _ = false
 
 -- Where the scope of other elements ends.
-abbrev pub ends_scope : Group → Bool
+abbrev pub ends_scope : ElementGroup → Bool
 ends_scope Table = true
 ends_scope Cell = true
 ends_scope Caption = true
@@ -255,12 +255,12 @@ ends_scope Template = true
 ends_scope _ = false
 
 -- Where the scope of an item of a list ends too.
-abbrev pub ends_item_scope : Group → Bool
+abbrev pub ends_item_scope : ElementGroup → Bool
 ends_item_scope Listing = true
 ends_item_scope other = ends_scope other
 
 -- The special elements: no end tag of an ordinary element closes one.
-abbrev pub is_special : Group → Bool
+abbrev pub is_special : ElementGroup → Bool
 is_special Ordinary = false
 is_special Formatting = false
 is_special Ruby = false
@@ -269,17 +269,17 @@ is_special Choices = false
 is_special _ = true
 
 -- How far an end tag of the first group looks for its element: not past an open one of the second.
-unfoldable pub bounds : Group → Group → Bool
+unfoldable pub bounds : ElementGroup → ElementGroup → Bool
 bounds Ordinary other = is_special other
 bounds Item other = ends_item_scope other
 bounds tag other = if is_table tag then ends_table_scope other else ends_scope other
 
 -- It is a heading.
-abbrev pub is_heading : Group → Bool
+abbrev pub is_heading : ElementGroup → Bool
 is_heading Heading = true
 is_heading _ = false
 
 -- The end tags of "body" and "html" close nothing: what is after them belongs to the body.
-abbrev pub is_root : Group → Bool
+abbrev pub is_root : ElementGroup → Bool
 is_root Root = true
 is_root _ = false

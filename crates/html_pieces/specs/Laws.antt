@@ -1,6 +1,7 @@
 -- Statements that are true of all pages.
 use Rattle.std.specs.Prelude.{◌≡◌, ℕ, ◌==◌, ◌||◌, ◌&&◌, Bool, true, false, List, [], ◌∷◌, map, IsUtf8}
 use Rattle.std.specs.List.{concat}
+use Rattle.html_pieces.specs.declared.bytes.Form.{Form}
 use Rattle.html_pieces.specs.declared.bytes.Form.TheVariants.{Xml}
 use Rattle.html_pieces.specs.Elements.{Element, page_element}
 use Rattle.html_pieces.specs.Forms.{begins_with_order_mark, is_start, form_of}
@@ -49,6 +50,11 @@ abbrev pub HaveOtherTexts : List Piece → List Piece → Type 0
 HaveOtherTexts [] [] = Unit {0}
 HaveOtherTexts (p ∷ ps) (other ∷ others) = IsAlike p other × HaveOtherTexts ps others
 HaveOtherTexts _ _ = ⊥
+
+-- Other texts in the place of those of a page are cut alike: into these pieces.
+abbrev pub AreCutAlike : Type 0
+AreCutAlike = (form : Form) (page : List ℕ) (others : List Piece) → HaveOtherTexts (pieces_of form page) others
+    → pieces_of form (joined_pieces others) ≡ others
 
 -- The pieces of a page of XML, up to its first start tag, are read alike by all parsers. `page` is what is around all elements.
 abbrev pub have_alike_front : Element → List Piece → Bool

@@ -13,8 +13,8 @@ use Rattle.html_pieces.specs.References.{has_ampersand}
 use Rattle.html_pieces.specs.Groups.{heading_names, ends, stops, bounds, is_table_part, is_heading, is_root, is_special, is_void}
 use Rattle.html_pieces.specs.Elements.{Element, as_elements, innermost, before_new, elements_by, group_by, depth_limit}
 use Rattle.html_pieces.specs.declared.bytes.Form.{Form}
-use Rattle.html_pieces.specs.declared.groups.Group.{Group}
-use Rattle.html_pieces.specs.declared.groups.Group.TheVariants.{Ordinary, Formatting, Paragraph, Heading, Block, Item, Term, Choice, Choices, Ruby, Cell, Row, Rows, Caption, Columns, Column, Table, Scope, Root, Head, HeadContent, HeadVoid, Template}
+use Rattle.html_pieces.specs.declared.groups.ElementGroup.{ElementGroup}
+use Rattle.html_pieces.specs.declared.groups.ElementGroup.TheVariants.{Ordinary, Formatting, Paragraph, Heading, Block, Item, Term, Choice, Choices, Ruby, Cell, Row, Rows, Caption, Columns, Column, Table, Scope, Root, Head, HeadContent, HeadVoid, Template}
 use Rattle.html_pieces.specs.declared.readings.Phase.{Phase}
 use Rattle.html_pieces.specs.declared.readings.Phase.TheVariants as reached
 use Rattle.html_pieces.specs.declared.readings.Reading as declared
@@ -122,7 +122,7 @@ is_sign bytes = pointwise nat_eq bytes (codes "<")
 -- ---- elements
 
 -- An element of this name is open, or a heading where the name is that of one.
-abbrev pub is_open : List ℕ → Group → List Element → Bool
+abbrev pub is_open : List ℕ → ElementGroup → List Element → Bool
 is_open name group [] = false
 is_open name group (e ∷ es) = is_same_name e.name name || is_heading group && is_heading e.group || is_open name group es
 
@@ -136,7 +136,7 @@ abbrev pub is_read_raw : List ℕ → Bool
 is_read_raw name = is_some (raw_element name) || is_same_name name (codes "plaintext") || is_same_name name (codes "noscript")
 
 -- Text in such an element is elsewhere in the tree (13.2.6.1, foster parents; 13.2.6.4.4, "in head").
-abbrev pub holds_no_text : Group → Bool
+abbrev pub holds_no_text : ElementGroup → Bool
 holds_no_text Table = true
 holds_no_text Rows = true
 holds_no_text Row = true
@@ -145,7 +145,7 @@ holds_no_text Head = true
 holds_no_text _ = false
 
 -- The end tag of an element of a group may be left out.
-abbrev pub may_be_left_out : Group → Bool
+abbrev pub may_be_left_out : ElementGroup → Bool
 may_be_left_out Paragraph = true
 may_be_left_out Item = true
 may_be_left_out Term = true
@@ -161,24 +161,24 @@ may_be_left_out Head = true
 may_be_left_out _ = false
 
 -- The element is a paragraph.
-abbrev pub is_paragraph : Group → Bool
+abbrev pub is_paragraph : ElementGroup → Bool
 is_paragraph Paragraph = true
 is_paragraph _ = false
 
 -- The element is a table.
-abbrev pub is_whole_table : Group → Bool
+abbrev pub is_whole_table : ElementGroup → Bool
 is_whole_table Table = true
 is_whole_table _ = false
 
 -- The end tag of an open element may be left out where one of the first group begins. A table ends a paragraph only by the
 -- document type of HTML.
-abbrev pub is_left_out_before : Bool → Group → Group → Bool
+abbrev pub is_left_out_before : Bool → ElementGroup → ElementGroup → Bool
 is_left_out_before standard new other =
     may_be_left_out other && (standard || not (is_paragraph other && is_whole_table new))
 
 -- All that an element of a group ends where it begins, among the `left` next ones, has end tags that may be left out. So it is
 -- with those up to the last one that it ends (`so_far`), and with all that were looked at (`all`).
-abbrev pub ends_alike_from : Bool → Group → ℕ → Bool → Bool → List Element → Bool
+abbrev pub ends_alike_from : Bool → ElementGroup → ℕ → Bool → Bool → List Element → Bool
 ends_alike_from standard new left so_far all [] = so_far
 ends_alike_from standard new left so_far all (e ∷ es) =
     if left == 0 then so_far
@@ -189,7 +189,7 @@ ends_alike_from standard new left so_far all (e ∷ es) =
     else ends_alike_from standard new (left - 1) so_far (all && is_left_out_before standard new e.group) es
 
 -- All that an element of a group ends where it begins has end tags that may be left out.
-abbrev pub ends_alike : Bool → Group → List Element → Bool
+abbrev pub ends_alike : Bool → ElementGroup → List Element → Bool
 ends_alike standard new elements = ends_alike_from standard new depth_limit true true elements
 
 -- ---- start tags of HTML
@@ -238,7 +238,7 @@ odd_names =
     codes "frameset" ∷ codes "image" ∷ codes "malignmark" ∷ codes "mglyph" ∷ codes "rb" ∷ codes "rtc" ∷ []
 
 -- The element is an option, or a group of them.
-abbrev pub is_choice : Group → Bool
+abbrev pub is_choice : ElementGroup → Bool
 is_choice Choice = true
 is_choice Choices = true
 is_choice _ = false
@@ -250,24 +250,24 @@ takes_content around within =
     not (is_choice around.group) && not (holds_no_text within.group) && not (is_same_name within.name (codes "select"))
 
 -- It is a template.
-abbrev pub is_template : Group → Bool
+abbrev pub is_template : ElementGroup → Bool
 is_template Template = true
 is_template _ = false
 
 -- It is the element of a head.
-abbrev pub is_head : Group → Bool
+abbrev pub is_head : ElementGroup → Bool
 is_head Head = true
 is_head _ = false
 
 -- An element that a head may have may begin: where content may, in a head, and some in a table.
-abbrev pub takes_head_content : Element → Element → Group → List ℕ → Bool
+abbrev pub takes_head_content : Element → Element → ElementGroup → List ℕ → Bool
 takes_head_content around within new name =
     not (is_choice around.group) && not (is_same_name within.name (codes "select"))
     && (not (holds_no_text within.group) || is_head within.group || is_template new || is_same_name name (codes "script")
     || is_same_name name (codes "style"))
 
 -- Where cells, rows, row groups or captions, groups of columns, and columns may begin.
-abbrev pub takes_cells : Group → Bool
+abbrev pub takes_cells : ElementGroup → Bool
 takes_cells Table = true
 takes_cells Rows = true
 takes_cells Row = true
@@ -275,20 +275,20 @@ takes_cells Template = true
 takes_cells _ = false
 
 -- Where a row may begin.
-abbrev pub takes_rows : Group → Bool
+abbrev pub takes_rows : ElementGroup → Bool
 takes_rows Table = true
 takes_rows Rows = true
 takes_rows Template = true
 takes_rows _ = false
 
 -- Where a row group or a caption may begin.
-abbrev pub takes_row_groups : Group → Bool
+abbrev pub takes_row_groups : ElementGroup → Bool
 takes_row_groups Table = true
 takes_row_groups Template = true
 takes_row_groups _ = false
 
 -- Where a column may begin.
-abbrev pub takes_columns : Group → Bool
+abbrev pub takes_columns : ElementGroup → Bool
 takes_columns Table = true
 takes_columns Columns = true
 takes_columns _ = false
@@ -333,7 +333,7 @@ abbrev pub is_alone : List (List ℕ) → List ℕ → List Element → Bool
 is_alone names name elements = not (is_one_of names name && is_open name Ordinary elements)
 
 -- An element of a group may begin where it does: all parsers put it there. `standard` is the document type of HTML.
-unfoldable pub is_expected : Phase → Element → Element → List Element → Group → List ℕ → Bool
+unfoldable pub is_expected : Phase → Element → Element → List Element → ElementGroup → List ℕ → Bool
 is_expected phase around within elements Root name = takes_root phase within name
 is_expected phase around within elements Head name = is_before_head phase && is_root within.group
 is_expected phase around within elements HeadContent name = takes_head_content around within HeadContent name
@@ -363,12 +363,12 @@ is_content_alike around name =
 
 -- The end tag of a formatting element around an element of a group may put its text elsewhere. It counts where a language is
 -- named between the two. (13.2.6.4.7, the adoption agency algorithm.)
-abbrev pub may_be_adopted : Element → Group → List ℕ → Bool
+abbrev pub may_be_adopted : Element → ElementGroup → List ℕ → Bool
 may_be_adopted within new name =
     within.is_altered && not within.is_in_drawing && is_special new && not (is_void new) && not (is_foreign_root name)
 
 -- A start tag of HTML is read alike by all parsers, outside of SVG and MathML.
-abbrev pub is_html_start_alike : Element → Reading → Group → List ℕ → Bool
+abbrev pub is_html_start_alike : Element → Reading → ElementGroup → List ℕ → Bool
 is_html_start_alike page reading new name =
     is_content_alike (innermost page reading.elements) name && ends_alike reading.is_standard new reading.elements
     && not (may_be_adopted (innermost page (before_new new reading.elements)) new name)
@@ -376,7 +376,7 @@ is_html_start_alike page reading new name =
     reading.elements new name
 
 -- A start tag of a page in HTML is read alike by all parsers.
-abbrev pub is_start_alike : Element → Reading → Group → List ℕ → Bool
+abbrev pub is_start_alike : Element → Reading → ElementGroup → List ℕ → Bool
 is_start_alike page reading new tag =
     if (innermost page reading.elements).is_foreign then is_foreign_start_alike reading.elements (name_of tag) tag
     else is_html_start_alike page reading new (name_of tag)
@@ -384,7 +384,7 @@ is_start_alike page reading new tag =
 -- ---- end tags of HTML
 
 -- An end tag of the group closes paragraphs, items and terms that are in its element: "generate implied end tags".
-abbrev pub closes_blocks : Group → Bool
+abbrev pub closes_blocks : ElementGroup → Bool
 closes_blocks Root = false
 closes_blocks Head = false
 closes_blocks HeadContent = false
@@ -393,7 +393,7 @@ closes_blocks Columns = false
 closes_blocks tag = is_special tag
 
 -- An end tag of the group closes cells; rows too; row groups, captions and groups of columns too.
-abbrev pub closes_cells : Group → Bool
+abbrev pub closes_cells : ElementGroup → Bool
 closes_cells Row = true
 closes_cells Rows = true
 closes_cells Table = true
@@ -401,14 +401,14 @@ closes_cells Template = true
 closes_cells _ = false
 
 -- An end tag of the group closes rows.
-abbrev pub closes_rows : Group → Bool
+abbrev pub closes_rows : ElementGroup → Bool
 closes_rows Rows = true
 closes_rows Table = true
 closes_rows Template = true
 closes_rows _ = false
 
 -- An end tag of the first group closes an element of the second that is in its own and has no end tag.
-unfoldable pub is_left_out_in : Group → Group → Bool
+unfoldable pub is_left_out_in : ElementGroup → ElementGroup → Bool
 is_left_out_in tag Ruby = true
 is_left_out_in tag Choice = true
 is_left_out_in tag Choices = true
@@ -424,7 +424,7 @@ is_left_out_in tag _ = false
 
 -- All that an end tag closes in its element, among the `left` next ones, has no end tag by these rules; none where its element
 -- is not found. `all` says so of those before.
-abbrev pub closes_alike_from : List ℕ → Group → ℕ → Bool → List Element → Option Bool
+abbrev pub closes_alike_from : List ℕ → ElementGroup → ℕ → Bool → List Element → Option Bool
 closes_alike_from name tag left all [] = None
 closes_alike_from name tag left all (e ∷ es) =
     if left == 0 then None
@@ -434,7 +434,7 @@ closes_alike_from name tag left all (e ∷ es) =
 
 -- An end tag without an element is passed by: none of its name is open. It is no part of a table, no "br", and no paragraph
 -- where none may be.
-abbrev pub is_passed_by : Element → Group → List ℕ → List Element → Bool
+abbrev pub is_passed_by : Element → ElementGroup → List ℕ → List Element → Bool
 is_passed_by around tag name elements =
     not (is_table_part tag) && not (is_same_name name (codes "br")) && not (is_paragraph tag && holds_no_text around.group)
     && not (is_open name tag elements)
@@ -444,13 +444,13 @@ abbrev pub is_hidden : Element → Bool
 is_hidden e = e.is_in_noscript || e.is_in_template
 
 -- An end tag of HTML is read alike by all parsers, outside of SVG and MathML.
-abbrev pub is_html_end_alike : Element → Group → List ℕ → List Element → Bool
+abbrev pub is_html_end_alike : Element → ElementGroup → List ℕ → List Element → Bool
 is_html_end_alike around tag name elements =
     if is_root tag then not (is_hidden around)
     else option_map_or (λ all. all) (closes_alike_from name tag depth_limit true elements) (is_passed_by around tag name elements)
 
 -- An end tag of a page in HTML is read alike by all parsers. In a drawing it is that of the innermost element.
-abbrev pub is_end_alike : Element → Reading → Group → List ℕ → Bool
+abbrev pub is_end_alike : Element → Reading → ElementGroup → List ℕ → Bool
 is_end_alike page reading tag name =
     if (innermost page reading.elements).is_in_drawing then is_same_name (innermost page reading.elements).name name
     else is_html_end_alike (innermost page reading.elements) tag name reading.elements
@@ -473,7 +473,7 @@ is_html_other_alike around phase bytes =
     else not (is_odd_section around bytes)
 
 -- A piece of a page in HTML is read alike by all parsers.
-abbrev pub is_html_alike : Element → Reading → Group → Kind → List ℕ → Bool
+abbrev pub is_html_alike : Element → Reading → ElementGroup → Kind → List ℕ → Bool
 is_html_alike page reading group Text bytes = not (has_text bytes) || is_content_here (innermost page reading.elements)
 is_html_alike page reading group Reference bytes = is_content_here (innermost page reading.elements)
 is_html_alike page reading group StartTag bytes = is_start_alike page reading group bytes
@@ -527,7 +527,7 @@ stays_in_noscript around EndTag bytes =
 stays_in_noscript around _ bytes = is_in_raw_noscript around bytes
 
 -- A piece is read alike by all parsers.
-abbrev pub is_alike_by : Form → Element → Reading → Group → Kind → List ℕ → Bool
+abbrev pub is_alike_by : Form → Element → Reading → ElementGroup → Kind → List ℕ → Bool
 is_alike_by form page reading group kind bytes =
     nat_lt (length reading.elements) depth_limit
     && stays_in_noscript (innermost page reading.elements) kind bytes
@@ -546,7 +546,7 @@ head_from reached.Body = reached.Body
 head_from _ = reached.Head
 
 -- After a start tag, whose element is of a group.
-abbrev pub phase_after_start : Bool → Phase → Group → List ℕ → Phase
+abbrev pub phase_after_start : Bool → Phase → ElementGroup → List ℕ → Phase
 phase_after_start hidden phase Root name = if is_same_name name (codes "html") then reached.Root else reached.Body
 phase_after_start hidden phase Head name = reached.Head
 phase_after_start hidden phase HeadContent name = if hidden then phase else head_from phase
@@ -561,7 +561,7 @@ phase_after_other around phase bytes =
     body_unless (is_hidden around || is_some (raw_element around.name) || not (is_sign bytes)) phase
 
 -- After a piece.
-abbrev pub phase_after : Element → Phase → Group → Kind → List ℕ → Phase
+abbrev pub phase_after : Element → Phase → ElementGroup → Kind → List ℕ → Phase
 phase_after around phase group Text bytes = body_unless (is_hidden around || not (has_text bytes)) phase
 phase_after around phase group Reference bytes = body_unless (is_hidden around) phase
 phase_after around phase group StartTag bytes = phase_after_start (is_hidden around) phase group (name_of bytes)
@@ -580,7 +580,7 @@ standard_after standard phase Other bytes = standard_after_other standard phase 
 standard_after standard phase _ bytes = standard
 
 -- The reading after a piece of one kind, whose element is of a group.
-abbrev pub read_by : Form → List ℕ → Element → Reading → Group → Piece → Reading
+abbrev pub read_by : Form → List ℕ → Element → Reading → ElementGroup → Piece → Reading
 read_by form class page reading group p = record {
   elements = elements_by form class group p.kind p.bytes page reading.elements;
   phase = phase_after (innermost page reading.elements) reading.phase group p.kind p.bytes;

@@ -50,8 +50,8 @@ abbrev pub semicolon_at : List ℕ → ℕ → ℕ
 semicolon_at bytes place = if slice_index bytes place == 59 then 1 else 0
 
 -- The reference of some digits, which bytes begin with. It has this number of bytes before them; none is there without digits.
-abbrev pub of_digits : Bool → ℕ → List ℕ → List ℕ → Option Reference
-of_digits hexadecimal before digits bytes =
+abbrev pub reference_of_digits : Bool → ℕ → List ℕ → List ℕ → Option Reference
+reference_of_digits hexadecimal before digits bytes =
     if length digits == 0 then None
     else Some (record {
       character = character_of (number_of hexadecimal digits);
@@ -60,7 +60,7 @@ of_digits hexadecimal before digits bytes =
 
 -- The reference whose digits are all that bytes begin with.
 abbrev pub digits_at : Bool → ℕ → List ℕ → Option Reference
-digits_at hexadecimal before bytes = of_digits hexadecimal before (take_while (is_digit hexadecimal) bytes) bytes
+digits_at hexadecimal before bytes = reference_of_digits hexadecimal before (take_while (is_digit hexadecimal) bytes) bytes
 
 -- The reference that goes on after "&#".
 abbrev pub number_at : List ℕ → Option Reference
@@ -131,31 +131,31 @@ line_named name =
     else None
 
 -- The first of two that there is.
-abbrev pub first_of : Option ℕ → Option ℕ → Option ℕ
-first_of None other = other
-first_of (Some character) other = Some character
+abbrev pub first_named : Option ℕ → Option ℕ → Option ℕ
+first_named None other = other
+first_named (Some character) other = Some character
 
 -- The character of ASCII that has a name.
 abbrev pub named : List ℕ → Option ℕ
 named name =
-    first_of (old_named name)
-    (first_of (bracket_named name) (first_of (sentence_named name) (first_of (sign_named name) (line_named name))))
+    first_named (old_named name)
+    (first_named (bracket_named name) (first_named (sentence_named name) (first_named (sign_named name) (line_named name))))
 
 -- A reference of some bytes.
-abbrev pub of_size : ℕ → Option ℕ → Option Reference
-of_size size character = option_map (λ c. record { character = c; size = size }) character
+abbrev pub reference_of_size : ℕ → Option ℕ → Option Reference
+reference_of_size size character = option_map (λ c. record { character = c; size = size }) character
 
 -- The reference of a name that bytes begin with. Without ";" it is none where "=" comes next.
-abbrev pub of_name : List ℕ → List ℕ → Option Reference
-of_name name bytes =
-    if slice_index bytes (length name) == 59 then of_size (length name + 1) (named name)
+abbrev pub reference_of_name : List ℕ → List ℕ → Option Reference
+reference_of_name name bytes =
+    if slice_index bytes (length name) == 59 then reference_of_size (length name + 1) (named name)
     else if slice_index bytes (length name) == 61 then None
-    else of_size (length name) (old_named name)
+    else reference_of_size (length name) (old_named name)
 
 -- The reference whose name bytes begin with. All letters and digits are of the name, so that none comes after one without
 -- ";", as the standard wants it in attributes.
 abbrev pub name_at : List ℕ → Option Reference
-name_at bytes = of_name (take_while is_alphanumeric bytes) bytes
+name_at bytes = reference_of_name (take_while is_alphanumeric bytes) bytes
 
 -- ---- values
 

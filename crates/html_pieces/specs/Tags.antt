@@ -1,6 +1,6 @@
 -- The attributes of a tag.
 -- Source: HTML Living Standard, 13.2.5.32 to 13.2.5.39. Values are as they are written: References says how they are read.
-use Rattle.std.specs.Prelude.{ℕ, Bool, true, false, not, ◌&&◌, ◌++◌, List, [], ◌∷◌, drop, Option, Some, None, if◌then◌else◌}
+use Rattle.std.specs.Prelude.{◌≡◌, ℕ, Bool, true, false, not, ◌&&◌, ◌++◌, List, [], ◌∷◌, map, drop, Option, Some, None, if◌then◌else◌}
 use Rattle.std.specs.Option.{unwrap_or}
 use Rattle.html_pieces.specs.Bytes.{is_same_in}
 use Rattle.html_pieces.specs.declared.bytes.Form.{Form}
@@ -17,6 +17,10 @@ pub record Attribute : Type 0 where
 -- The same of an attribute as the code holds it.
 abbrev pub as_attribute : declared.Attribute → Attribute
 as_attribute held = record { name = held.name.now; value = held.value.now }
+
+-- Attributes as the code holds them, the second ones, are the first ones and more.
+abbrev pub Appends : List declared.Attribute → List declared.Attribute → List Attribute → Type 0
+Appends old new more = map as_attribute new ≡ map as_attribute old ++ more
 
 -- The byte that led to the state belongs to a name.
 abbrev pub is_name : State → Bool
@@ -36,13 +40,13 @@ is_value UnquotedValue = true
 is_value _ = false
 
 -- The name after a byte that leads from a state to another: it grows, or another one begins with the byte.
-abbrev pub name_on : State → State → List ℕ → ℕ → List ℕ
-name_on state after name b =
+abbrev pub attribute_name_after : State → State → List ℕ → ℕ → List ℕ
+attribute_name_after state after name b =
     if is_name after then (if is_name state then name ++ b ∷ [] else b ∷ []) else name
 
 -- The value in the same way: a name begins without one, and the quote that leads to a quoted value is no part of it.
-abbrev pub value_on : State → State → List ℕ → ℕ → List ℕ
-value_on state after value b =
+abbrev pub attribute_value_after : State → State → List ℕ → ℕ → List ℕ
+attribute_value_after state after value b =
     if is_name after then []
     else if is_value after then (if is_value state then value ++ b ∷ [] else if is_unquoted after then b ∷ [] else [])
     else value
@@ -62,7 +66,7 @@ attributes_from form state name value [] = read name value
 attributes_from form state name value (b ∷ bs) =
     let after = unwrap_or (next form false state [] b) TagEnd in
     ended state after name value
-    ++ attributes_from form after (name_on state after name b) (value_on state after value b) bs
+    ++ attributes_from form after (attribute_name_after state after name b) (attribute_value_after state after value b) bs
 
 -- The attributes of a tag, in order.
 abbrev pub attributes_of : Form → List ℕ → List Attribute

@@ -14,7 +14,7 @@ ghost use Rattle.html_pieces.specs.Pieces.{as_piece};
 ghost use Rattle.html_pieces.specs.Elements.{page_element};
 
 use crate::bytes::{Form, is_one_of, is_same_in, is_same_name, is_white_space};
-use crate::groups::{Group, bounds, ends, group_of, is_heading, is_root, is_void, stops};
+use crate::groups::{ElementGroup, bounds, ends, group_of, is_heading, is_root, is_void, stops};
 use crate::references::{has_ampersand, read, read_plain};
 use crate::tags::{Attribute, attributes, value_of};
 use crate::tokenizer::{Kind, Piece, is_foreign_root, name_of};
@@ -24,7 +24,7 @@ use std::alloc::{AllocError, Global};
 #[derive(Clone, Copy, Debug)]
 pub struct Element<'t> {
     pub name: &'t [u8],
-    pub group: Group,
+    pub group: ElementGroup,
     /// The language of its text, as it is written.
     pub language: &'t [u8],
     /// Whether its language may have character references, which are to be read.
@@ -210,20 +210,20 @@ fn language_of<'t>(form: Form, attributes: &[Attribute<'t>], around: Element<'t>
 }
 
 // The group of an element that begins or ends.
-fn group_in(form: Form, foreign: bool, name: &[u8]) -> Group
+fn group_in(form: Form, foreign: bool, name: &[u8]) -> ElementGroup
     ensures { result ≡ group_in form foreign name.now }
 {
     if form.is_xml() || foreign {
-        Group::Ordinary
+        ElementGroup::Ordinary
     } else {
         group_of(name)
     }
 }
 
-const fn is_formatting(group: Group) -> bool
+const fn is_formatting(group: ElementGroup) -> bool
     ensures { result ≡ is_formatting group }
 {
-    matches!(group, Group::Formatting)
+    matches!(group, ElementGroup::Formatting)
 }
 
 // Whether attributes name a language, or whether the text may be translated.
@@ -234,7 +234,7 @@ fn names_other(form: Form, attributes: &[Attribute<'_>]) -> bool
 }
 
 // Whether an element is a formatting element, or is in one.
-fn is_in_formatting(around: bool, group: Group) -> bool
+fn is_in_formatting(around: bool, group: ElementGroup) -> bool
     ensures { result ≡ (around || is_formatting group) }
 {
     around || is_formatting(group)
@@ -336,7 +336,7 @@ fn opened<'t>(
 
 // The number of elements that stay open where one of a group begins.
 #[tactic(auto, using(crate::proofs::Limits::kept_at_limit))]
-pub(crate) fn before_new(elements: &[Element<'_>], new: Group) -> usize
+pub(crate) fn before_new(elements: &[Element<'_>], new: ElementGroup) -> usize
     ensures kept { as_elements (take result elements.now) ≡ before_new new (as_elements elements.now) }
     ensures within { result ≤ length elements.now }
 {
@@ -359,7 +359,7 @@ pub(crate) fn before_new(elements: &[Element<'_>], new: Group) -> usize
 }
 
 // The number of elements that stay open after an end tag.
-fn around_first(form: Form, elements: &[Element<'_>], name: &[u8], tag: Group) -> usize
+fn kept_by_end_tag(form: Form, elements: &[Element<'_>], name: &[u8], tag: ElementGroup) -> usize
     ensures kept { as_elements (take result elements.now) ≡ closed_as form name.now tag (as_elements elements.now) }
     ensures within { result ≤ length elements.now }
 {
@@ -421,7 +421,7 @@ fn begin<'t>(
     form: Form,
     class: &[u8],
     page: Element<'t>,
-    new: Group,
+    new: ElementGroup,
     tag: &'t [u8],
 ) -> Result<(), AllocError>
     ensures begun { OnOk result (as_elements nest.new.items
@@ -445,14 +445,14 @@ fn is_closed_by_slash(form: Form, foreign: bool, name: &[u8]) -> bool
 }
 
 // The group of the element that a tag begins or ends, within another one.
-pub(crate) fn group_by(form: Form, around: Element<'_>, piece: Piece<'_>) -> Group
+pub(crate) fn group_by(form: Form, around: Element<'_>, piece: Piece<'_>) -> ElementGroup
     ensures { result ≡ group_by form (as_element around.entry) piece.entry.kind piece.entry.text.now }
 {
     match piece.kind {
         Kind::StartTag | Kind::EmptyTag | Kind::EndTag => {
             group_in(form, around.is_foreign, name_of(piece.text.as_bytes()))
         }
-        _ => Group::Ordinary,
+        _ => ElementGroup::Ordinary,
     }
 }
 
@@ -466,7 +466,7 @@ pub(crate) fn pass<'t>(
     form: Form,
     class: &[u8],
     page: Element<'t>,
-    group: Group,
+    group: ElementGroup,
     piece: Piece<'t>,
 ) -> Result<(), AllocError>
     ensures passed { OnOk result (Passes form class.now group (as_piece piece.entry) (as_element page.entry)
@@ -485,7 +485,7 @@ pub(crate) fn pass<'t>(
             }
         }
         Kind::EndTag => {
-            let kept = around_first(form, nest, name_of(tag), group);
+            let kept = kept_by_end_tag(form, nest, name_of(tag), group);
             nest.truncate(kept);
             Ok(())
         }
@@ -499,7 +499,7 @@ pub fn page_element(language: &[u8]) -> Element<'_>
 {
     Element {
         name: b"",
-        group: Group::Root,
+        group: ElementGroup::Root,
         language,
         has_references: false,
         is_apart: false,

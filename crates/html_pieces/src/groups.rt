@@ -11,7 +11,7 @@ use crate::bytes::{is_one_of, is_same_name};
 
 /// A group of elements, by the elements that they end and those that end them, where end tags are left out.
 #[derive(Clone, Copy, Debug, PartialEq, Eq)]
-pub enum Group {
+pub enum ElementGroup {
     /// No rule names it.
     Ordinary,
     /// `b` and the like, whose end tags close them across other elements.
@@ -120,275 +120,306 @@ const HEAD_NAMES: [&[u8]; 5] = [b"noframes", b"noscript", b"script", b"style", b
 
 /// Returns the group of the elements of a name.
 #[tactic(auto, unfolding(crate::specs::Groups::group_of))]
-pub fn group_of(name: &[u8]) -> Group
+pub fn group_of(name: &[u8]) -> ElementGroup
     ensures { result ≡ group_of name.now }
 {
     if is_same_name(name, b"p") {
-        Group::Paragraph
+        ElementGroup::Paragraph
     } else if is_same_name(name, b"div")
         || is_same_name(name, b"address")
         || is_same_name(name, b"dialog")
     {
-        Group::Division
+        ElementGroup::Division
     } else if is_same_name(name, b"li") {
-        Group::Item
+        ElementGroup::Item
     } else if is_same_name(name, b"dt") || is_same_name(name, b"dd") {
-        Group::Term
+        ElementGroup::Term
     } else if is_same_name(name, b"td") || is_same_name(name, b"th") {
-        Group::Cell
+        ElementGroup::Cell
     } else if is_same_name(name, b"tr") {
-        Group::Row
+        ElementGroup::Row
     } else if is_same_name(name, b"thead")
         || is_same_name(name, b"tbody")
         || is_same_name(name, b"tfoot")
     {
-        Group::Rows
+        ElementGroup::Rows
     } else if is_same_name(name, b"table") {
-        Group::Table
+        ElementGroup::Table
     } else if is_same_name(name, b"caption") {
-        Group::Caption
+        ElementGroup::Caption
     } else if is_same_name(name, b"colgroup") {
-        Group::Columns
+        ElementGroup::Columns
     } else if is_same_name(name, b"col") {
-        Group::Column
+        ElementGroup::Column
     } else if is_same_name(name, b"hr") {
-        Group::Rule
+        ElementGroup::Rule
     } else if is_same_name(name, b"option") {
-        Group::Choice
+        ElementGroup::Choice
     } else if is_same_name(name, b"optgroup") {
-        Group::Choices
+        ElementGroup::Choices
     } else if is_same_name(name, b"rt") || is_same_name(name, b"rp") {
-        Group::Ruby
+        ElementGroup::Ruby
     } else if is_same_name(name, b"head") {
-        Group::Head
+        ElementGroup::Head
     } else if is_same_name(name, b"body") || is_same_name(name, b"html") {
-        Group::Root
+        ElementGroup::Root
     } else if is_same_name(name, b"template") {
-        Group::Template
+        ElementGroup::Template
     } else if is_one_of(name, &VOID_NAMES) {
-        Group::Void
+        ElementGroup::Void
     } else if is_one_of(name, &HEAD_VOID_NAMES) {
-        Group::HeadVoid
+        ElementGroup::HeadVoid
     } else if is_one_of(name, &HEAD_NAMES) {
-        Group::HeadContent
+        ElementGroup::HeadContent
     } else if is_one_of(name, &SCOPE_NAMES) {
-        Group::Scope
+        ElementGroup::Scope
     } else if is_one_of(name, &SECTION_NAMES) {
-        Group::Block
+        ElementGroup::Block
     } else if is_one_of(name, &HEADING_NAMES) {
-        Group::Heading
+        ElementGroup::Heading
     } else if is_same_name(name, b"ol") || is_same_name(name, b"ul") {
-        Group::Listing
+        ElementGroup::Listing
     } else if is_one_of(name, &BLOCK_NAMES) {
-        Group::Block
+        ElementGroup::Block
     } else if is_one_of(name, &FORMATTING_NAMES) {
-        Group::Formatting
+        ElementGroup::Formatting
     } else {
-        Group::Ordinary
+        ElementGroup::Ordinary
     }
 }
 
 /// Reports whether the elements of a group have no content.
-pub const fn is_void(group: Group) -> bool
+pub const fn is_void(group: ElementGroup) -> bool
     ensures { result ≡ is_void group }
 {
     matches!(
         group,
-        Group::Rule | Group::Column | Group::HeadVoid | Group::Void
+        ElementGroup::Rule | ElementGroup::Column | ElementGroup::HeadVoid | ElementGroup::Void
     )
 }
 
-const fn ends_paragraph(new: Group) -> bool
+const fn ends_paragraph(new: ElementGroup) -> bool
     ensures { result ≡ ends_paragraph new }
 {
     matches!(
         new,
-        Group::Paragraph
-            | Group::Division
-            | Group::Heading
-            | Group::Listing
-            | Group::Block
-            | Group::Rule
-            | Group::Item
-            | Group::Term
-            | Group::Table
+        ElementGroup::Paragraph
+            | ElementGroup::Division
+            | ElementGroup::Heading
+            | ElementGroup::Listing
+            | ElementGroup::Block
+            | ElementGroup::Rule
+            | ElementGroup::Item
+            | ElementGroup::Term
+            | ElementGroup::Table
     )
 }
 
-const fn is_in_head(new: Group) -> bool
+const fn is_in_head(new: ElementGroup) -> bool
     ensures { result ≡ is_in_head new }
 {
-    matches!(new, Group::HeadContent | Group::HeadVoid | Group::Template)
+    matches!(
+        new,
+        ElementGroup::HeadContent | ElementGroup::HeadVoid | ElementGroup::Template
+    )
 }
 
-pub(crate) const fn is_table_part(new: Group) -> bool
+pub(crate) const fn is_table_part(new: ElementGroup) -> bool
     ensures { result ≡ is_table_part new }
 {
     matches!(
         new,
-        Group::Cell | Group::Row | Group::Rows | Group::Caption | Group::Columns | Group::Column
+        ElementGroup::Cell
+            | ElementGroup::Row
+            | ElementGroup::Rows
+            | ElementGroup::Caption
+            | ElementGroup::Columns
+            | ElementGroup::Column
     )
 }
 
-const fn ends_row(new: Group) -> bool
+const fn ends_row(new: ElementGroup) -> bool
     ensures { result ≡ ends_row new }
 {
     matches!(
         new,
-        Group::Row | Group::Rows | Group::Caption | Group::Columns | Group::Column
+        ElementGroup::Row
+            | ElementGroup::Rows
+            | ElementGroup::Caption
+            | ElementGroup::Columns
+            | ElementGroup::Column
     )
 }
 
-const fn ends_rows(new: Group) -> bool
+const fn ends_rows(new: ElementGroup) -> bool
     ensures { result ≡ ends_rows new }
 {
     matches!(
         new,
-        Group::Rows | Group::Caption | Group::Columns | Group::Column
+        ElementGroup::Rows | ElementGroup::Caption | ElementGroup::Columns | ElementGroup::Column
     )
 }
 
-const fn ends_columns(new: Group) -> bool
+const fn ends_columns(new: ElementGroup) -> bool
     ensures { result ≡ ends_columns new }
 {
     matches!(
         new,
-        Group::Cell | Group::Row | Group::Rows | Group::Caption | Group::Columns
+        ElementGroup::Cell
+            | ElementGroup::Row
+            | ElementGroup::Rows
+            | ElementGroup::Caption
+            | ElementGroup::Columns
     )
 }
 
-const fn ends_choice(new: Group) -> bool
+const fn ends_choice(new: ElementGroup) -> bool
     ensures { result ≡ ends_choice new }
 {
-    matches!(new, Group::Choice | Group::Choices | Group::Rule)
+    matches!(
+        new,
+        ElementGroup::Choice | ElementGroup::Choices | ElementGroup::Rule
+    )
 }
 
-const fn ends_choices(new: Group) -> bool
+const fn ends_choices(new: ElementGroup) -> bool
     ensures { result ≡ ends_choices new }
 {
-    matches!(new, Group::Choices | Group::Rule)
+    matches!(new, ElementGroup::Choices | ElementGroup::Rule)
 }
 
 /// Reports whether an element of a group that begins ends an open one: the end tag of that one may be left out.
 #[tactic(auto, unfolding(crate::specs::Groups::ends))]
-pub fn ends(new: Group, other: Group) -> bool
+pub fn ends(new: ElementGroup, other: ElementGroup) -> bool
     ensures { result ≡ ends new other }
 {
     match other {
-        Group::Paragraph => ends_paragraph(new),
-        Group::Item => matches!(new, Group::Item),
-        Group::Term => matches!(new, Group::Term),
-        Group::Choice => ends_choice(new),
-        Group::Choices => ends_choices(new),
-        Group::Ruby => matches!(new, Group::Ruby),
-        Group::Cell | Group::Caption => is_table_part(new),
-        Group::Row => ends_row(new),
-        Group::Rows => ends_rows(new),
-        Group::Columns => ends_columns(new),
-        Group::Head => !is_in_head(new),
+        ElementGroup::Paragraph => ends_paragraph(new),
+        ElementGroup::Item => matches!(new, ElementGroup::Item),
+        ElementGroup::Term => matches!(new, ElementGroup::Term),
+        ElementGroup::Choice => ends_choice(new),
+        ElementGroup::Choices => ends_choices(new),
+        ElementGroup::Ruby => matches!(new, ElementGroup::Ruby),
+        ElementGroup::Cell | ElementGroup::Caption => is_table_part(new),
+        ElementGroup::Row => ends_row(new),
+        ElementGroup::Rows => ends_rows(new),
+        ElementGroup::Columns => ends_columns(new),
+        ElementGroup::Head => !is_in_head(new),
         _ => false,
     }
 }
 
-const fn is_boundary(other: Group) -> bool
+const fn is_boundary(other: ElementGroup) -> bool
     ensures { result ≡ is_boundary other }
 {
     matches!(
         other,
-        Group::Table
-            | Group::Cell
-            | Group::Row
-            | Group::Rows
-            | Group::Caption
-            | Group::Columns
-            | Group::Scope
-            | Group::Root
-            | Group::Template
+        ElementGroup::Table
+            | ElementGroup::Cell
+            | ElementGroup::Row
+            | ElementGroup::Rows
+            | ElementGroup::Caption
+            | ElementGroup::Columns
+            | ElementGroup::Scope
+            | ElementGroup::Root
+            | ElementGroup::Template
     )
 }
 
-const fn is_passed_by_items(other: Group) -> bool
+const fn is_passed_by_items(other: ElementGroup) -> bool
     ensures { result ≡ is_passed_by_items other }
 {
     matches!(
         other,
-        Group::Ordinary
-            | Group::Formatting
-            | Group::Division
-            | Group::Choice
-            | Group::Choices
-            | Group::Ruby
+        ElementGroup::Ordinary
+            | ElementGroup::Formatting
+            | ElementGroup::Division
+            | ElementGroup::Choice
+            | ElementGroup::Choices
+            | ElementGroup::Ruby
     )
 }
 
 /// Reports whether an element of a group that begins looks no further than an open one for those that it ends.
 #[tactic(auto, unfolding(crate::specs::Groups::stops))]
-pub fn stops(new: Group, other: Group) -> bool
+pub fn stops(new: ElementGroup, other: ElementGroup) -> bool
     ensures { result ≡ stops new other }
 {
     match new {
-        Group::Item | Group::Term => !is_passed_by_items(other),
-        Group::Paragraph
-        | Group::Division
-        | Group::Heading
-        | Group::Listing
-        | Group::Block
-        | Group::Rule
-        | Group::Table
-        | Group::Cell
-        | Group::Row
-        | Group::Rows
-        | Group::Caption
-        | Group::Columns
-        | Group::Column => is_boundary(other),
+        ElementGroup::Item | ElementGroup::Term => !is_passed_by_items(other),
+        ElementGroup::Paragraph
+        | ElementGroup::Division
+        | ElementGroup::Heading
+        | ElementGroup::Listing
+        | ElementGroup::Block
+        | ElementGroup::Rule
+        | ElementGroup::Table
+        | ElementGroup::Cell
+        | ElementGroup::Row
+        | ElementGroup::Rows
+        | ElementGroup::Caption
+        | ElementGroup::Columns
+        | ElementGroup::Column => is_boundary(other),
         _ => true,
     }
 }
 
-const fn is_table(tag: Group) -> bool
+const fn is_table(tag: ElementGroup) -> bool
     ensures { result ≡ is_table tag }
 {
-    matches!(tag, Group::Table) || is_table_part(tag)
+    matches!(tag, ElementGroup::Table) || is_table_part(tag)
 }
 
-const fn ends_table_scope(other: Group) -> bool
+const fn ends_table_scope(other: ElementGroup) -> bool
     ensures { result ≡ ends_table_scope other }
 {
-    matches!(other, Group::Table | Group::Root | Group::Template)
+    matches!(
+        other,
+        ElementGroup::Table | ElementGroup::Root | ElementGroup::Template
+    )
 }
 
-const fn ends_scope(other: Group) -> bool
+const fn ends_scope(other: ElementGroup) -> bool
     ensures { result ≡ ends_scope other }
 {
     matches!(
         other,
-        Group::Table | Group::Cell | Group::Caption | Group::Scope | Group::Root | Group::Template
+        ElementGroup::Table
+            | ElementGroup::Cell
+            | ElementGroup::Caption
+            | ElementGroup::Scope
+            | ElementGroup::Root
+            | ElementGroup::Template
     )
 }
 
-const fn ends_item_scope(other: Group) -> bool
+const fn ends_item_scope(other: ElementGroup) -> bool
     ensures { result ≡ ends_item_scope other }
 {
-    matches!(other, Group::Listing) || ends_scope(other)
+    matches!(other, ElementGroup::Listing) || ends_scope(other)
 }
 
-pub(crate) const fn is_special(other: Group) -> bool
+pub(crate) const fn is_special(other: ElementGroup) -> bool
     ensures { result ≡ is_special other }
 {
     !matches!(
         other,
-        Group::Ordinary | Group::Formatting | Group::Ruby | Group::Choice | Group::Choices
+        ElementGroup::Ordinary
+            | ElementGroup::Formatting
+            | ElementGroup::Ruby
+            | ElementGroup::Choice
+            | ElementGroup::Choices
     )
 }
 
 /// Reports whether an end tag of a group looks no further than an open element for its own.
 #[tactic(auto, unfolding(crate::specs::Groups::bounds))]
-pub fn bounds(tag: Group, other: Group) -> bool
+pub fn bounds(tag: ElementGroup, other: ElementGroup) -> bool
     ensures { result ≡ bounds tag other }
 {
     match tag {
-        Group::Ordinary => is_special(other),
-        Group::Item => ends_item_scope(other),
+        ElementGroup::Ordinary => is_special(other),
+        ElementGroup::Item => ends_item_scope(other),
         _ => {
             if is_table(tag) {
                 ends_table_scope(other)
@@ -400,15 +431,15 @@ pub fn bounds(tag: Group, other: Group) -> bool
 }
 
 /// Reports whether the elements of a group are headings.
-pub const fn is_heading(group: Group) -> bool
+pub const fn is_heading(group: ElementGroup) -> bool
     ensures { result ≡ is_heading group }
 {
-    matches!(group, Group::Heading)
+    matches!(group, ElementGroup::Heading)
 }
 
 /// Reports whether the end tags of a group close nothing.
-pub const fn is_root(tag: Group) -> bool
+pub const fn is_root(tag: ElementGroup) -> bool
     ensures { result ≡ is_root tag }
 {
-    matches!(tag, Group::Root)
+    matches!(tag, ElementGroup::Root)
 }

@@ -34,22 +34,6 @@ fn language_named<'t>(
     }
 }
 
-// Appends a text to the languages so far, and adds it to the set of them.
-fn push_new(
-    all: &mut Vec<String>,
-    set: &mut BTreeSet<String>,
-    alloc: Global,
-    language: &str,
-) -> Result<(), AllocError>
-    requires { HasThese all.old.items set.old }
-    ensures pushed { OnOk result (map string_bytes all.new.items ≡ map string_bytes all.old.items ++ language.now ∷ []) }
-    ensures these { OnOk result (HasThese all.new.items set.new) }
-{
-    all.push(String::from_str(alloc, language)?)?;
-    set.insert(String::from_str(alloc, language)?)?;
-    Ok(())
-}
-
 // Appends a language to those so far, if it is there not yet.
 fn push_language(
     all: &mut Vec<String>,
@@ -64,10 +48,11 @@ fn push_language(
     match std::str::from_utf8(language) {
         Ok(language) => {
             if set.contains(language) {
-                Ok(())
-            } else {
-                push_new(all, set, alloc, language)
+                return Ok(());
             }
+            all.push(String::from_str(alloc, language)?)?;
+            set.insert(String::from_str(alloc, language)?)?;
+            Ok(())
         }
         Err(_) => Ok(()),
     }

@@ -27,8 +27,8 @@ use crate::bytes::{Form, is_alpha, is_one_of, is_same_name, is_white_space};
 use crate::elements::{DEPTH_LIMIT, Element, before_new, group_by, innermost};
 use crate::forms::{after_order_mark, is_start};
 use crate::groups::{
-    Group, HEADING_NAMES, bounds, ends, is_heading, is_root, is_special, is_table_part, is_void,
-    stops,
+    ElementGroup, HEADING_NAMES, bounds, ends, is_heading, is_root, is_special, is_table_part,
+    is_void, stops,
 };
 use crate::references::has_ampersand;
 use crate::tokenizer::{Kind, Piece, RawElement, is_foreign_root, name_of, raw_element};
@@ -227,7 +227,7 @@ fn is_sign(bytes: &[u8]) -> bool
 // ---- elements
 
 // Reports whether an element of a name is open, or a heading where the name is that of one.
-fn is_open(name: &[u8], group: Group, elements: &[Element<'_>]) -> bool
+fn is_open(name: &[u8], group: ElementGroup, elements: &[Element<'_>]) -> bool
     ensures { result ≡ is_open name.now group (as_elements elements.now) }
 {
     let mut i = elements.len();
@@ -268,49 +268,53 @@ fn is_read_raw(name: &[u8]) -> bool
         || is_same_name(name, b"noscript")
 }
 
-const fn holds_no_text(group: Group) -> bool
+const fn holds_no_text(group: ElementGroup) -> bool
     ensures { result ≡ holds_no_text group }
 {
     matches!(
         group,
-        Group::Table | Group::Rows | Group::Row | Group::Columns | Group::Head
+        ElementGroup::Table
+            | ElementGroup::Rows
+            | ElementGroup::Row
+            | ElementGroup::Columns
+            | ElementGroup::Head
     )
 }
 
-const fn may_be_left_out(group: Group) -> bool
+const fn may_be_left_out(group: ElementGroup) -> bool
     ensures { result ≡ may_be_left_out group }
 {
     matches!(
         group,
-        Group::Paragraph
-            | Group::Item
-            | Group::Term
-            | Group::Choice
-            | Group::Choices
-            | Group::Ruby
-            | Group::Cell
-            | Group::Row
-            | Group::Rows
-            | Group::Caption
-            | Group::Columns
-            | Group::Head
+        ElementGroup::Paragraph
+            | ElementGroup::Item
+            | ElementGroup::Term
+            | ElementGroup::Choice
+            | ElementGroup::Choices
+            | ElementGroup::Ruby
+            | ElementGroup::Cell
+            | ElementGroup::Row
+            | ElementGroup::Rows
+            | ElementGroup::Caption
+            | ElementGroup::Columns
+            | ElementGroup::Head
     )
 }
 
-const fn is_paragraph(group: Group) -> bool
+const fn is_paragraph(group: ElementGroup) -> bool
     ensures { result ≡ is_paragraph group }
 {
-    matches!(group, Group::Paragraph)
+    matches!(group, ElementGroup::Paragraph)
 }
 
-const fn is_whole_table(group: Group) -> bool
+const fn is_whole_table(group: ElementGroup) -> bool
     ensures { result ≡ is_whole_table group }
 {
-    matches!(group, Group::Table)
+    matches!(group, ElementGroup::Table)
 }
 
 // Reports whether the end tag of an open element may be left out where one of a group begins.
-const fn is_left_out_before(standard: bool, new: Group, other: Group) -> bool
+const fn is_left_out_before(standard: bool, new: ElementGroup, other: ElementGroup) -> bool
     ensures { result ≡ is_left_out_before standard new other }
 {
     may_be_left_out(other) && (standard || !(is_paragraph(other) && is_whole_table(new)))
@@ -318,7 +322,7 @@ const fn is_left_out_before(standard: bool, new: Group, other: Group) -> bool
 
 // Reports whether all that an element of a group ends where it begins has end tags that may be left out.
 #[tactic(auto, using(crate::proofs::Limits::so_far_at_limit))]
-fn ends_alike(standard: bool, new: Group, elements: &[Element<'_>]) -> bool
+fn ends_alike(standard: bool, new: ElementGroup, elements: &[Element<'_>]) -> bool
     ensures { result ≡ ends_alike standard new (as_elements elements.now) }
 {
     let mut so_far = true;
@@ -427,22 +431,22 @@ const FORM_NAMES: [&[u8]; 1] = [b"form"];
 
 const LINK_NAMES: [&[u8]; 2] = [b"a", b"nobr"];
 
-const fn is_choice(group: Group) -> bool
+const fn is_choice(group: ElementGroup) -> bool
     ensures { result ≡ is_choice group }
 {
-    matches!(group, Group::Choice | Group::Choices)
+    matches!(group, ElementGroup::Choice | ElementGroup::Choices)
 }
 
-const fn is_template(group: Group) -> bool
+const fn is_template(group: ElementGroup) -> bool
     ensures { result ≡ is_template group }
 {
-    matches!(group, Group::Template)
+    matches!(group, ElementGroup::Template)
 }
 
-const fn is_head(group: Group) -> bool
+const fn is_head(group: ElementGroup) -> bool
     ensures { result ≡ is_head group }
 {
-    matches!(group, Group::Head)
+    matches!(group, ElementGroup::Head)
 }
 
 // Reports whether elements may begin that are no parts of tables or selections.
@@ -455,7 +459,12 @@ fn takes_content(around: Element<'_>, within: Element<'_>) -> bool
 }
 
 // Reports whether an element that a head may have may begin.
-fn takes_head_content(around: Element<'_>, within: Element<'_>, new: Group, name: &[u8]) -> bool
+fn takes_head_content(
+    around: Element<'_>,
+    within: Element<'_>,
+    new: ElementGroup,
+    name: &[u8],
+) -> bool
     ensures { result ≡ takes_head_content (as_element around.entry) (as_element within.entry) new name.now }
 {
     !is_choice(around.group)
@@ -467,31 +476,34 @@ fn takes_head_content(around: Element<'_>, within: Element<'_>, new: Group, name
             || is_same_name(name, b"style"))
 }
 
-const fn takes_cells(group: Group) -> bool
+const fn takes_cells(group: ElementGroup) -> bool
     ensures { result ≡ takes_cells group }
 {
     matches!(
         group,
-        Group::Table | Group::Rows | Group::Row | Group::Template
+        ElementGroup::Table | ElementGroup::Rows | ElementGroup::Row | ElementGroup::Template
     )
 }
 
-const fn takes_rows(group: Group) -> bool
+const fn takes_rows(group: ElementGroup) -> bool
     ensures { result ≡ takes_rows group }
 {
-    matches!(group, Group::Table | Group::Rows | Group::Template)
+    matches!(
+        group,
+        ElementGroup::Table | ElementGroup::Rows | ElementGroup::Template
+    )
 }
 
-const fn takes_row_groups(group: Group) -> bool
+const fn takes_row_groups(group: ElementGroup) -> bool
     ensures { result ≡ takes_row_groups group }
 {
-    matches!(group, Group::Table | Group::Template)
+    matches!(group, ElementGroup::Table | ElementGroup::Template)
 }
 
-const fn takes_columns(group: Group) -> bool
+const fn takes_columns(group: ElementGroup) -> bool
     ensures { result ≡ takes_columns group }
 {
-    matches!(group, Group::Table | Group::Columns)
+    matches!(group, ElementGroup::Table | ElementGroup::Columns)
 }
 
 const fn is_before_root(phase: Phase) -> bool
@@ -527,7 +539,7 @@ fn takes_root(phase: Phase, within: Element<'_>, name: &[u8]) -> bool
 fn is_alone(names: &[&[u8]], name: &[u8], elements: &[Element<'_>]) -> bool
     ensures { result ≡ is_alone (map (λ other. other.now) names.now) name.now (as_elements elements.now) }
 {
-    !(is_one_of(name, names) && is_open(name, Group::Ordinary, elements))
+    !(is_one_of(name, names) && is_open(name, ElementGroup::Ordinary, elements))
 }
 
 // Reports whether an element of a group may begin where it does: all parsers put it there.
@@ -537,30 +549,33 @@ fn is_expected(
     around: Element<'_>,
     within: Element<'_>,
     elements: &[Element<'_>],
-    new: Group,
+    new: ElementGroup,
     name: &[u8],
 ) -> bool
     ensures { result ≡ is_expected phase (as_element around.entry) (as_element within.entry) (as_elements elements.now) new name.now }
 {
     match new {
-        Group::Root => takes_root(phase, within, name),
-        Group::Head => is_before_head(phase) && is_root(within.group),
-        Group::HeadContent | Group::HeadVoid | Group::Template => {
+        ElementGroup::Root => takes_root(phase, within, name),
+        ElementGroup::Head => is_before_head(phase) && is_root(within.group),
+        ElementGroup::HeadContent | ElementGroup::HeadVoid | ElementGroup::Template => {
             takes_head_content(around, within, new, name)
         }
-        Group::Cell => takes_cells(within.group),
-        Group::Row => takes_rows(within.group),
-        Group::Rows | Group::Caption => takes_row_groups(within.group),
-        Group::Columns => is_whole_table(within.group),
-        Group::Column => takes_columns(within.group),
-        Group::Choice => !holds_no_text(within.group),
-        Group::Choices => is_same_name(within.name, b"select"),
-        Group::Ruby => is_same_name(within.name, b"ruby"),
-        Group::Heading => takes_content(around, within) && !is_heading(within.group),
-        Group::Scope => takes_content(around, within) && is_alone(&BUTTON_NAMES, name, elements),
-        Group::Block => takes_content(around, within) && is_alone(&FORM_NAMES, name, elements),
-        Group::Formatting => takes_content(around, within) && is_alone(&LINK_NAMES, name, elements),
-        Group::Ordinary => takes_content(around, within) && !is_one_of(name, &ODD_NAMES),
+        ElementGroup::Cell => takes_cells(within.group),
+        ElementGroup::Row => takes_rows(within.group),
+        ElementGroup::Rows | ElementGroup::Caption => takes_row_groups(within.group),
+        ElementGroup::Columns => is_whole_table(within.group),
+        ElementGroup::Column => takes_columns(within.group),
+        ElementGroup::Choice => !holds_no_text(within.group),
+        ElementGroup::Choices => is_same_name(within.name, b"select"),
+        ElementGroup::Ruby => is_same_name(within.name, b"ruby"),
+        ElementGroup::Heading => takes_content(around, within) && !is_heading(within.group),
+        ElementGroup::Scope => takes_content(around, within)
+            && is_alone(&BUTTON_NAMES, name, elements),
+        ElementGroup::Block => takes_content(around, within)
+            && is_alone(&FORM_NAMES, name, elements),
+        ElementGroup::Formatting => takes_content(around, within)
+            && is_alone(&LINK_NAMES, name, elements),
+        ElementGroup::Ordinary => takes_content(around, within) && !is_one_of(name, &ODD_NAMES),
         _ => takes_content(around, within),
     }
 }
@@ -574,7 +589,7 @@ fn is_content_alike(around: Element<'_>, name: &[u8]) -> bool
 }
 
 // Reports whether the text of an element may be put elsewhere by the end tag of a formatting element around it.
-fn may_be_adopted(within: Element<'_>, new: Group, name: &[u8]) -> bool
+fn may_be_adopted(within: Element<'_>, new: ElementGroup, name: &[u8]) -> bool
     ensures { result ≡ may_be_adopted (as_element within.entry) new name.now }
 {
     within.is_altered
@@ -588,7 +603,7 @@ fn may_be_adopted(within: Element<'_>, new: Group, name: &[u8]) -> bool
 fn is_html_start_alike<'t>(
     page: Element<'t>,
     reading: &Reading<'t>,
-    new: Group,
+    new: ElementGroup,
     name: &[u8],
 ) -> bool
     ensures { result ≡ is_html_start_alike (as_element page.entry) (as_reading reading.now) new name.now }
@@ -604,7 +619,12 @@ fn is_html_start_alike<'t>(
 }
 
 // Reports whether a start tag of a page in HTML is read alike by all parsers.
-fn is_start_alike<'t>(page: Element<'t>, reading: &Reading<'t>, new: Group, tag: &[u8]) -> bool
+fn is_start_alike<'t>(
+    page: Element<'t>,
+    reading: &Reading<'t>,
+    new: ElementGroup,
+    tag: &[u8],
+) -> bool
     ensures { result ≡ is_start_alike (as_element page.entry) (as_reading reading.now) new tag.now }
 {
     let elements = reading.elements.as_slice();
@@ -617,48 +637,55 @@ fn is_start_alike<'t>(page: Element<'t>, reading: &Reading<'t>, new: Group, tag:
 
 // ---- end tags of HTML
 
-const fn closes_blocks(tag: Group) -> bool
+const fn closes_blocks(tag: ElementGroup) -> bool
     ensures { result ≡ closes_blocks tag }
 {
     match tag {
-        Group::Root | Group::Head | Group::HeadContent | Group::HeadVoid | Group::Columns => false,
+        ElementGroup::Root
+        | ElementGroup::Head
+        | ElementGroup::HeadContent
+        | ElementGroup::HeadVoid
+        | ElementGroup::Columns => false,
         _ => is_special(tag),
     }
 }
 
-const fn closes_cells(tag: Group) -> bool
+const fn closes_cells(tag: ElementGroup) -> bool
     ensures { result ≡ closes_cells tag }
 {
     matches!(
         tag,
-        Group::Row | Group::Rows | Group::Table | Group::Template
+        ElementGroup::Row | ElementGroup::Rows | ElementGroup::Table | ElementGroup::Template
     )
 }
 
-const fn closes_rows(tag: Group) -> bool
+const fn closes_rows(tag: ElementGroup) -> bool
     ensures { result ≡ closes_rows tag }
 {
-    matches!(tag, Group::Rows | Group::Table | Group::Template)
+    matches!(
+        tag,
+        ElementGroup::Rows | ElementGroup::Table | ElementGroup::Template
+    )
 }
 
 // Reports whether an end tag of a group closes an element in its own that has no end tag.
 #[tactic(auto, unfolding(crate::specs::Readings::is_left_out_in))]
-fn is_left_out_in(tag: Group, other: Group) -> bool
+fn is_left_out_in(tag: ElementGroup, other: ElementGroup) -> bool
     ensures { result ≡ is_left_out_in tag other }
 {
     match other {
-        Group::Ruby | Group::Choice | Group::Choices => true,
-        Group::Paragraph | Group::Item | Group::Term => closes_blocks(tag),
-        Group::Cell => closes_cells(tag),
-        Group::Row => closes_rows(tag),
-        Group::Rows | Group::Caption | Group::Columns => takes_row_groups(tag),
+        ElementGroup::Ruby | ElementGroup::Choice | ElementGroup::Choices => true,
+        ElementGroup::Paragraph | ElementGroup::Item | ElementGroup::Term => closes_blocks(tag),
+        ElementGroup::Cell => closes_cells(tag),
+        ElementGroup::Row => closes_rows(tag),
+        ElementGroup::Rows | ElementGroup::Caption | ElementGroup::Columns => takes_row_groups(tag),
         _ => false,
     }
 }
 
 // Reports whether all that an end tag closes in its element has no end tag by these rules; none where the element is not found.
 #[tactic(auto, using(crate::proofs::Limits::none_alike_at_limit))]
-fn closes_alike(elements: &[Element<'_>], name: &[u8], tag: Group) -> Option<bool>
+fn closes_alike(elements: &[Element<'_>], name: &[u8], tag: ElementGroup) -> Option<bool>
     ensures { result ≡ closes_alike_from name.now tag depth_limit Bool.true (as_elements elements.now) }
 {
     let mut all = true;
@@ -683,7 +710,12 @@ fn closes_alike(elements: &[Element<'_>], name: &[u8], tag: Group) -> Option<boo
 }
 
 // Reports whether an end tag without an element is passed by.
-fn is_passed_by(around: Element<'_>, tag: Group, name: &[u8], elements: &[Element<'_>]) -> bool
+fn is_passed_by(
+    around: Element<'_>,
+    tag: ElementGroup,
+    name: &[u8],
+    elements: &[Element<'_>],
+) -> bool
     ensures { result ≡ is_passed_by (as_element around.entry) tag name.now (as_elements elements.now) }
 {
     !is_table_part(tag)
@@ -699,7 +731,12 @@ fn is_hidden(element: Element<'_>) -> bool
 }
 
 // Reports whether an end tag of HTML is read alike by all parsers, outside of SVG and MathML.
-fn is_html_end_alike(around: Element<'_>, tag: Group, name: &[u8], elements: &[Element<'_>]) -> bool
+fn is_html_end_alike(
+    around: Element<'_>,
+    tag: ElementGroup,
+    name: &[u8],
+    elements: &[Element<'_>],
+) -> bool
     ensures { result ≡ is_html_end_alike (as_element around.entry) tag name.now (as_elements elements.now) }
 {
     if is_root(tag) {
@@ -712,7 +749,12 @@ fn is_html_end_alike(around: Element<'_>, tag: Group, name: &[u8], elements: &[E
 }
 
 // Reports whether an end tag of a page in HTML is read alike by all parsers.
-fn is_end_alike<'t>(page: Element<'t>, reading: &Reading<'t>, tag: Group, name: &[u8]) -> bool
+fn is_end_alike<'t>(
+    page: Element<'t>,
+    reading: &Reading<'t>,
+    tag: ElementGroup,
+    name: &[u8],
+) -> bool
     ensures { result ≡ is_end_alike (as_element page.entry) (as_reading reading.now) tag name.now }
 {
     let elements = reading.elements.as_slice();
@@ -756,7 +798,7 @@ fn is_html_other_alike(around: Element<'_>, phase: Phase, bytes: &[u8]) -> bool
 fn is_html_alike<'t>(
     page: Element<'t>,
     reading: &Reading<'t>,
-    group: Group,
+    group: ElementGroup,
     piece: Piece<'_>,
 ) -> bool
     ensures { result ≡ is_html_alike (as_element page.entry) (as_reading reading.now) group piece.entry.kind piece.entry.text.now }
@@ -851,7 +893,7 @@ fn is_alike<'t>(
     form: Form,
     page: Element<'t>,
     reading: &Reading<'t>,
-    group: Group,
+    group: ElementGroup,
     piece: Piece<'_>,
 ) -> bool
     ensures { result ≡ is_alike_by form (as_element page.entry) (as_reading reading.now) group piece.entry.kind piece.entry.text.now }
@@ -885,19 +927,19 @@ const fn head_from(phase: Phase) -> Phase
 }
 
 // The phase after a start tag, whose element is of a group.
-fn phase_after_start(hidden: bool, phase: Phase, group: Group, tag: &[u8]) -> Phase
+fn phase_after_start(hidden: bool, phase: Phase, group: ElementGroup, tag: &[u8]) -> Phase
     ensures { result ≡ phase_after_start hidden phase group (name_of tag.now) }
 {
     match group {
-        Group::Root => {
+        ElementGroup::Root => {
             if is_same_name(name_of(tag), b"html") {
                 Phase::Root
             } else {
                 Phase::Body
             }
         }
-        Group::Head => Phase::Head,
-        Group::HeadContent | Group::HeadVoid | Group::Template => {
+        ElementGroup::Head => Phase::Head,
+        ElementGroup::HeadContent | ElementGroup::HeadVoid | ElementGroup::Template => {
             if hidden { phase } else { head_from(phase) }
         }
         _ => body_unless(hidden, phase),
@@ -924,7 +966,7 @@ fn phase_after_other(around: Element<'_>, phase: Phase, bytes: &[u8]) -> Phase
 }
 
 // The phase after a piece.
-fn phase_after(around: Element<'_>, phase: Phase, group: Group, piece: Piece<'_>) -> Phase
+fn phase_after(around: Element<'_>, phase: Phase, group: ElementGroup, piece: Piece<'_>) -> Phase
     ensures { result ≡ phase_after (as_element around.entry) phase group piece.entry.kind piece.entry.text.now }
 {
     let bytes = piece.text.as_bytes();

@@ -6,7 +6,7 @@ ghost use Rattle.std.specs.Option.{option_map};
 ghost use Rattle.html_pieces.specs.Bytes.{is_alphanumeric};
 ghost use Rattle.html_pieces.specs.References.{is_digit, base_of, number_of, windows_1252, is_character, character_of, digits_at};
 ghost use Rattle.html_pieces.specs.References.{number_at, is_named, old_named, bracket_named, sentence_named};
-ghost use Rattle.html_pieces.specs.References.{sign_named, line_named, first_of, named, of_size, of_name, name_at};
+ghost use Rattle.html_pieces.specs.References.{sign_named, line_named, first_named, named, reference_of_size, reference_of_name, name_at};
 ghost use Rattle.html_pieces.specs.References.{reference_at, read_value, has_ampersand};
 ghost use Rattle.html_pieces.specs.Private.Read.{as_reference, reference_after};
 
@@ -93,7 +93,7 @@ const fn base_of(hexadecimal: bool) -> u32
 }
 
 // The number after one more digit. All numbers that mean no character are one.
-fn number_on(hexadecimal: bool, number: u32, digit: u8) -> u32
+fn number_with_digit(hexadecimal: bool, number: u32, digit: u8) -> u32
     requires { number ≤ NO_CHARACTER }
     ensures { result ≡ min (number * base_of hexadecimal + digit_value digit) NO_CHARACTER }
 {
@@ -106,13 +106,13 @@ fn number_of(hexadecimal: bool, digits: &[u8]) -> u32
 {
     let mut number = 0;
     for digit in digits {
-        number = number_on(hexadecimal, number, *digit);
+        number = number_with_digit(hexadecimal, number, *digit);
     }
     number
 }
 
 // The character of windows-1252 that a number from 0x80 to 0x9F means.
-fn of_windows(number: u32) -> char
+fn windows_1252_character(number: u32) -> char
     requires low { 0x80 ≤ number }
     requires high { number ≤ 0x9F }
     ensures { result ≡ slice_index windows_1252 (number - 0x80) }
@@ -121,7 +121,7 @@ fn of_windows(number: u32) -> char
 }
 
 // The character of a number, or U+FFFD where it has none.
-fn of_number(number: u32) -> char
+fn character_or_replacement(number: u32) -> char
     ensures { result ≡ (if is_character number then number else 0xFFFD) }
 {
     if number == 0 {
@@ -138,9 +138,9 @@ fn character_of(number: u32) -> char
     ensures { result ≡ character_of number }
 {
     if 0x80 <= number && number <= 0x9F {
-        of_windows(number)
+        windows_1252_character(number)
     } else {
-        of_number(number)
+        character_or_replacement(number)
     }
 }
 
@@ -312,8 +312,8 @@ fn line_named(name: &[u8]) -> Option<char>
     }
 }
 
-fn first_of(first: Option<char>, other: Option<char>) -> Option<char>
-    ensures { result ≡ first_of first other }
+fn first_named(first: Option<char>, other: Option<char>) -> Option<char>
+    ensures { result ≡ first_named first other }
 {
     match first {
         Some(character) => Some(character),
@@ -325,13 +325,13 @@ fn first_of(first: Option<char>, other: Option<char>) -> Option<char>
 fn named(name: &[u8]) -> Option<char>
     ensures { result ≡ named name.now }
 {
-    let rest = first_of(sign_named(name), line_named(name));
-    let rest = first_of(bracket_named(name), first_of(sentence_named(name), rest));
-    first_of(old_named(name), rest)
+    let rest = first_named(sign_named(name), line_named(name));
+    let rest = first_named(bracket_named(name), first_named(sentence_named(name), rest));
+    first_named(old_named(name), rest)
 }
 
-fn of_size(size: usize, character: Option<char>) -> Option<Reference>
-    ensures { option_map as_reference result ≡ of_size size character }
+fn reference_of_size(size: usize, character: Option<char>) -> Option<Reference>
+    ensures { option_map as_reference result ≡ reference_of_size size character }
 {
     match character {
         Some(character) => Some(Reference { character, size }),
@@ -345,9 +345,9 @@ fn name_at(bytes: &[u8]) -> Option<Reference>
 {
     let name = name_of(bytes);
     match byte_at(bytes, name.len()) {
-        b';' => of_size(name.len() + 1, named(name)),
+        b';' => reference_of_size(name.len() + 1, named(name)),
         b'=' => None,
-        _ => of_size(name.len(), old_named(name)),
+        _ => reference_of_size(name.len(), old_named(name)),
     }
 }
 

@@ -4,8 +4,8 @@ ghost use Rattle.std.specs.Prelude.{◌≡◌, ◌++◌, ◌∷◌, [], ◌<◌,
 ghost use Rattle.std.specs.Option.{option_map, unwrap_or};
 ghost use Rattle.html_pieces.specs.Pieces.{next};
 ghost use Rattle.html_pieces.specs.declared.tokenizer.State.TheVariants.{TagEnd};
-ghost use Rattle.html_pieces.specs.Tags.{as_attribute, attributes_of, is_name, is_unquoted, is_value, name_on};
-ghost use Rattle.html_pieces.specs.Tags.{value_on, read, ended, value_of};
+ghost use Rattle.html_pieces.specs.Tags.{Appends, as_attribute, attributes_of, is_name, is_unquoted, is_value, attribute_name_after};
+ghost use Rattle.html_pieces.specs.Tags.{attribute_value_after, read, ended, value_of};
 ghost use Rattle.html_pieces.specs.Private.Parts.{EndsAt};
 ghost use Rattle.html_pieces.specs.Private.Quiet.{AreQuiet};
 
@@ -41,42 +41,45 @@ const fn is_value(state: State) -> bool
     )
 }
 
-// A part of a tag that ends at a place, with the byte that is there.
-fn grown<'t>(tag: &'t [u8], part: &[u8], i: usize) -> &'t [u8]
-    requires within { i < length tag.now }
-    requires part { EndsAt tag.now part.now i }
-    ensures { result.now ≡ part.now ++ slice_index tag.now i ∷ [] }
-{
-    &tag[i - part.len()..i + 1]
-}
-
 // The name of the attribute that is being read, after a byte.
-fn name_on<'t>(tag: &'t [u8], i: usize, state: State, after: State, name: &'t [u8]) -> &'t [u8]
+fn attribute_name_after<'t>(
+    tag: &'t [u8],
+    i: usize,
+    state: State,
+    after: State,
+    name: &'t [u8],
+) -> &'t [u8]
     requires within { i < length tag.now }
     requires part { IsTrue (is_name state) → EndsAt tag.now name.now i }
-    ensures { result.now ≡ name_on state after name.entry.now (slice_index tag.now i) }
+    ensures { result.now ≡ attribute_name_after state after name.entry.now (slice_index tag.now i) }
 {
     if !is_name(after) {
         name
     } else if is_name(state) {
-        grown(tag, name, i)
+        &tag[i - name.len()..i + 1]
     } else {
         &tag[i..i + 1]
     }
 }
 
 // Its value, after a byte.
-fn value_on<'t>(tag: &'t [u8], i: usize, state: State, after: State, value: &'t [u8]) -> &'t [u8]
+fn attribute_value_after<'t>(
+    tag: &'t [u8],
+    i: usize,
+    state: State,
+    after: State,
+    value: &'t [u8],
+) -> &'t [u8]
     requires within { i < length tag.now }
     requires part { IsTrue (is_value state) → EndsAt tag.now value.now i }
-    ensures { result.now ≡ value_on state after value.entry.now (slice_index tag.now i) }
+    ensures { result.now ≡ attribute_value_after state after value.entry.now (slice_index tag.now i) }
 {
     if is_name(after) {
         &[]
     } else if !is_value(after) {
         value
     } else if is_value(state) {
-        grown(tag, value, i)
+        &tag[i - value.len()..i + 1]
     } else if is_unquoted(after) {
         &tag[i..i + 1]
     } else {
@@ -90,8 +93,7 @@ fn push_read<'t>(
     name: &'t [u8],
     value: &'t [u8],
 ) -> Result<(), AllocError>
-    ensures { OnOk result (map as_attribute attributes.new.items
-        ≡ map as_attribute attributes.old.items ++ read name.entry.now value.entry.now) }
+    ensures { OnOk result (Appends attributes.old.items attributes.new.items (read name.entry.now value.entry.now)) }
 {
     if !name.is_empty() {
         attributes.push(Attribute { name, value })?;
@@ -107,8 +109,8 @@ fn push_ended<'t>(
     name: &'t [u8],
     value: &'t [u8],
 ) -> Result<(), AllocError>
-    ensures { OnOk result (map as_attribute attributes.new.items
-        ≡ map as_attribute attributes.old.items ++ ended state after name.entry.now value.entry.now) }
+    ensures { OnOk result (Appends attributes.old.items attributes.new.items
+        (ended state after name.entry.now value.entry.now)) }
 {
     if is_name(after) && !is_name(state) {
         push_read(attributes, name, value)?;
@@ -171,8 +173,8 @@ pub fn attributes(alloc: Global, form: Form, tag: &[u8]) -> Result<Vec<Attribute
     while i < tag.len() {
         let after = next_in_tag(form, state, tag[i]);
         push_ended(&mut attributes, state, after, name, value)?;
-        name = name_on(tag, i, state, after, name);
-        value = value_on(tag, i, state, after, value);
+        name = attribute_name_after(tag, i, state, after, name);
+        value = attribute_value_after(tag, i, state, after, value);
         let end = after_value(after, tag, i + 1);
         value = value_past(tag, i + 1, end, after, value);
         state = after;

@@ -714,28 +714,24 @@ const fn ends_text(byte: u8) -> bool
     byte == b'<' || byte == b'&'
 }
 
-// The first place from one on whose byte ends a text; the end where there is none.
-fn after_text(bytes: &[u8], from: usize) -> usize
-    requires { from ≤ length bytes.now }
-    ensures passed { from ≤ result }
+// The number of bytes before the first one that ends a text.
+fn text_length(bytes: &[u8]) -> usize
     ensures within { result ≤ length bytes.now }
-    ensures quiet { AreQuiet Data bytes.now from result }
+    ensures quiet { AreQuiet Data bytes.now 0 result }
 {
-    match memchr2(b'<', b'&', &bytes[from..]) {
-        Some(passed) => from + passed,
+    match memchr2(b'<', b'&', bytes) {
+        Some(passed) => passed,
         None => bytes.len(),
     }
 }
 
-// The first place from one on whose byte is no ASCII letter or digit; the end where there is none.
+// The number of ASCII letters and digits before the first other byte.
 #[tactic(auto, using(crate::proofs::QuietSteps::none_alphanumeric))]
-fn after_alphanumerics(bytes: &[u8], from: usize) -> usize
-    requires { from ≤ length bytes.now }
-    ensures passed { from ≤ result }
+fn alphanumeric_length(bytes: &[u8]) -> usize
     ensures within { result ≤ length bytes.now }
-    ensures alphanumeric { AreAlphanumeric bytes.now from result }
+    ensures alphanumeric { AreAlphanumeric bytes.now 0 result }
 {
-    for i in from..bytes.len() {
+    for i in 0..bytes.len() {
         if !is_alphanumeric(bytes[i]) {
             return i;
         }
@@ -749,15 +745,13 @@ const fn is_byte(byte: u8, other: u8) -> bool
     byte == other
 }
 
-// The first place of a byte from one on; the end where there is none.
+// The number of bytes before the first one that is this.
 #[tactic(auto, using(crate::proofs::QuietSteps::none_before))]
-fn after_others(stop: u8, bytes: &[u8], from: usize) -> usize
-    requires { from ≤ length bytes.now }
-    ensures passed { from ≤ result }
+fn length_before(stop: u8, bytes: &[u8]) -> usize
     ensures within { result ≤ length bytes.now }
-    ensures others { AreOthers stop bytes.now from result }
+    ensures others { AreOthers stop bytes.now 0 result }
 {
-    for i in from..bytes.len() {
+    for i in 0..bytes.len() {
         if is_byte(bytes[i], stop) {
             return i;
         }
@@ -765,24 +759,32 @@ fn after_others(stop: u8, bytes: &[u8], from: usize) -> usize
     bytes.len()
 }
 
-// The first place from one on whose byte may change a state; at most the end.
+// The number of bytes before the first one that may change a state.
 //
 // It goes on in texts, comments, names and values in quotes, which are most of a page.
 #[tactic(auto, using(crate::proofs::QuietSteps::none_passed))]
+fn quiet_length(state: State, bytes: &[u8]) -> usize
+    ensures within { result ≤ length bytes.now }
+    ensures quiet { AreQuiet state bytes.now 0 result }
+{
+    match state {
+        State::Data => text_length(bytes),
+        State::DoubleQuotedValue => length_before(b'"', bytes),
+        State::SingleQuotedValue => length_before(b'\'', bytes),
+        State::Comment => length_before(b'-', bytes),
+        State::TagName | State::AttributeName | State::Raw(_) => alphanumeric_length(bytes),
+        _ => 0,
+    }
+}
+
+// The first place from one on whose byte may change a state; at most the end.
 pub(crate) fn after_quiet(state: State, bytes: &[u8], from: usize) -> usize
     requires { from ≤ length bytes.now }
     ensures passed { from ≤ result }
     ensures within { result ≤ length bytes.now }
     ensures quiet { AreQuiet state bytes.now from result }
 {
-    match state {
-        State::Data => after_text(bytes, from),
-        State::DoubleQuotedValue => after_others(b'"', bytes, from),
-        State::SingleQuotedValue => after_others(b'\'', bytes, from),
-        State::Comment => after_others(b'-', bytes, from),
-        State::TagName | State::AttributeName | State::Raw(_) => after_alphanumerics(bytes, from),
-        _ => from,
-    }
+    from + quiet_length(state, &bytes[from..])
 }
 
 /// Returns the pieces of a page, in order.

@@ -5,7 +5,7 @@ use Rattle.std.specs.Option.{option_map_or}
 use Rattle.std.specs.Str.{IsUtf8}
 use Rattle.html_pieces.specs.declared.bytes.Form.{Form}
 use Rattle.html_pieces.specs.declared.bytes.Form.TheVariants.{Html, Xml}
-use Rattle.html_pieces.specs.declared.groups.Group.{Group}
+use Rattle.html_pieces.specs.declared.groups.ElementGroup.{ElementGroup}
 use Rattle.html_pieces.specs.declared.tokenizer.Kind.{Kind}
 use Rattle.html_pieces.specs.declared.tokenizer.Kind.TheVariants.{Text, Reference, StartTag, EmptyTag, EndTag, Other}
 use Rattle.html_pieces.specs.Bytes.{is_xml}
@@ -71,7 +71,7 @@ same_either : (c : Bool) → (if◌then◌else◌ {A = List Element} c [] []) �
 same_either true = refl
 same_either false = refl
 
-none_open : (class : List ℕ) (group : Group) (kind : Kind) (bytes : List ℕ) (page : Element) → is_start kind ≡ false → elements_by Xml class group kind bytes page [] ≡ []
+none_open : (class : List ℕ) (group : ElementGroup) (kind : Kind) (bytes : List ℕ) (page : Element) → is_start kind ≡ false → elements_by Xml class group kind bytes page [] ≡ []
 none_open class group Text bytes page e = refl
 none_open class group Reference bytes page e = refl
 none_open class group StartTag bytes page e = absurd (true≢false e)

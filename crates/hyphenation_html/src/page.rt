@@ -158,15 +158,15 @@ fn push_pieces<'t>(
 }
 
 // A page with its marks, written piece by piece.
-fn written(
+fn page_with_marks(
     alloc: Global,
     languages: &[LanguageDictionary],
     language: &str,
     settings: &Settings<'_>,
     page: &HtmlPage<'_>,
 ) -> Result<String, AllocError>
-    ensures { IfOk result (λ output.
-        string_bytes output ≡ marked_page_by settings.now languages.now language.now page.now) }
+    ensures { IfOk result (λ made.
+        string_bytes made ≡ marked_page_by settings.now languages.now language.now page.now) }
 {
     let mut output = Output::with_capacity(alloc, page.len())?;
     let around = page_element(language.as_bytes());
@@ -233,5 +233,5 @@ pub fn hyphenate_html(
     other_texts_leave_the_form();
     all_fit(languages, settings);
     page.invariant();
-    written(alloc, languages, language, settings, page)
+    page_with_marks(alloc, languages, language, settings, page)
 }

@@ -16,13 +16,13 @@ use hyphenation_segments::iter::laws::{marked_segments_join, segments_join};
 use std::alloc::{AllocError, Global};
 
 // Returns a text that was written token by token.
-fn written(
+fn text_with_marks(
     alloc: Global,
     dictionary: &AnyDictionary,
     settings: &Settings<'_>,
     text: &str,
 ) -> Result<String, AllocError>
-    ensures { IfOk result (λ output. string_bytes output
+    ensures { IfOk result (λ made. string_bytes made
         ≡ marked_text_by settings.now dictionary.now false false text.now) }
 {
     let mut output = Output::with_capacity(alloc, text.len())?;
@@ -57,5 +57,5 @@ pub fn hyphenate_text(
     marked_segments_join();
     limited_breaks_fit(dictionary, settings);
     a_second_run_finds_no_break(dictionary, settings);
-    written(alloc, dictionary, settings, text)
+    text_with_marks(alloc, dictionary, settings, text)
 }

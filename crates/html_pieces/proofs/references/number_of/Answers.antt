@@ -13,8 +13,8 @@ loop-digit-preserved c =
     let i = c.loop-digit.digit-index in
     let next = c.loop-digit.number * base + digit_value (get_or digits i 0) in
     record {
-      within = subst (λ m. m ≤ no_character) (sym c.number_on-number.ensures) (capped_within next);
-      told = ap (λ m. capped (number_from_digits_after base m (map digit_value (drop (i + 1) digits)))) c.number_on-number.ensures
+      within = subst (λ m. m ≤ no_character) (sym c.number_with_digit-number.ensures) (capped_within next);
+      told = ap (λ m. capped (number_from_digits_after base m (map digit_value (drop (i + 1) digits)))) c.number_with_digit-number.ensures
           ∙ capped_after c.args.hexadecimal next (map digit_value (drop (i + 1) digits))
           ∙ sym (ap (λ xs. capped (number_from_digits_after base c.loop-digit.number (map digit_value xs))) (drop_more digits i c.loop-digit-test.true))
           ∙ c.loop-digit.invariant.told;

@@ -6,11 +6,11 @@ use Rattle.html_pieces.proofs.tags.attributes.Goals as goal
 pub value_past-value-requires-clause-part : goal.value_past-value-requires-clause-part
 value_past-value-requires-clause-part c =
     (read_on c.args.form c.args.tag.now _ _ c.loop-i.state c.next_in_tag-after.result c.loop-i.name.now c.loop-i.value.now _ _ c.loop-i.i c.loop-i.invariant c.loop-i-test.true
-    c.next_in_tag-after.ensures c.in_ok-push_ended.ensures c.name_on-name.ensures c.value_on-value.ensures).value_at
+    c.next_in_tag-after.ensures c.in_ok-push_ended.ensures c.attribute_name_after-name.ensures c.attribute_value_after-value.ensures).value_at
 
 pub loop-i-preserved : goal.loop-i-preserved
 loop-i-preserved c =
     let read = read_on c.args.form c.args.tag.now _ _ c.loop-i.state c.next_in_tag-after.result c.loop-i.name.now c.loop-i.value.now _ _ c.loop-i.i c.loop-i.invariant c.loop-i-test.true
-    c.next_in_tag-after.ensures c.in_ok-push_ended.ensures c.name_on-name.ensures c.value_on-value.ensures in
-    read_up_to c.args.form c.args.tag.now _ c.next_in_tag-after.result _ c.value_on-value.result.now c.value_past-value.result.now (c.loop-i.i + 1) c.after_value-end.result read
+    c.next_in_tag-after.ensures c.in_ok-push_ended.ensures c.attribute_name_after-name.ensures c.attribute_value_after-value.ensures in
+    read_up_to c.args.form c.args.tag.now _ c.next_in_tag-after.result _ c.attribute_value_after-value.result.now c.value_past-value.result.now (c.loop-i.i + 1) c.after_value-end.result read
     c.after_value-end.ensures.passed c.after_value-end.ensures.within c.after_value-end.ensures.quiet c.after_value-end.ensures.kept c.value_past-value.ensures

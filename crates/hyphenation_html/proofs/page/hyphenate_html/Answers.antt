@@ -22,13 +22,13 @@ pub returns-clause-marked : goal.returns-clause-marked
 returns-clause-marked c =
     let laws : Laws = record { join = c.segments_join.ensures; joins = c.marked_segments_join.ensures; fit = c.plain_breaks_fit_where_ascending.ensures } in
     let marked = page_marked laws _ (form_of c.args.page.now) c.args.settings.now.class.now c.args.language.now c.args.settings.now.mark.now c.args.page.now c.all_fit.ensures (c.pieces_join.ensures (form_of c.args.page.now) c.args.page.now) (c.pieces_are_utf8.ensures (form_of c.args.page.now) c.args.page.now c.invariant.ensures) in
-    IfOk-weaker c.written.result _ _ (λ output e. e ∙ marked.is) c.written.ensures
+    IfOk-weaker c.page_with_marks.result _ _ (λ output e. e ∙ marked.is) c.page_with_marks.ensures
 
 pub returns-clause-kept : goal.returns-clause-kept
 returns-clause-kept c =
     let laws : Laws = record { join = c.segments_join.ensures; joins = c.marked_segments_join.ensures; fit = c.plain_breaks_fit_where_ascending.ensures } in
     let marked = page_marked laws _ (form_of c.args.page.now) c.args.settings.now.class.now c.args.language.now c.args.settings.now.mark.now c.args.page.now c.all_fit.ensures (c.pieces_join.ensures (form_of c.args.page.now) c.args.page.now) (c.pieces_are_utf8.ensures (form_of c.args.page.now) c.args.page.now c.invariant.ensures) in
-    IfOk-weaker c.written.result _ _ (λ output e. (marked.parts.0, marked.parts.1, marked.parts.2 ∙ sym e)) c.written.ensures
+    IfOk-weaker c.page_with_marks.result _ _ (λ output e. (marked.parts.0, marked.parts.1, marked.parts.2 ∙ sym e)) c.page_with_marks.ensures
 
 pub returns-clause-in_text : goal.returns-clause-in_text
 returns-clause-in_text c =
@@ -40,7 +40,7 @@ returns-clause-without c = λ e.
     let laws : Laws = record { join = c.segments_join.ensures; joins = c.marked_segments_join.ensures; fit = c.plain_breaks_fit_where_ascending.ensures } in
     let marked = page_marked laws _ (form_of c.args.page.now) c.args.settings.now.class.now c.args.language.now c.args.settings.now.mark.now c.args.page.now c.all_fit.ensures (c.pieces_join.ensures (form_of c.args.page.now) c.args.page.now) (c.pieces_are_utf8.ensures (form_of c.args.page.now) c.args.page.now c.invariant.ensures) in
     let none = page_without _ (form_of c.args.page.now) c.args.settings.now.class.now c.args.language.now c.args.page.now (ap (languages_by c.args.settings.now) e) in
-    IfOk-weaker c.written.result _ _ (λ output is. is ∙ marked.is ∙ ap (with_marks c.args.settings.now.mark.now c.args.page.now) none) c.written.ensures
+    IfOk-weaker c.page_with_marks.result _ _ (λ output is. is ∙ marked.is ∙ ap (with_marks c.args.settings.now.mark.now c.args.page.now) none) c.page_with_marks.ensures
 
 pub returns-clause-twice : goal.returns-clause-twice
 returns-clause-twice c = λ e.
@@ -51,7 +51,7 @@ returns-clause-twice c = λ e.
     let languages = languages_by settings c.args.languages.now in
     let pieces = pieces_of (form_of page) page in
     let utf8 = c.pieces_are_utf8.ensures (form_of page) page c.invariant.ensures in
-    IfOk-weaker c.written.result _ _
+    IfOk-weaker c.page_with_marks.result _ _
     (λ output is.
     let bytes = string_bytes output in
     let by_soft = is ∙ ap (λ m. marked_pieces languages m (form_of page) settings.class.now (page_element language) (at_start (form_of page) pieces) false pieces) e in
@@ -59,4 +59,4 @@ returns-clause-twice c = λ e.
     let form = form_kept laws c.other_texts_leave_the_form.ensures languages settings.class.now language page bytes c.all_fit.ensures utf8 c.invariant.ensures (IsUtf8-string_bytes output) (c.pieces_join.ensures Xml page) by_soft in (
       languages_kept laws languages settings.class.now language page bytes c.all_fit.ensures utf8 (c.other_texts_are_cut_alike.ensures (form_of page) page) form by_soft,
       ap (λ f. with_marks settings.mark.now bytes (places_of languages f settings.class.now language bytes)) form ∙ ap (with_marks settings.mark.now bytes) done,
-    )) c.written.ensures
+    )) c.page_with_marks.ensures

@@ -2,7 +2,7 @@ use Rattle.std.proofs.Common.{◌∙◌, ap, sym, take, length, arith}
 use Rattle.std.proofs.lemmas.List.{take_all}
 use Rattle.html_pieces.specs.Elements.{as_elements}
 use Rattle.html_pieces.proofs.Limits.{none_at_limit, closed_passes}
-use Rattle.html_pieces.proofs.elements.around_first.Goals as goal
+use Rattle.html_pieces.proofs.elements.kept_by_end_tag.Goals as goal
 
 pub returns-then-left-eq0-clause-kept : goal.returns-then-left-eq0-clause-kept
 returns-then-left-eq0-clause-kept c =
