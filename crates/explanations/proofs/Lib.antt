@@ -1,10 +1,9 @@
 pub mod RowsSoFar
 pub mod Prefixes
-pub mod Pieces
 pub mod Fielding
 pub mod Escaping
 pub mod Walks
 pub mod Scores
-pub mod Explaining
 pub mod Drawings
 pub mod Mapped
+pub mod HavingRoom

@@ -1,16 +1,14 @@
 -- One more byte, one more row, and the end of the rows from a start.
-use Rattle.std.proofs.Common.{◌≡◌, ℕ, ◌+◌, ◌-◌, ◌*◌, ◌<◌, ◌≤◌, List, [], ◌∷◌, ◌++◌, length, map, get_or, Some, None, sym, ap, subst, ◌∙◌, arith, inl, inr}
-use Rattle.std.specs.Prelude.{slice_range, IsSome, IfOk, Result, Ok, Err}
+use Rattle.std.proofs.Common.{◌≡◌, ℕ, ◌+◌, ◌-◌, ◌*◌, ◌<◌, ◌≤◌, List, [], ◌∷◌, ◌++◌, length, map, Some, None, sym, ap, subst, ◌∙◌, arith, inl, inr, slice_range, IsSome, IfOk, Result, Ok, Err, All, Contains}
 use Rattle.std.specs.declared.vec.Vec.{Vec}
-use Rattle.std.specs.List.{All, Contains}
 use Rattle.std.proofs.lemmas.Bool.{cases_lt}
 use Rattle.std.proofs.lemmas.List.Elements.{All-nil, All-push, All-weaker, Contains-append_left, Contains-push}
 use Rattle.std.proofs.lemmas.List.Quantifiers.{all_pairs_push}
 use Rattle.hyphenation_breaks.specs.declared.entry.Entry.{Entry}
 use Rattle.hyphenation_breaks.specs.Dictionary.{Patterns}
-use Rattle.std.proofs.lemmas.List.{map_push, get_or-map, length-map}
+use Rattle.std.proofs.lemmas.List.{map_push}
 use Rattle.explanations.specs.declared.pattern_rows.Row.{Row}
-use Rattle.explanations.specs.Rows.{PatternRow, row_of, IsOccurrence, ComesBefore, AreAllOccurrences, LiesWithin, LooksUpWithin}
+use Rattle.explanations.specs.Rows.{PatternRow, row_of, IsOccurrence, ComesBefore, AreAllOccurrences, LooksUpWithin}
 use Rattle.explanations.specs.Private.Walking.{IsUpTo, AreOccurrencesUpTo}
 
 -- Rows with the same start, bytes and entries are the same.
@@ -138,16 +136,6 @@ pushed_row {C} keys text start at rows now row push so_far begun within start_is
     let occurs : IsOccurrence keys text (row_of row) = record { not_empty = omega arith; within = omega arith; key = key_is } in
     subst (λ xs. AreOccurrencesUpTo keys text start (at + 1) xs) (sym (ap (map row_of) push ∙ map_push row_of rows row))
     (one_row keys text start at (map row_of rows) (row_of row) so_far occurs start_is end_is)
-
--- Each row of a list lies in the text, if all do.
-pub row_within : {C : Type 0} (text : List ℕ) (rows : List (Row C)) (i : ℕ) (row : Row C) → i < length rows → row ≡ get_or rows i row → All (LiesWithin text) (map row_of rows)
-    → row.start + row.bytes ≤ length text
-row_within text rows i row lt is all =
-    subst (λ x. LiesWithin text x) (get_or-map row_of rows i row (row_of row) lt ∙ ap row_of (sym is)) (all i (row_of row) (omega (arith, length-map rows row_of)))
-
--- The rows of all occurrences lie in the text.
-pub all_within : {C : Type 0} (keys : Patterns C) (text : List ℕ) (rows : List (PatternRow C)) → AreAllOccurrences keys text rows → All (LiesWithin text) rows
-all_within keys text rows h = All-weaker (IsOccurrence keys text) (LiesWithin text) (λ row is. is.within) rows h.each
 
 -- All occurrences by patterns and a text that are equal.
 pub known_occurrences : {C X E : Type 0} (keys other : Patterns C) (text bytes : List ℕ) (r : Result (Vec (Row C) X) E) → ((key : List ℕ) → keys key ≡ other key) → bytes ≡ text

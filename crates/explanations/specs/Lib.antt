@@ -9,6 +9,7 @@ pub mod Placed
 pub mod Picture
 pub mod Svg
 pub mod Drawings
+pub mod Room
 pub mod Texts
 pub mod Words
 pub mod Private

@@ -1,6 +1,5 @@
 -- The facts about a word's breaks as lines for programs. A line has a name and fields, each field after a tab.
 use Rattle.std.specs.Prelude.{ℕ, ◌+◌, List, [], ◌∷◌, ◌++◌, codes, Option, Some, None, decimal, slice_range, flat_map}
-use Rattle.hyphenation_breaks.specs.Ascii.{tab, line_feed, comma}
 use Rattle.hyphenation_breaks.specs.Break.{Break, Change}
 use Rattle.hyphenation_breaks.specs.declared.entry.Entry.{Entry}
 use Rattle.hyphenation_score.specs.Scoring.{Scored}
@@ -9,24 +8,23 @@ use Rattle.explanations.specs.Rows.{PatternRow}
 use Rattle.explanations.specs.declared.facts.Decision.{Decision}
 use Rattle.explanations.specs.declared.facts.Decision.TheVariants.{SoftHyphens, TooShort, Exception, Patterns}
 
-abbrev pub colon : ℕ
-colon = 58
-
 -- A field of a number, in decimal.
 abbrev pub number_field : ℕ → List ℕ
-number_field number = tab ∷ decimal number
+number_field number = codes "\t" ++ decimal number
 
--- A change in a field after its place or value: the bytes before and after the place, the breakpoint and the substitution.
--- Nothing without a change.
+-- The numbers of a change: the bytes before and after the place, and the breakpoint.
+abbrev pub change_numbers : Change → List ℕ
+change_numbers change =
+    codes ":" ++ (decimal change.left ++ (codes "," ++ (decimal change.right ++ (codes "," ++ (decimal change.breakpoint ++ codes ",")))))
+
+-- A change in a field after its place or value: its numbers and the substitution. Nothing without a change.
 abbrev pub change_text : Option Change → List ℕ
 change_text None = []
-change_text (Some change) =
-    colon ∷ (decimal change.left ++ comma ∷ (decimal change.right ++ comma ∷ (decimal change.breakpoint
-    ++ comma ∷ field_text change.substitution)))
+change_text (Some change) = change_numbers change ++ field_text change.substitution
 
 -- A field of a value at a place, with its change.
 abbrev pub value_field : ℕ → ℕ → Option Change → List ℕ
-value_field place value change = number_field place ++ (colon ∷ (decimal value ++ change_text change))
+value_field place value change = number_field place ++ (codes ":" ++ (decimal value ++ change_text change))
 
 -- A field of an entry.
 abbrev pub entry_field : {C : Type 0} → (C → Option Change) → Entry C → List ℕ
@@ -34,36 +32,40 @@ entry_field change_of entry = value_field entry.place entry.value (change_of ent
 
 -- A line of a name and fields.
 abbrev pub named_line : List ℕ → List ℕ → List ℕ
-named_line name fields = name ++ (fields ++ line_feed ∷ [])
+named_line name fields = name ++ (fields ++ codes "\n")
 
 -- A line of a name and one field, which has a text.
 abbrev pub text_line : List ℕ → List ℕ → List ℕ
-text_line name field = name ++ (tab ∷ field_text field ++ line_feed ∷ [])
+text_line name field = name ++ (codes "\t" ++ (field_text field ++ codes "\n"))
 
 -- The line of a pattern that occurs in the frame: its start, its number of bytes, its text and its entries.
 abbrev pub pattern_line : {C : Type 0} → (C → Option Change) → List ℕ → PatternRow C → List ℕ
 pattern_line change_of framed row =
     codes "pattern" ++ (number_field row.start ++ (number_field row.bytes
-    ++ (tab ∷ field_text (slice_range framed row.start (row.start + row.bytes))
-    ++ (flat_map (entry_field change_of) row.entries ++ line_feed ∷ []))))
+    ++ (codes "\t" ++ (field_text (slice_range framed row.start (row.start + row.bytes))
+    ++ (flat_map (entry_field change_of) row.entries ++ codes "\n")))))
 
 -- The fields of scores, the first one at this place.
 abbrev pub score_fields : ℕ → List Scored → List ℕ
 score_fields place [] = []
 score_fields place (score ∷ scores) = value_field place score.value score.change ++ score_fields (place + 1) scores
 
+-- The line of the scores of all places, from place 1 on.
+abbrev pub score_line : List Scored → List ℕ
+score_line scores = named_line (codes "score") (score_fields 1 scores)
+
+-- A line of a name and places.
+abbrev pub places_line : List ℕ → List ℕ → List ℕ
+places_line name places = named_line name (flat_map number_field places)
+
+-- The line of the bounds, which has no field without bounds.
+abbrev pub bounds_line : Option (ℕ × ℕ) → List ℕ
+bounds_line None = places_line (codes "bounds") []
+bounds_line (Some bounds) = places_line (codes "bounds") (bounds.0 ∷ bounds.1 ∷ [])
+
 -- A field of a break: its place with its change.
 abbrev pub break_field : Break → List ℕ
 break_field b = number_field b.place ++ change_text b.change
-
--- A field that is only a break's place.
-abbrev pub place_field : Break → List ℕ
-place_field b = number_field b.place
-
--- The fields of the bounds; none without bounds.
-abbrev pub bound_fields : Option (ℕ × ℕ) → List ℕ
-bound_fields None = []
-bound_fields (Some bounds) = number_field bounds.0 ++ number_field bounds.1
 
 -- The line of the listed breaks; none if the word is no exception.
 abbrev pub exception_line : Option (List Break) → List ℕ

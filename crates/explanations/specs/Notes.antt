@@ -3,27 +3,16 @@ use Rattle.std.specs.Prelude.{ℕ, List, [], ◌++◌, codes, Option, Some, None
 use Rattle.hyphenation_breaks.specs.Break.{Change, before_of, after_of}
 use Rattle.hyphenation_breaks.specs.declared.entry.Entry.{Entry}
 use Rattle.hyphenation_score.specs.Scoring.{Scored}
-use Rattle.explanations.specs.Rows.{PatternRow}
 use Rattle.explanations.specs.declared.facts.Decision.{Decision}
 use Rattle.explanations.specs.declared.facts.Decision.TheVariants.{SoftHyphens, TooShort, Exception, Patterns}
 
--- A value before its change.
-abbrev pub noted_value : ℕ → List ℕ
-noted_value value = codes "  " ++ (decimal value ++ codes ": ")
-
--- The halves of a change, with a hyphen between them.
-abbrev pub halves_of : Option Change → List ℕ
-halves_of change = before_of change ++ (codes "-" ++ after_of change)
-
--- The numbers of bytes that a change replaces, before the place and after it.
-abbrev pub replaced_by : Change → List ℕ
-replaced_by change = codes " for " ++ (decimal change.left ++ (codes "+" ++ decimal change.right))
-
--- The change that a value makes; nothing without one.
+-- The change that a value makes: its halves, and the numbers of bytes that it replaces before the place and after it. Nothing
+-- without one.
 abbrev pub change_note : ℕ → Option Change → List ℕ
 change_note value None = []
 change_note value (Some change) =
-    noted_value value ++ (halves_of (Some change) ++ (replaced_by change ++ codes " bytes"))
+    codes "  " ++ (decimal value ++ (codes ": " ++ (before_of (Some change) ++ (codes "-" ++ (after_of (Some change)
+    ++ (codes " for " ++ (decimal change.left ++ (codes "+" ++ (decimal change.right ++ codes " bytes")))))))))
 
 -- The change that the value of an entry makes.
 abbrev pub entry_note : {C : Type 0} → (C → Option Change) → Entry C → List ℕ
@@ -32,10 +21,6 @@ entry_note change_of entry = change_note entry.value (change_of entry.change)
 -- The change that the value of a score makes.
 abbrev pub score_note : Scored → List ℕ
 score_note score = change_note score.value score.change
-
--- The note of a row: the changes of its values.
-abbrev pub row_note : {C : Type 0} → (C → Option Change) → PatternRow C → List ℕ
-row_note change_of row = flat_map (entry_note change_of) row.entries
 
 -- The note of the scores.
 abbrev pub scores_note : List Scored → List ℕ

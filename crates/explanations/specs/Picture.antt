@@ -3,15 +3,11 @@ use Rattle.std.specs.Prelude.{ℕ, ◌+◌, ◌-◌, List, [], ◌∷◌, ◌++�
 use Rattle.hyphenation_breaks.specs.Ascii.{space, line_feed}
 use Rattle.explanations.specs.Placed.{Placed, PlacedRow}
 
--- This number of spaces.
-abbrev pub spaces : ℕ → List ℕ
-spaces count = replicate count space
-
 -- Texts in a line, from this column on.
 abbrev pub line_from : ℕ → List Placed → List ℕ
 line_from column [] = line_feed ∷ []
 line_from column (text ∷ texts) =
-    spaces (text.column - column) ++ (text.bytes ++ line_from (text.column + text.columns) texts)
+    replicate (text.column - column) space ++ (text.bytes ++ line_from (text.column + text.columns) texts)
 
 -- The line of a row.
 abbrev pub line_of : PlacedRow → List ℕ

@@ -1,11 +1,11 @@
 -- The rows of a picture: texts, each at its column. The picture for people and the drawing have these rows.
-use Rattle.std.specs.Prelude.{ℕ, ◌+◌, ◌-◌, ◌==◌, nat_lt, nat_le, ◌&&◌, ◌||◌, not, Bool, if◌then◌else◌, false, List, [], ◌∷◌, ◌++◌, length, chars, Option, Some, None, decimal, drop, slice_index, slice_get, slice_range, unwrap_or}
+use Rattle.std.specs.Prelude.{ℕ, ◌+◌, ◌-◌, ◌==◌, nat_lt, nat_le, ◌&&◌, ◌||◌, not, Bool, if◌then◌else◌, false, is_none, List, [], ◌∷◌, ◌++◌, length, chars, Option, Some, None, decimal, drop, flat_map, slice_index, slice_get, slice_range, unwrap_or}
 use Rattle.unicode_width.specs.Width.{str_width}
 use Rattle.hyphenation_breaks.specs.Break.{Change}
-use Rattle.hyphenation_score.specs.Scoring.{Scored, frame}
+use Rattle.hyphenation_score.specs.Scoring.{Scored}
 use Rattle.explanations.specs.Columns.{Columns, value_columns, letter_column, line_begin, note_column}
 use Rattle.explanations.specs.Marks.{no_marks, row_marks, score_marks}
-use Rattle.explanations.specs.Notes.{row_note, scores_note, decision_text}
+use Rattle.explanations.specs.Notes.{entry_note, scores_note, decision_text}
 use Rattle.explanations.specs.Rows.{PatternRow}
 use Rattle.explanations.specs.declared.facts.Decision.{Decision}
 use Rattle.explanations.specs.declared.marks.Mark.{Mark}
@@ -24,28 +24,20 @@ pub record PlacedRow : Type 0 where
   pub begin : ℕ
   pub texts : List Placed
 
--- A value, at the end of the columns for the value at its place.
-abbrev pub value_text : Columns → ℕ → Mark → Placed
-value_text columns place mark = record {
-  class = Value mark;
-  column = letter_column columns place - value_columns mark.value;
-  columns = value_columns mark.value;
-  bytes = decimal mark.value;
-}
+-- A text of these bytes, which begins at a column and has that many columns.
+abbrev pub text_at : Class → ℕ → ℕ → List ℕ → Placed
+text_at class column columns bytes = record { class = class; column = column; columns = columns; bytes = bytes }
+
+-- The value at a place, if it has one, at the end of the columns for it.
+abbrev pub value_texts : Columns → ℕ → Option Mark → List Placed
+value_texts columns place None = []
+value_texts columns place (Some mark) = text_at (Value mark) (letter_column columns place - value_columns mark.value)
+    (value_columns mark.value) (decimal mark.value) ∷ []
 
 -- A letter of these bytes, at its place.
 abbrev pub letter_text : Columns → ℕ → List ℕ → Placed
-letter_text columns place bytes = record {
-  class = Letter;
-  column = letter_column columns place;
-  columns = slice_index columns.begins (place + 1) - letter_column columns place;
-  bytes = bytes;
-}
-
--- The value at a place, if it has one.
-abbrev pub value_texts : Columns → ℕ → Option Mark → List Placed
-value_texts columns place None = []
-value_texts columns place (Some mark) = value_text columns place mark ∷ []
+letter_text columns place bytes = text_at Letter (letter_column columns place)
+    (slice_index columns.begins (place + 1) - letter_column columns place) bytes
 
 -- The value of a place.
 abbrev pub mark_at : List (Option Mark) → ℕ → Option Mark
@@ -57,8 +49,7 @@ begins_char byte = nat_lt byte 128 || nat_le 192 byte
 
 -- The character at a place of the frame joins the one before it: it has no columns, and no value is before it.
 abbrev pub joins_letter : Columns → ℕ → Option Mark → Bool
-joins_letter columns place None = slice_index columns.begins (place + 1) == letter_column columns place
-joins_letter columns place (Some mark) = false
+joins_letter columns place mark = is_none mark && (slice_index columns.begins (place + 1) == letter_column columns place)
 
 -- A letter begins at a place of a text with this byte and value. The first character of a text joins none.
 abbrev pub begins_letter : Columns → ℕ → ℕ → ℕ → Option Mark → Bool
@@ -96,32 +87,27 @@ letters_row columns start letters marks notes = record {
 -- A note at a column; nothing if it is empty.
 abbrev pub note_texts : ℕ → List ℕ → List Placed
 note_texts column note =
-    if nat_lt 0 (length note) then record { class = Note; column = column; columns = 0; bytes = note } ∷ [] else []
+    if nat_lt 0 (length note) then text_at Note column 0 note ∷ [] else []
 
 -- The row of the frame, without values.
 abbrev pub frame_row : Columns → List ℕ → PlacedRow
 frame_row columns framed = letters_row columns 0 framed (no_marks framed) []
 
 -- The row of a pattern: its text with its values, below the frame, and then their changes.
-abbrev pub pattern_row : {C : Type 0} → (C → Option Change) → Columns → List ℕ → List Scored → PatternRow C → PlacedRow
-pattern_row change_of columns folded scores row =
-    letters_row columns row.start (slice_range (frame folded) row.start (row.start + row.bytes)) (row_marks folded scores row)
-    (note_texts (letter_column columns (row.start + row.bytes)) (row_note change_of row))
+abbrev pub pattern_row : {C : Type 0} → (C → Option Change) → Columns → List ℕ → List ℕ → List Scored → PatternRow C → PlacedRow
+pattern_row change_of columns framed folded scores row =
+    letters_row columns row.start (slice_range framed row.start (row.start + row.bytes)) (row_marks folded scores row)
+    (note_texts (letter_column columns (row.start + row.bytes)) (flat_map (entry_note change_of) row.entries))
 
 -- The row of the scores: the word with the greatest value of each place, and the changes of these.
 abbrev pub scores_row : Columns → List ℕ → List Scored → PlacedRow
 scores_row columns folded scores = letters_row columns 1 folded (score_marks folded scores)
     (note_texts (note_column columns 0) (scores_note scores))
 
--- A word with its breaks, below the first letter of the word.
-abbrev pub word_text : Columns → List ℕ → Placed
-word_text columns hyphenated =
-    record { class = Word; column = letter_column columns 1; columns = str_width false (chars hyphenated); bytes = hyphenated }
-
--- The row of a word with its breaks, and the fact that decides.
+-- The row of a word with its breaks, below the first letter of the word, and the fact that decides.
 abbrev pub breaks_row : Columns → List ℕ → Decision → ℕ × ℕ → PlacedRow
 breaks_row columns hyphenated decision minima = record {
   begin = line_begin columns 1;
-  texts = word_text columns hyphenated
+  texts = text_at Word (letter_column columns 1) (str_width false (chars hyphenated)) hyphenated
       ∷ note_texts (note_column columns (str_width false (chars hyphenated))) (decision_text decision minima);
 }

@@ -37,10 +37,6 @@ pub record AreAllOccurrences {C : Type 0} (keys : Patterns C) (text : List ℕ) 
 abbrev pub NoKeyIsLonger : {C : Type 0} → Patterns C → ℕ → Type 0
 NoKeyIsLonger keys longest = (key : List ℕ) → IsSome (keys key) → length key ≤ longest
 
--- The row lies in the text.
-abbrev pub LiesWithin : {C : Type 0} → List ℕ → PatternRow C → Type 0
-LiesWithin text row = row.start + row.bytes ≤ length text
-
 -- The count of look-ups rises, for each of this number of bytes, by at most twice the bytes of the longest key and two more.
 abbrev pub LooksUpWithin : {C : Type 0} → Patterns C → ℕ → ℕ → ℕ → Type 0
 LooksUpWithin keys bytes old new = (longest : ℕ) → NoKeyIsLonger keys longest → new ≤ old + bytes * (2 * longest + 2)

@@ -1,11 +1,11 @@
 -- The rows of a picture as a drawing in SVG, and drawings as a document.
 -- Source of the elements, and of the characters that XML forbids: SVG 1.1 and XML 1.0, of the W3C.
 use Rattle.std.specs.Prelude.{Bool, ℕ, ◌+◌, ◌*◌, ◌%◌, ◌==◌, nat_lt, nat_le, ◌&&◌, ◌||◌, if◌then◌else◌, List, [], ◌∷◌, ◌++◌, length, codes, max, decimal, flat_map}
-use Rattle.hyphenation_breaks.specs.Ascii.{line_feed}
 use Rattle.explanations.specs.Placed.{Placed, PlacedRow}
 use Rattle.explanations.specs.declared.marks.Mark.{Mark}
 use Rattle.explanations.specs.declared.placed.Class.{Class}
 use Rattle.explanations.specs.declared.placed.Class.TheVariants.{Letter, Value, Word, Note}
+use Rattle.explanations.specs.declared.svg_document.TheConstants.{OPEN, HEAD, STYLE, BODY}
 
 -- U+FFFD, which replaces a character that XML forbids and for the other control characters below U+0020.
 abbrev pub replacement : List ℕ
@@ -31,14 +31,18 @@ escaped text = escaped_after 0 0 text
 abbrev pub is_markup : ℕ → Bool
 is_markup byte = (byte == 60) || ((byte == 62) || (byte == 34))
 
--- The class of a value: odd or even, and whether it is the greatest of its place.
-abbrev pub mark_class : Mark → List ℕ
-mark_class mark = (if mark.value % 2 == 1 then codes "odd" else codes "even") ++ (if mark.wins then codes " wins" else [])
+-- The class of a value: odd or even.
+abbrev pub parity : ℕ → List ℕ
+parity value = if value % 2 == 1 then codes "odd" else codes "even"
+
+-- The class of a value that is the greatest of its place, after another class; nothing for one that is not.
+abbrev pub winning : Bool → List ℕ
+winning wins = if wins then codes " wins" else []
 
 -- The class of a text as an attribute.
 abbrev pub class_text : Class → List ℕ
 class_text Letter = []
-class_text (Value mark) = codes " class='" ++ (mark_class mark ++ codes "'")
+class_text (Value mark) = codes " class='" ++ (parity mark.value ++ (winning mark.wins ++ codes "'"))
 class_text Word = codes " class='word'"
 class_text Note = codes " class='note'"
 
@@ -57,7 +61,7 @@ span text = codes "<tspan" ++ (class_text text.class ++ (codes " x='" ++ (decima
 -- The element of a row, of this number. A row has 24 pixels.
 abbrev pub row_element : ℕ → List Placed → List ℕ
 row_element number texts =
-    codes "<text y='" ++ (decimal (24 * number + 18) ++ (codes "'>" ++ (flat_map span texts ++ (codes "</text>" ++ line_feed ∷ []))))
+    codes "<text y='" ++ (decimal (24 * number + 18) ++ (codes "'>" ++ (flat_map span texts ++ (codes "</text>\n"))))
 
 -- Where texts end, in pixels. A byte of a note has 9.
 abbrev pub texts_end : List Placed → ℕ
@@ -77,7 +81,7 @@ rows_end (row ∷ rows) = max (texts_end row.texts) (rows_end rows)
 -- The title of a word's drawing, for readers that can't see.
 abbrev pub word_title : List ℕ → List ℕ → List ℕ
 word_title word hyphenated =
-    codes "<title>" ++ (escaped word ++ (codes ": " ++ (escaped hyphenated ++ (codes "</title>" ++ line_feed ∷ []))))
+    codes "<title>" ++ (escaped word ++ (codes ": " ++ (escaped hyphenated ++ (codes "</title>\n"))))
 
 -- A drawing: its number of rows, its width in pixels, and its elements.
 pub record Drawn : Type 0 where
@@ -98,7 +102,7 @@ all_rows (drawing ∷ drawings) = drawing.rows + 1 + all_rows drawings
 -- A drawing below this number of rows.
 abbrev pub group : ℕ → List ℕ → List ℕ
 group above svg =
-    codes "<g transform='translate(0 " ++ (decimal (24 * above) ++ (codes ")'>" ++ (line_feed ∷ svg ++ (codes "</g>" ++ line_feed ∷ []))))
+    codes "<g transform='translate(0 " ++ (decimal (24 * above) ++ (codes ")'>\n" ++ (svg ++ codes "</g>\n")))
 
 -- Drawings below one another, the first one below this number of rows.
 abbrev pub groups : ℕ → List Drawn → List ℕ
@@ -107,16 +111,28 @@ groups above (drawing ∷ drawings) = group above drawing.svg ++ groups (above +
 
 -- The beginning of a document, up to its size.
 unfoldable pub document_open : List ℕ
-document_open = codes "<svg xmlns='http://www.w3.org/2000/svg' viewBox='0 0 "
+document_open = OPEN.now
 
--- The title, the style and the background of a document, after its size.
+-- The title of a document, after its size.
+unfoldable pub document_title : List ℕ
+document_title = HEAD.now
+
+-- The style sheet of a document.
+unfoldable pub style_sheet : List ℕ
+style_sheet = STYLE.now
+
+-- The background of a document.
+unfoldable pub background : List ℕ
+background = BODY.now
+
+-- The title, the style sheet and the background of a document, after its size.
 unfoldable pub document_style : List ℕ
-document_style = codes "' role='img' xml:space='preserve'><title>Why words break where they do</title><style>text{font-family:monospace;font-size:18px;fill:#1d2433;text-anchor:middle}.odd,.even{font-size:13px}.odd{fill:#c8102e;font-weight:bold}.even{fill:#6b7a90}.wins{text-decoration:underline}.word,.note{text-anchor:start}.word{font-weight:bold}.note{font-size:14px;fill:#5a6475}</style><rect width='100%' height='100%' fill='#fff'/>" ++ line_feed ∷ []
+document_style = document_title ++ (style_sheet ++ background)
 
 -- The beginning of a document of this width and height.
 abbrev pub document_begin : ℕ → ℕ → List ℕ
 document_begin width height = document_open ++ (decimal width ++ (codes " " ++ (decimal height ++ document_style)))
 
--- The document of drawings.
+-- The document of drawings. Its size is that of all of them, and its constant texts are those of the code.
 abbrev pub document_of : List Drawn → List ℕ
-document_of drawings = document_begin (widest drawings) (24 * all_rows drawings) ++ (groups 0 drawings ++ (codes "</svg>" ++ line_feed ∷ []))
+document_of drawings = document_begin (widest drawings) (24 * all_rows drawings) ++ (groups 0 drawings ++ codes "</svg>\n")

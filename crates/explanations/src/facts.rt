@@ -10,7 +10,6 @@ ghost use Rattle.hyphenation_hyphenator.specs.Opportunities.{rules_of};
 ghost use Rattle.hyphenation_hyphenator.specs.SoftHyphens.{soft_hyphens};
 ghost use Rattle.hyphenation_score.specs.Scoring.{frame, winners};
 ghost use Rattle.explanations.specs.Decisions.{decision_by, decision_from};
-ghost use Rattle.explanations.specs.Private.Drawing.{folded_decision};
 ghost use Rattle.explanations.specs.Rows.{row_of, AreAllOccurrences};
 
 use crate::pattern_rows::{Row, rows};
@@ -58,17 +57,6 @@ pub struct Explanation<'d, C, B> {
     pub winners: Vec<Option<&'d Entry<C>>>,
 }
 
-// Returns a word between two dots. The only error is out of memory.
-fn frame_of(alloc: Global, word: &str) -> Result<String, AllocError>
-    ensures { IfOk result (λ framed. string_bytes framed ≡ frame word.now) }
-{
-    let mut framed = String::new(alloc);
-    framed.push('.')?;
-    framed.push_str(word)?;
-    framed.push('.')?;
-    Ok(framed)
-}
-
 // Returns the places of a word's soft hyphens, or the empty list. The only error is out of memory.
 fn soft_hyphens_of(alloc: Global, word: &str) -> Result<Vec<usize>, AllocError>
     ensures { IfOk result (λ places. places.items ≡ soft_hyphens word.now) }
@@ -96,46 +84,6 @@ fn decide<B>(
     } else {
         Decision::Patterns
     }
-}
-
-// Returns the facts about the breaks of a folded word, given those of the word as written.
-fn explain_folded<'d, C: Payload, B: Break>(
-    alloc: Global,
-    dictionary: &'d Dictionary<C, B>,
-    folded: &str,
-    soft_hyphens: Vec<usize>,
-) -> Result<Explanation<'d, C, B>, AllocError>
-    ensures decision { IfOk result (λ e.
-        e.decision ≡ folded_decision soft_hyphens.items dictionary.now folded.now) }
-    ensures soft_hyphens { IfOk result (λ e. e.soft_hyphens.items ≡ soft_hyphens.items) }
-    ensures folded { IfOk result (λ e. string_bytes e.folded ≡ folded.now) }
-    ensures framed { IfOk result (λ e. string_bytes e.framed ≡ frame folded.now) }
-    ensures bounds { IfOk result (λ e. e.bounds ≡ boundaries dictionary.now.left dictionary.now.right folded.now) }
-    ensures listed { IfOk result (λ e. option_copied e.listed ≡ finite.get dictionary.now.exceptions folded.now) }
-    ensures rows { IfOk result (λ e.
-        AreAllOccurrences (entries_of_keys dictionary.now) (frame folded.now) (map row_of e.rows.items)) }
-    ensures winners { IfOk result (λ e.
-        map option_copied e.winners.items ≡ winners (entries_of_keys dictionary.now) folded.now) }
-{
-    let framed = frame_of(alloc, folded)?;
-    let bounds = boundaries_of(dictionary.minima(), folded);
-    let listed = dictionary.listed(folded);
-    let decision = decide(&soft_hyphens, bounds, listed);
-    let mut count = LookUps::new();
-    let rows = rows(alloc, dictionary, &framed, &mut count)?;
-    let mut count = LookUps::new();
-    let winners = winners(alloc, dictionary, folded, &mut count)?;
-    let folded = String::from_str(alloc, folded)?;
-    Ok(Explanation {
-        decision,
-        soft_hyphens,
-        folded,
-        framed,
-        bounds,
-        listed,
-        rows,
-        winners,
-    })
 }
 
 /// Returns the facts about the breaks of a word as written, by a dictionary of either kind.
@@ -170,5 +118,20 @@ pub fn explain<'d, C: Payload, B: Break>(
     let soft_hyphens = soft_hyphens_of(alloc, word)?;
     let (folded, _shifts) = refold(alloc, word)?;
     let folded = folded.as_str();
-    explain_folded(alloc, dictionary, folded, soft_hyphens)
+    let framed = format!(in alloc; ".{folded}.")?;
+    let bounds = boundaries_of(dictionary.minima(), folded);
+    let listed = dictionary.listed(folded);
+    let decision = decide(&soft_hyphens, bounds, listed);
+    let rows = rows(alloc, dictionary, &framed, &mut LookUps::new())?;
+    let winners = winners(alloc, dictionary, folded, &mut LookUps::new())?;
+    Ok(Explanation {
+        decision,
+        soft_hyphens,
+        folded: String::from_str(alloc, folded)?,
+        framed,
+        bounds,
+        listed,
+        rows,
+        winners,
+    })
 }

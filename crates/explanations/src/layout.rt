@@ -1,7 +1,7 @@
 //! The columns of a picture.
 
-ghost use Rattle.std.specs.Prelude.{◌≡◌, ◌++◌, chars, map, replicate, slice_index, IfOk, OnOk};
-ghost use Rattle.explanations.specs.Columns.{begins_from, column_before, column_past, columns_above, frame_columns};
+ghost use Rattle.std.specs.Prelude.{◌≡◌, chars, map, slice_index, IfOk, OnOk};
+ghost use Rattle.explanations.specs.Columns.{begins_from, column_before, columns_above, frame_columns};
 ghost use Rattle.explanations.specs.Columns.{letter_column, line_begin, note_column, shown_columns};
 ghost use Rattle.explanations.specs.Columns.{single_columns, value_columns, with_room_at, with_room_for};
 ghost use Rattle.explanations.specs.Columns.{with_room_for_entries};
@@ -36,16 +36,6 @@ fn column_at(columns: &[usize], place: usize) -> usize
     } else {
         0
     }
-}
-
-// Appends a column that many times.
-fn push_times(columns: &mut Vec<usize>, column: usize, count: usize) -> Result<(), AllocError>
-    ensures { OnOk result (columns.new.items ≡ columns.old.items ++ replicate count column) }
-{
-    for _done in 0..count {
-        columns.push(column)?;
-    }
-    Ok(())
 }
 
 // The number of columns of a value.
@@ -123,13 +113,6 @@ fn shown_columns(c: char) -> usize
     }
 }
 
-// Returns the column after a character at a place. The only error is out of memory.
-fn column_past(values: &[usize], place: usize, column: usize, c: char) -> Result<usize, AllocError>
-    ensures { IfOk result (λ past. past ≡ column_past values.now place column c) }
-{
-    sum(sum(column, column_at(values, place))?, shown_columns(c))
-}
-
 // Returns the column at which the value of each place begins, by the characters of a frame. The only error is out of memory.
 fn begins_of_chars(
     alloc: Global,
@@ -143,8 +126,10 @@ fn begins_of_chars(
     let mut column = 0;
     for letter in letters {
         begins.push(column)?;
-        column = column_past(values, place, column, *letter)?;
-        push_times(&mut begins, column, letter.len_utf8() - 1)?;
+        let letter_column = sum(column, column_at(values, place))?;
+        column = sum(letter_column, shown_columns(*letter))?;
+        let bytes = sum(begins.len(), letter.len_utf8() - 1)?;
+        begins.resize(bytes, column)?;
         place = sum(place, letter.len_utf8())?;
     }
     begins.push(column)?;

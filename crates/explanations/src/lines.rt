@@ -1,74 +1,47 @@
 //! The lines for programs, field by field. Functions named `push_..` append to a text.
 
-ghost use Rattle.std.specs.Prelude.{◌≡◌, ◌++◌, ◌+◌, ◌∷◌, ◌≤◌, [], Option, OnOk, codes, decimal, flat_map, length, map};
-ghost use Rattle.std.specs.Prelude.{option_copied};
+ghost use Rattle.std.specs.Prelude.{◌≡◌, ◌++◌, ◌∷◌, [], OnOk, codes, flat_map, map, option_copied};
 ghost use Rattle.std.specs.Option.{option_map};
-ghost use Rattle.std.specs.List.{All};
 ghost use Rattle.hyphenation_score.specs.Scoring.{score_of_winner};
-ghost use Rattle.explanations.specs.Lines.{number_field, change_text, value_field, entry_field, pattern_line, score_fields};
-ghost use Rattle.explanations.specs.Lines.{break_field, bound_fields, exception_line, decision_name, named_line};
-ghost use Rattle.explanations.specs.Lines.{text_line, place_field};
+ghost use Rattle.explanations.specs.Lines.{bounds_line, change_numbers, change_text, decision_name, entry_field};
+ghost use Rattle.explanations.specs.Lines.{exception_line, number_field, pattern_line, places_line, score_fields, score_line};
+ghost use Rattle.explanations.specs.Lines.{text_line, value_field};
 ghost use Rattle.explanations.specs.Private.Drawing.{scores_by};
-ghost use Rattle.explanations.specs.Rows.{row_of, LiesWithin};
+ghost use Rattle.explanations.specs.Rows.{row_of};
 
 use crate::facts::Decision;
 use crate::fields::push_field_text;
-use crate::pattern_rows::Row;
-use hyphenation_breaks::breaks::Break;
+use crate::pattern_rows::{Row, letters_of};
 use hyphenation_breaks::entry::{Entry, Listing, Payload};
 use hyphenation_breaks::extended::Subregion;
 use std::alloc::AllocError;
-
-// Appends bytes.
-pub(crate) fn append(text: &mut Vec<u8>, bytes: &[u8]) -> Result<(), AllocError>
-    ensures { OnOk result (text.new.items ≡ text.old.items ++ bytes.now) }
-{
-    text.extend_from_slice(bytes)
-}
-
-// Appends a number in decimal.
-pub(crate) fn push_number(text: &mut Vec<u8>, number: usize) -> Result<(), AllocError>
-    ensures { OnOk result (text.new.items ≡ text.old.items ++ decimal number) }
-{
-    let digits = number.to_string(*text.allocator())?;
-    text.extend_from_slice(digits.as_bytes())
-}
 
 // Appends a field of a number.
 fn push_number_field(text: &mut Vec<u8>, number: usize) -> Result<(), AllocError>
     ensures { OnOk result (text.new.items ≡ text.old.items ++ number_field number) }
 {
-    text.push(b'\t')?;
-    push_number(text, number)
+    let field = format!(in *text.allocator(); "\t{number}")?;
+    text.extend_from_slice(field.as_bytes())
 }
 
-// Appends a number after a byte.
-fn push_number_after(text: &mut Vec<u8>, byte: u8, number: usize) -> Result<(), AllocError>
-    ensures { OnOk result (text.new.items ≡ text.old.items ++ byte ∷ decimal number) }
+// Appends the numbers of a change, after a colon and each with a comma after it.
+fn push_change_numbers(text: &mut Vec<u8>, change: &Subregion) -> Result<(), AllocError>
+    ensures { OnOk result (text.new.items ≡ text.old.items ++ change_numbers change.now) }
 {
-    text.push(byte)?;
-    push_number(text, number)
+    let (left, right, breakpoint) = (change.left, change.right, change.breakpoint);
+    let numbers = format!(in *text.allocator(); ":{left},{right},{breakpoint},")?;
+    text.extend_from_slice(numbers.as_bytes())
 }
 
-// Appends a change after a colon.
-fn push_some_change(text: &mut Vec<u8>, change: &Subregion) -> Result<(), AllocError>
-    ensures { OnOk result (text.new.items ≡ text.old.items ++ change_text (Option.Some change.now)) }
-{
-    push_number_after(text, b':', change.left)?;
-    push_number_after(text, b',', change.right)?;
-    push_number_after(text, b',', change.breakpoint)?;
-    text.push(b',')?;
-    push_field_text(text, change.substitution.as_bytes())
-}
-
-// Appends a change after a colon, or nothing without one.
+// Appends a change, or nothing without one.
 fn push_change(text: &mut Vec<u8>, change: Option<&Subregion>) -> Result<(), AllocError>
     ensures { OnOk result (text.new.items ≡ text.old.items ++ change_text (option_copied change.entry)) }
 {
-    match change {
-        Some(change) => push_some_change(text, change),
-        None => Ok(()),
-    }
+    let Some(change) = change else {
+        return Ok(());
+    };
+    push_change_numbers(text, change)?;
+    push_field_text(text, change.substitution.as_bytes())
 }
 
 // Appends a field of a value at a place, with its change.
@@ -80,8 +53,8 @@ fn push_value_field(
 ) -> Result<(), AllocError>
     ensures { OnOk result (text.new.items ≡ text.old.items ++ value_field place value (option_copied change.entry)) }
 {
-    push_number_field(text, place)?;
-    push_number_after(text, b':', usize::from(value))?;
+    let numbers = format!(in *text.allocator(); "\t{place}:{value}")?;
+    text.extend_from_slice(numbers.as_bytes())?;
     push_change(text, change)
 }
 
@@ -106,17 +79,14 @@ fn push_pattern<C: Payload>(
     framed: &[u8],
     row: &Row<'_, C>,
 ) -> Result<(), AllocError>
-    requires { row.now.start + row.now.bytes ≤ length framed.now }
     ensures { OnOk result (text.new.items ≡ text.old.items ++ pattern_line C.change_of framed.now (row_of row.now)) }
 {
-    text.extend_from_slice(b"pattern")?;
-    push_number_field(text, row.start)?;
-    push_number_field(text, row.bytes)?;
-    text.push(b'\t')?;
-    push_field_text(text, &framed[row.start..row.start + row.bytes])?;
+    let (start, bytes) = (row.start, row.bytes);
+    let numbers = format!(in *text.allocator(); "pattern\t{start}\t{bytes}\t")?;
+    text.extend_from_slice(numbers.as_bytes())?;
+    push_field_text(text, letters_of(framed, row)?)?;
     push_entries(text, row.entries)?;
-    text.push(b'\n')?;
-    Ok(())
+    text.extend_from_slice(b"\n")
 }
 
 // Appends the lines of the patterns that occur in the frame.
@@ -125,7 +95,6 @@ pub(crate) fn push_patterns<C: Payload>(
     framed: &[u8],
     rows: &[Row<'_, C>],
 ) -> Result<(), AllocError>
-    requires { All (LiesWithin framed.now) (map row_of rows.now) }
     ensures { OnOk result (text.new.items
         ≡ text.old.items ++ flat_map (pattern_line C.change_of framed.now) (map row_of rows.now)) }
 {
@@ -150,52 +119,46 @@ fn push_score<C: Payload>(
     }
 }
 
-// Appends the fields of the scores of all places, by their winners.
-fn push_scores<C: Payload>(
+// Appends the line of the scores of all places, by their winners.
+pub(crate) fn push_scores<C: Payload>(
     text: &mut Vec<u8>,
     winners: &[Option<&Entry<C>>],
 ) -> Result<(), AllocError>
-    ensures { OnOk result (text.new.items ≡ text.old.items
-        ++ score_fields 1 (scores_by C.change_of winners.now)) }
+    ensures { OnOk result (text.new.items ≡ text.old.items ++ score_line (scores_by C.change_of winners.now)) }
 {
+    text.extend_from_slice(b"score")?;
     for (index, winner) in winners.iter().enumerate() {
         push_score(text, index + 1, *winner)?;
     }
-    Ok(())
+    text.extend_from_slice(b"\n")
 }
 
-// Appends the fields of places.
-fn push_places(text: &mut Vec<u8>, places: &[usize]) -> Result<(), AllocError>
-    ensures { OnOk result (text.new.items ≡ text.old.items ++ flat_map number_field places.now) }
+// Appends a line of a name and places.
+pub(crate) fn push_places(
+    text: &mut Vec<u8>,
+    name: &[u8],
+    places: &[usize],
+) -> Result<(), AllocError>
+    ensures { OnOk result (text.new.items ≡ text.old.items ++ places_line name.now places.now) }
 {
+    text.extend_from_slice(name)?;
     for place in places {
         push_number_field(text, *place)?;
     }
-    Ok(())
+    text.extend_from_slice(b"\n")
 }
 
-// Appends the fields of the bounds.
-fn push_bounds(text: &mut Vec<u8>, bounds: Option<(usize, usize)>) -> Result<(), AllocError>
-    ensures { OnOk result (text.new.items ≡ text.old.items ++ bound_fields bounds) }
+// Appends the line of the bounds.
+pub(crate) fn push_bounds(
+    text: &mut Vec<u8>,
+    bounds: Option<(usize, usize)>,
+) -> Result<(), AllocError>
+    ensures { OnOk result (text.new.items ≡ text.old.items ++ bounds_line bounds) }
 {
     match bounds {
-        Some((first, last)) => {
-            push_number_field(text, first)?;
-            push_number_field(text, last)
-        }
-        None => Ok(()),
+        Some((first, last)) => push_places(text, b"bounds", &[first, last]),
+        None => push_places(text, b"bounds", &[]),
     }
-}
-
-// Appends the fields of listed breaks.
-fn push_listed<B: Listing>(text: &mut Vec<u8>, listed: &[B]) -> Result<(), AllocError>
-    ensures { OnOk result (text.new.items ≡ text.old.items ++ flat_map break_field (map B.meaning listed.now)) }
-{
-    for b in listed {
-        push_number_field(text, b.place())?;
-        push_change(text, b.change())?;
-    }
-    Ok(())
 }
 
 // Appends the line of the listed breaks, or nothing if the word is no exception.
@@ -203,18 +166,18 @@ pub(crate) fn push_exception<B: Listing>(
     text: &mut Vec<u8>,
     listed: Option<&[B]>,
 ) -> Result<(), AllocError>
-    ensures { OnOk result (text.new.items ≡ text.old.items
-        ++ exception_line (option_map (map B.meaning) (option_copied listed.entry))) }
+    ensures { OnOk result (text.new.items
+        ≡ text.old.items ++ exception_line (option_map (map B.meaning) (option_copied listed.entry))) }
 {
-    match listed {
-        Some(listed) => {
-            text.extend_from_slice(b"exception")?;
-            push_listed(text, listed)?;
-            text.push(b'\n')?;
-            Ok(())
-        }
-        None => Ok(()),
+    let Some(listed) = listed else {
+        return Ok(());
+    };
+    text.extend_from_slice(b"exception")?;
+    for b in listed {
+        push_number_field(text, b.place())?;
+        push_change(text, b.change())?;
     }
+    text.extend_from_slice(b"\n")
 }
 
 // Returns the name of the fact that decides.
@@ -238,83 +201,7 @@ pub(crate) fn push_text_line(
     ensures { OnOk result (text.new.items ≡ text.old.items ++ text_line name.now field.now) }
 {
     text.extend_from_slice(name)?;
-    text.push(b'\t')?;
+    text.extend_from_slice(b"\t")?;
     push_field_text(text, field)?;
-    text.push(b'\n')?;
-    Ok(())
-}
-
-// Appends the line of the scores.
-pub(crate) fn push_score_fields<C: Payload>(
-    text: &mut Vec<u8>,
-    winners: &[Option<&Entry<C>>],
-) -> Result<(), AllocError>
-    ensures { OnOk result (text.new.items
-        ≡ text.old.items ++ named_line (codes "score") (score_fields 1 (scores_by C.change_of winners.now))) }
-{
-    text.extend_from_slice(b"score")?;
-    push_scores(text, winners)?;
-    text.push(b'\n')?;
-    Ok(())
-}
-
-// Appends the line of the minima.
-pub(crate) fn push_minima_line(text: &mut Vec<u8>, minima: (usize, usize)) -> Result<(), AllocError>
-    ensures { OnOk result (text.new.items
-        ≡ text.old.items ++ named_line (codes "minima") (bound_fields (Option.Some minima))) }
-{
-    text.extend_from_slice(b"minima")?;
-    push_bounds(text, Some(minima))?;
-    text.push(b'\n')?;
-    Ok(())
-}
-
-// Appends the line of the bounds.
-pub(crate) fn push_bounds_line(
-    text: &mut Vec<u8>,
-    bounds: Option<(usize, usize)>,
-) -> Result<(), AllocError>
-    ensures { OnOk result (text.new.items ≡ text.old.items ++ named_line (codes "bounds") (bound_fields bounds)) }
-{
-    text.extend_from_slice(b"bounds")?;
-    push_bounds(text, bounds)?;
-    text.push(b'\n')?;
-    Ok(())
-}
-
-// Appends a line of a name and places.
-pub(crate) fn push_places_line(
-    text: &mut Vec<u8>,
-    name: &[u8],
-    places: &[usize],
-) -> Result<(), AllocError>
-    ensures { OnOk result (text.new.items
-        ≡ text.old.items ++ named_line name.now (flat_map number_field places.now)) }
-{
-    text.extend_from_slice(name)?;
-    push_places(text, places)?;
-    text.push(b'\n')?;
-    Ok(())
-}
-
-// Appends the fields of breaks.
-fn push_break_places<O: Break>(text: &mut Vec<u8>, breaks: &[O]) -> Result<(), AllocError>
-    ensures { OnOk result (text.new.items
-        ≡ text.old.items ++ flat_map place_field (map O.meaning breaks.now)) }
-{
-    for b in breaks {
-        push_number_field(text, b.place())?;
-    }
-    Ok(())
-}
-
-// Appends the line of the breaks of the word as written.
-pub(crate) fn push_breaks_line<O: Break>(text: &mut Vec<u8>, breaks: &[O]) -> Result<(), AllocError>
-    ensures { OnOk result (text.new.items
-        ≡ text.old.items ++ named_line (codes "breaks") (flat_map place_field (map O.meaning breaks.now))) }
-{
-    text.extend_from_slice(b"breaks")?;
-    push_break_places(text, breaks)?;
-    text.push(b'\n')?;
-    Ok(())
+    text.extend_from_slice(b"\n")
 }

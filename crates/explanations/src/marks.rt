@@ -70,9 +70,7 @@ pub(crate) fn no_marks(alloc: Global, framed: &[u8]) -> Result<Vec<Option<Mark>>
     ensures { IfOk result (λ marks. marks.items ≡ no_marks framed.now) }
 {
     let mut marks = Vec::new(alloc);
-    for _place in 0..framed.len() + 1 {
-        marks.push(None)?;
-    }
+    marks.resize(sum(framed.len(), 1)?, None)?;
     Ok(marks)
 }
 
@@ -129,10 +127,7 @@ pub(crate) fn row_marks<C: Payload>(
 fn score_mark<C: Payload>(word: &str, winners: &[Option<&Entry<C>>], place: usize) -> Option<Mark>
     ensures { result ≡ option_map score_mark (score_value word.now (scores_by C.change_of winners.now) place) }
 {
-    match score_value(word, winners, place) {
-        Some(value) => Some(Mark { value, wins: false }),
-        None => None,
-    }
+    score_value(word, winners, place).map(|value| Mark { value, wins: false })
 }
 
 // Returns the greatest value of each place of a word. The only error is out of memory.
@@ -143,9 +138,7 @@ pub(crate) fn score_marks<C: Payload>(
 ) -> Result<Vec<Option<Mark>>, AllocError>
     ensures { IfOk result (λ marks. marks.items ≡ score_marks word.now (scores_by C.change_of winners.now)) }
 {
-    let mut marks = Vec::new(alloc);
-    for place in 0..word.len() + 1 {
-        marks.push(score_mark(word, winners, place))?;
-    }
-    Ok(marks)
+    (0..word.len() + 1)
+        .map(|place| score_mark(word, winners, place))
+        .collect(alloc)
 }

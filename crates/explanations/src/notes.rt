@@ -1,80 +1,30 @@
-//! The notes beside rows: the changes of values, and the fact that decides. Functions named `push_..` append to a text.
+//! The notes beside rows: the changes of values, and the fact that decides.
 
-ghost use Rattle.std.specs.Prelude.{◌≡◌, ◌++◌, IfOk, Option, OnOk, flat_map, option_copied};
+ghost use Rattle.std.specs.Prelude.{◌≡◌, ◌++◌, IfOk, OnOk, flat_map, option_copied};
+ghost use Rattle.std.specs.String.{string_bytes};
 ghost use Rattle.hyphenation_score.specs.Scoring.{score_of_winner};
-ghost use Rattle.explanations.specs.Notes.{noted_value, halves_of, replaced_by, change_note, entry_note, score_note};
-ghost use Rattle.explanations.specs.Notes.{decision_text, row_note, scores_note, with_minima};
+ghost use Rattle.explanations.specs.Notes.{change_note, decision_text, entry_note, score_note, scores_note};
 ghost use Rattle.explanations.specs.Private.Drawing.{scores_by};
-ghost use Rattle.explanations.specs.Rows.{row_of};
 
 use crate::facts::Decision;
-use crate::lines::{append, push_number};
-use crate::pattern_rows::Row;
 use hyphenation_breaks::breaks::Break;
 use hyphenation_breaks::entry::{Entry, Payload};
 use hyphenation_breaks::extended::Subregion;
 use std::alloc::{AllocError, Global};
 
-// Appends a value before its change.
-fn push_noted_value(text: &mut Vec<u8>, value: u8) -> Result<(), AllocError>
-    ensures { OnOk result (text.new.items ≡ text.old.items ++ (noted_value value)) }
-{
-    text.extend_from_slice(b"  ")?;
-    push_number(text, usize::from(value))?;
-    text.extend_from_slice(b": ")
-}
-
-// Appends the halves of a change.
-fn push_halves(text: &mut Vec<u8>, change: &Subregion) -> Result<(), AllocError>
-    ensures { OnOk result (text.new.items ≡ text.old.items ++ (halves_of (Option.Some change.now))) }
-{
-    let made = (0, Some(change));
-    text.extend_from_slice(made.before().as_bytes())?;
-    text.extend_from_slice(b"-")?;
-    text.extend_from_slice(made.after().as_bytes())
-}
-
-// Appends the numbers of bytes that a change replaces.
-fn push_replaced(text: &mut Vec<u8>, change: &Subregion) -> Result<(), AllocError>
-    ensures { OnOk result (text.new.items ≡ text.old.items ++ (replaced_by change.now)) }
-{
-    text.extend_from_slice(b" for ")?;
-    push_number(text, change.left)?;
-    text.extend_from_slice(b"+")?;
-    push_number(text, change.right)
-}
-
-// Appends the change that a value makes.
-fn push_some_change(text: &mut Vec<u8>, value: u8, change: &Subregion) -> Result<(), AllocError>
-    ensures { OnOk result (text.new.items ≡ text.old.items ++
-        (change_note value (Option.Some change.now))) }
-{
-    push_noted_value(text, value)?;
-    push_halves(text, change)?;
-    push_replaced(text, change)?;
-    text.extend_from_slice(b" bytes")
-}
-
 // Appends the change that a value makes, or nothing without one.
 fn push_change(text: &mut Vec<u8>, value: u8, change: Option<&Subregion>) -> Result<(), AllocError>
-    ensures { OnOk result (text.new.items ≡ text.old.items ++
-        (change_note value (option_copied change.entry))) }
+    ensures { OnOk result (text.new.items ≡ text.old.items ++ change_note value (option_copied change.entry)) }
 {
-    match change {
-        Some(change) => push_some_change(text, value, change),
-        None => Ok(()),
-    }
-}
-
-// Appends the changes that the values of entries make.
-fn push_entry_notes<C: Payload>(text: &mut Vec<u8>, entries: &[Entry<C>]) -> Result<(), AllocError>
-    ensures { OnOk result (text.new.items ≡ text.old.items ++
-        (flat_map (entry_note C.change_of) entries.now)) }
-{
-    for entry in entries {
-        push_change(text, entry.value, entry.change.as_change())?;
-    }
-    Ok(())
+    let Some(change) = change else {
+        return Ok(());
+    };
+    let made = (0, Some(change));
+    let (before, after) = (made.before(), made.after());
+    let (left, right) = (change.left, change.right);
+    let alloc = *text.allocator();
+    let note = format!(in alloc; "  {value}: {before}-{after} for {left}+{right} bytes")?;
+    text.extend_from_slice(note.as_bytes())
 }
 
 // Appends the change of a winner.
@@ -82,8 +32,8 @@ fn push_score_note<C: Payload>(
     text: &mut Vec<u8>,
     winner: Option<&Entry<C>>,
 ) -> Result<(), AllocError>
-    ensures { OnOk result (text.new.items ≡ text.old.items ++
-        (score_note (score_of_winner C.change_of (option_copied winner.entry)))) }
+    ensures { OnOk result (text.new.items
+        ≡ text.old.items ++ score_note (score_of_winner C.change_of (option_copied winner.entry))) }
 {
     match winner {
         Some(entry) => push_change(text, entry.value, entry.change.as_change()),
@@ -91,63 +41,17 @@ fn push_score_note<C: Payload>(
     }
 }
 
-// Appends the changes of winners.
-fn push_score_notes<C: Payload>(
-    text: &mut Vec<u8>,
-    winners: &[Option<&Entry<C>>],
-) -> Result<(), AllocError>
-    ensures { OnOk result (text.new.items ≡ text.old.items ++
-        (flat_map score_note (scores_by C.change_of winners.now))) }
-{
-    for winner in winners {
-        push_score_note(text, *winner)?;
-    }
-    Ok(())
-}
-
-// Appends a text and the minima.
-fn push_with_minima(
-    text: &mut Vec<u8>,
-    before: &[u8],
-    minima: (usize, usize),
-) -> Result<(), AllocError>
-    ensures { OnOk result (text.new.items ≡ text.old.items ++ (with_minima before.now minima)) }
-{
-    text.extend_from_slice(before)?;
-    push_number(text, minima.0)?;
-    text.extend_from_slice(b" and ")?;
-    push_number(text, minima.1)
-}
-
-// Appends the fact that decides, in words.
-fn push_decision_text(
-    text: &mut Vec<u8>,
-    decision: Decision,
-    minima: (usize, usize),
-) -> Result<(), AllocError>
-    ensures { OnOk result (text.new.items ≡ text.old.items ++ (decision_text decision minima)) }
-{
-    match decision {
-        Decision::SoftHyphens => append(
-            text,
-            b"its own soft hyphens, whatever patterns and minima say",
-        ),
-        Decision::TooShort => push_with_minima(text, b"too few characters for the minima ", minima),
-        Decision::Exception => push_with_minima(
-            text,
-            b"the breaks of an exception within the minima ",
-            minima,
-        ),
-        Decision::Patterns => push_with_minima(text, b"odd values within the minima ", minima),
-    }
-}
-
-// Returns the note of a row. The only error is out of memory.
-pub(crate) fn row_note<C: Payload>(alloc: Global, row: &Row<'_, C>) -> Result<Vec<u8>, AllocError>
-    ensures { IfOk result (λ note. note.items ≡ row_note C.change_of (row_of row.now)) }
+// Returns the note of a row with these entries. The only error is out of memory.
+pub(crate) fn row_note<C: Payload>(
+    alloc: Global,
+    entries: &[Entry<C>],
+) -> Result<Vec<u8>, AllocError>
+    ensures { IfOk result (λ note. note.items ≡ flat_map (entry_note C.change_of) entries.now) }
 {
     let mut note = Vec::new(alloc);
-    push_entry_notes(&mut note, row.entries)?;
+    for entry in entries {
+        push_change(&mut note, entry.value, entry.change.as_change())?;
+    }
     Ok(note)
 }
 
@@ -160,7 +64,9 @@ pub(crate) fn scores_note<C: Payload>(
 {
     let mut note = Vec::new(alloc);
     note.extend_from_slice(b"the greatest value of each place")?;
-    push_score_notes(&mut note, winners)?;
+    for winner in winners {
+        push_score_note(&mut note, *winner)?;
+    }
     Ok(note)
 }
 
@@ -169,10 +75,23 @@ pub(crate) fn decision_note(
     alloc: Global,
     decision: Decision,
     minima: (usize, usize),
-) -> Result<Vec<u8>, AllocError>
-    ensures { IfOk result (λ note. note.items ≡ decision_text decision minima) }
+) -> Result<String, AllocError>
+    ensures { IfOk result (λ note. string_bytes note ≡ decision_text decision minima) }
 {
-    let mut note = Vec::new(alloc);
-    push_decision_text(&mut note, decision, minima)?;
-    Ok(note)
+    let (left, right) = minima;
+    match decision {
+        Decision::SoftHyphens => String::from_str(
+            alloc,
+            "its own soft hyphens, whatever patterns and minima say",
+        ),
+        Decision::TooShort => {
+            format!(in alloc; "too few characters for the minima {left} and {right}")
+        }
+        Decision::Exception => {
+            format!(in alloc; "the breaks of an exception within the minima {left} and {right}")
+        }
+        Decision::Patterns => {
+            format!(in alloc; "odd values within the minima {left} and {right}")
+        }
+    }
 }

@@ -1,6 +1,6 @@
-//! Sums and products that may not fit. On overflow the error is that of refused memory.
+//! Sums and products that may not fit, and numbers in decimal. On overflow the error is that of refused memory.
 
-ghost use Rattle.std.specs.Prelude.{◌≡◌, ◌+◌, ◌*◌, IfOk};
+ghost use Rattle.std.specs.Prelude.{◌≡◌, ◌+◌, ◌*◌, ◌++◌, IfOk, OnOk, decimal};
 
 use std::alloc::AllocError;
 
@@ -8,18 +8,20 @@ use std::alloc::AllocError;
 pub(crate) fn sum(a: usize, b: usize) -> Result<usize, AllocError>
     ensures { IfOk result (λ sum. sum ≡ a + b) }
 {
-    match a.checked_add(b) {
-        Some(sum) => Ok(sum),
-        None => Err(AllocError),
-    }
+    a.checked_add(b).ok_or(AllocError)
 }
 
 // Returns a product, if it fits.
 pub(crate) fn product(a: usize, b: usize) -> Result<usize, AllocError>
     ensures { IfOk result (λ product. product ≡ a * b) }
 {
-    match a.checked_mul(b) {
-        Some(product) => Ok(product),
-        None => Err(AllocError),
-    }
+    a.checked_mul(b).ok_or(AllocError)
+}
+
+// Appends a number in decimal.
+pub(crate) fn push_number(text: &mut Vec<u8>, number: usize) -> Result<(), AllocError>
+    ensures { OnOk result (text.new.items ≡ text.old.items ++ decimal number) }
+{
+    let digits = number.to_string(*text.allocator())?;
+    text.extend_from_slice(digits.as_bytes())
 }

@@ -9,6 +9,7 @@ ghost use Rattle.hyphenation_trie.specs.Trie.{node_text, entries_of_key, EachBeg
 ghost use Rattle.explanations.specs.Rows.{row_of, AreAllOccurrences, NoKeyIsLonger, LooksUpWithin};
 ghost use Rattle.explanations.specs.Private.Walking.{AreOccurrencesUpTo};
 
+use crate::numbers::sum;
 use hyphenation_breaks::breaks::Break;
 use hyphenation_breaks::entry::{Entry, Payload};
 use hyphenation_dictionary::dictionary::Dictionary;
@@ -28,6 +29,19 @@ pub struct Row<'d, C> {
     pub bytes: usize,
     /// The values at places of the key, in an extended dictionary each with a change or none.
     pub entries: &'d [Entry<C>],
+}
+
+// Returns the bytes of a text at which a row lies. The only error is out of memory; each row of a frame lies within it.
+pub(crate) fn letters_of<'t, C>(framed: &'t [u8], row: &Row<'_, C>) -> Result<&'t [u8], AllocError>
+    ensures letters { IfOk result (λ letters.
+        letters.now ≡ slice_range framed.now row.now.start (row.now.start + row.now.bytes)) }
+    ensures bytes { IfOk result (λ letters. length letters.now ≡ row.now.bytes) }
+{
+    let end = sum(row.start, row.bytes)?;
+    if end > framed.len() {
+        return Err(AllocError);
+    }
+    Ok(&framed[row.start..end])
 }
 
 // Adds a row if the text from `start` up to the byte number `at`, which is that of the node, is a key.

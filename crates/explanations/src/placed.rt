@@ -2,12 +2,11 @@
 
 ghost use Rattle.std.specs.Prelude.{◌≡◌, ◌++◌, ◌∷◌, [], IfOk, OnOk, drop, map};
 ghost use Rattle.explanations.specs.Drawings.{placed};
-ghost use Rattle.explanations.specs.Placed.{begins_char, begins_letter, joins_letter, letter_from, letter_text};
-ghost use Rattle.explanations.specs.Placed.{letter_texts, mark_at, note_texts, texts_from, value_text, value_texts};
+ghost use Rattle.explanations.specs.Placed.{begins_letter, letter_from, letter_texts};
+ghost use Rattle.explanations.specs.Placed.{mark_at, note_texts, text_at, texts_from, value_texts};
 ghost use Rattle.explanations.specs.Private.Drawing.{held_columns};
 
 use crate::layout::{Layout, columns_of_value};
-use crate::lines::push_number;
 use crate::marks::Mark;
 use crate::numbers::sum;
 use std::alloc::{AllocError, Global};
@@ -33,41 +32,27 @@ pub(crate) struct Text {
     pub(crate) bytes: Vec<u8>,
 }
 
-// Appends a text.
-pub(crate) fn push_text(texts: &mut Vec<Text>, text: Text) -> Result<(), AllocError>
-    ensures { OnOk result (map placed texts.new.items ≡ map placed texts.old.items ++ placed text ∷ []) }
+// Appends a text of these bytes, which begins at a column and has that many columns.
+pub(crate) fn push_text(
+    texts: &mut Vec<Text>,
+    class: Class,
+    column: usize,
+    columns: usize,
+    bytes: Vec<u8>,
+) -> Result<(), AllocError>
+    ensures { OnOk result (map placed texts.new.items ≡ map placed texts.old.items
+        ++ text_at class column columns bytes.items ∷ []) }
 {
-    texts.push(text)?;
+    texts.push(Text {
+        class,
+        column,
+        columns,
+        bytes,
+    })?;
     Ok(())
 }
 
-// Appends a value at the end of the columns for the value at its place.
-fn push_value(
-    texts: &mut Vec<Text>,
-    layout: &Layout,
-    place: usize,
-    mark: Mark,
-) -> Result<(), AllocError>
-    ensures { OnOk result (map placed texts.new.items
-        ≡ map placed texts.old.items ++ value_text (held_columns layout.now) place mark ∷ []) }
-{
-    let columns = columns_of_value(mark.value);
-    let column = layout.letter_column(place)?.saturating_sub(columns);
-    let mut bytes = Vec::new(*texts.allocator());
-    push_number(&mut bytes, usize::from(mark.value))?;
-    let class = Class::Value(mark);
-    push_text(
-        texts,
-        Text {
-            class,
-            column,
-            columns,
-            bytes,
-        },
-    )
-}
-
-// Appends the value at a place, if it has one.
+// Appends the value at a place, if it has one, at the end of the columns for it.
 fn push_mark(
     texts: &mut Vec<Text>,
     layout: &Layout,
@@ -77,10 +62,13 @@ fn push_mark(
     ensures { OnOk result (map placed texts.new.items
         ≡ map placed texts.old.items ++ value_texts (held_columns layout.now) place mark) }
 {
-    match mark {
-        Some(mark) => push_value(texts, layout, place, mark),
-        None => Ok(()),
-    }
+    let Some(mark) = mark else {
+        return Ok(());
+    };
+    let columns = columns_of_value(mark.value);
+    let column = layout.letter_column(place)?.saturating_sub(columns);
+    let bytes = mark.value.to_string(*texts.allocator())?.into_bytes();
+    push_text(texts, Class::Value(mark), column, columns, bytes)
 }
 
 // Returns the value of a place.
@@ -94,23 +82,6 @@ fn mark_at(marks: &[Option<Mark>], place: usize) -> Option<Mark>
     }
 }
 
-// Reports whether a character begins with a byte.
-fn begins_char(byte: u8) -> bool
-    ensures { result ≡ begins_char byte }
-{
-    byte < 128 || 192 <= byte
-}
-
-// Reports whether the character at a place of the frame joins the one before it. The only error is out of memory.
-fn joins_letter(layout: &Layout, place: usize, mark: Option<Mark>) -> Result<bool, AllocError>
-    ensures { IfOk result (λ joins. joins ≡ joins_letter (held_columns layout.now) place mark) }
-{
-    match mark {
-        Some(_) => Ok(false),
-        None => Ok(layout.begin(sum(place, 1)?) == layout.letter_column(place)?),
-    }
-}
-
 // Reports whether a letter begins at a place of a text. The only error is out of memory.
 fn begins_letter(
     layout: &Layout,
@@ -121,8 +92,11 @@ fn begins_letter(
 ) -> Result<bool, AllocError>
     ensures { IfOk result (λ begins. begins ≡ begins_letter (held_columns layout.now) start place byte mark) }
 {
-    let joins = joins_letter(layout, sum(start, place)?, mark)?;
-    Ok(begins_char(byte) && !(0 < place && joins))
+    let at = sum(start, place)?;
+    let letter = layout.letter_column(at)?;
+    let end = layout.begin(sum(at, 1)?);
+    let joins = mark.is_none() && end == letter;
+    Ok((byte < 128 || 192 <= byte) && !(0 < place && joins))
 }
 
 // Returns the bytes of the letter that begins at a place. The only error is out of memory.
@@ -149,30 +123,6 @@ fn letter_bytes(
     Ok(bytes)
 }
 
-// Appends the letter of these bytes, at its place.
-fn push_letter_text(
-    texts: &mut Vec<Text>,
-    layout: &Layout,
-    place: usize,
-    bytes: Vec<u8>,
-) -> Result<(), AllocError>
-    ensures { OnOk result (map placed texts.new.items
-        ≡ map placed texts.old.items ++ letter_text (held_columns layout.now) place bytes.items ∷ []) }
-{
-    let column = layout.letter_column(place)?;
-    let columns = layout.begin(sum(place, 1)?).saturating_sub(column);
-    let class = Class::Letter;
-    push_text(
-        texts,
-        Text {
-            class,
-            column,
-            columns,
-            bytes,
-        },
-    )
-}
-
 // Appends the letter that begins at a place, if one does.
 fn push_letter(
     out: &mut Vec<Text>,
@@ -193,7 +143,10 @@ fn push_letter(
         return Ok(());
     }
     let bytes = letter_bytes(*out.allocator(), layout, start, letters, marks, place)?;
-    push_letter_text(out, layout, sum(start, place)?, bytes)
+    let at = sum(start, place)?;
+    let column = layout.letter_column(at)?;
+    let columns = layout.begin(sum(at, 1)?).saturating_sub(column);
+    push_text(out, Class::Letter, column, columns, bytes)
 }
 
 // Returns the texts of letters that start at a place of the frame, with their values. The only error is out of memory.
@@ -226,14 +179,5 @@ pub(crate) fn push_note(
     if bytes.len() == 0 {
         return Ok(());
     }
-    let class = Class::Note;
-    push_text(
-        texts,
-        Text {
-            class,
-            column,
-            columns: 0,
-            bytes,
-        },
-    )
+    push_text(texts, Class::Note, column, 0, bytes)
 }

@@ -2,16 +2,15 @@
 
 ghost use Rattle.std.specs.Prelude.{List, ℕ, false, ◌≡◌, ◌+◌, ◌++◌, IfOk, OnOk, flat_map, map};
 ghost use Rattle.std.specs.List.{All};
+ghost use Rattle.std.specs.String.{string_bytes};
 ghost use Rattle.explanations.specs.Drawings.{placed, placed_row};
-ghost use Rattle.explanations.specs.Svg.{class_text, elements_from, escaped, escaped_byte, is_markup, mark_class, row_element};
-ghost use Rattle.explanations.specs.Svg.{rows_end, span, texts_end, word_title, x_by};
+ghost use Rattle.explanations.specs.Svg.{class_text, elements_from, escaped, escaped_byte, is_markup, parity};
+ghost use Rattle.explanations.specs.Svg.{row_element, rows_end, span, texts_end, winning, word_title, x_by};
 
-use crate::lines::push_number;
-use crate::marks::Mark;
 use crate::numbers::{product, sum};
 use crate::placed::{Class, Text};
 use crate::placed_rows::PictureRow;
-use std::alloc::AllocError;
+use std::alloc::{AllocError, Global};
 
 // Appends a byte as XML has it, after the two bytes before it.
 fn push_escaped_byte(text: &mut Vec<u8>, first: u8, second: u8, byte: u8) -> Result<(), AllocError>
@@ -48,39 +47,32 @@ fn push_escaped(text: &mut Vec<u8>, bytes: &[u8]) -> Result<(), AllocError>
     Ok(())
 }
 
-// Appends the class of a value.
-fn push_mark_class(text: &mut Vec<u8>, mark: Mark) -> Result<(), AllocError>
-    ensures { OnOk result (text.new.items ≡ text.old.items ++ mark_class mark) }
+// Returns the class of a value's parity.
+fn parity(value: u8) -> &'static str
+    ensures { result.now ≡ parity value }
 {
-    if mark.value % 2 == 1 {
-        text.extend_from_slice(b"odd")?;
-    } else {
-        text.extend_from_slice(b"even")?;
-    }
-    if mark.wins {
-        text.extend_from_slice(b" wins")?;
-    }
-    Ok(())
+    if value % 2 == 1 { "odd" } else { "even" }
 }
 
-// Appends the class of a value as an attribute.
-fn push_value_class(text: &mut Vec<u8>, mark: Mark) -> Result<(), AllocError>
-    ensures { OnOk result (text.new.items ≡ text.old.items ++ class_text (Class.Value mark)) }
+// Returns the class of a value that wins, after another one, or nothing.
+fn winning(wins: bool) -> &'static str
+    ensures { result.now ≡ winning wins }
 {
-    text.extend_from_slice(b" class='")?;
-    push_mark_class(text, mark)?;
-    text.extend_from_slice(b"'")
+    if wins { " wins" } else { "" }
 }
 
-// Appends the class of a text as an attribute.
-fn push_class(text: &mut Vec<u8>, class: Class) -> Result<(), AllocError>
-    ensures { OnOk result (text.new.items ≡ text.old.items ++ class_text class) }
+// Returns the class of a text as an attribute. The only error is out of memory.
+fn class_text(alloc: Global, class: Class) -> Result<String, AllocError>
+    ensures { IfOk result (λ text. string_bytes text ≡ class_text class) }
 {
     match class {
-        Class::Letter => Ok(()),
-        Class::Value(mark) => push_value_class(text, mark),
-        Class::Word => text.extend_from_slice(b" class='word'"),
-        Class::Note => text.extend_from_slice(b" class='note'"),
+        Class::Letter => String::from_str(alloc, ""),
+        Class::Value(mark) => {
+            let (parity, winning) = (parity(mark.value), winning(mark.wins));
+            format!(in alloc; " class='{parity}{winning}'")
+        }
+        Class::Word => String::from_str(alloc, " class='word'"),
+        Class::Note => String::from_str(alloc, " class='note'"),
     }
 }
 
@@ -89,10 +81,8 @@ fn x_by(class: Class, column: usize, columns: usize) -> Result<usize, AllocError
     ensures { IfOk result (λ x. x ≡ x_by class column columns) }
 {
     match class {
-        Class::Letter => product(6, sum(sum(sum(column, column)?, columns)?, 2)?),
-        Class::Value(_) => product(6, sum(sum(sum(column, column)?, columns)?, 2)?),
-        Class::Word => product(12, sum(column, 1)?),
-        Class::Note => product(12, sum(column, 1)?),
+        Class::Letter | Class::Value(_) => product(6, sum(sum(sum(column, column)?, columns)?, 2)?),
+        Class::Word | Class::Note => product(12, sum(column, 1)?),
     }
 }
 
@@ -100,12 +90,10 @@ fn x_by(class: Class, column: usize, columns: usize) -> Result<usize, AllocError
 fn push_span(out: &mut Vec<u8>, text: &Text) -> Result<(), AllocError>
     ensures { OnOk result (out.new.items ≡ out.old.items ++ span (placed text.now)) }
 {
+    let alloc = *out.allocator();
     let x = x_by(text.class, text.column, text.columns)?;
-    out.extend_from_slice(b"<tspan")?;
-    push_class(out, text.class)?;
-    out.extend_from_slice(b" x='")?;
-    push_number(out, x)?;
-    out.extend_from_slice(b"'>")?;
+    let class = class_text(alloc, text.class)?;
+    out.extend_from_slice(format!(in alloc; "<tspan{class} x='{x}'>")?.as_bytes())?;
     push_escaped(out, &text.bytes)?;
     out.extend_from_slice(b"</tspan>")
 }
@@ -125,9 +113,7 @@ fn push_row(out: &mut Vec<u8>, number: usize, row: &PictureRow) -> Result<(), Al
     ensures { OnOk result (out.new.items ≡ out.old.items ++ row_element number (placed_row row.now).texts) }
 {
     let y = sum(product(24, number)?, 18)?;
-    out.extend_from_slice(b"<text y='")?;
-    push_number(out, y)?;
-    out.extend_from_slice(b"'>")?;
+    out.extend_from_slice(format!(in *out.allocator(); "<text y='{y}'>")?.as_bytes())?;
     push_spans(out, &row.texts)?;
     out.extend_from_slice(b"</text>\n")
 }
@@ -155,20 +141,13 @@ fn texts_end(texts: &[Text]) -> Result<usize, AllocError>
     Ok(most)
 }
 
-// Returns where a row ends, in pixels. The only error is out of memory.
-fn row_end(row: &PictureRow) -> Result<usize, AllocError>
-    ensures { IfOk result (λ end. end ≡ texts_end (placed_row row.now).texts) }
-{
-    texts_end(&row.texts)
-}
-
 // Returns where rows end, in pixels. The only error is out of memory.
 pub(crate) fn rows_end(rows: &[PictureRow]) -> Result<usize, AllocError>
     ensures { IfOk result (λ end. end ≡ rows_end (map placed_row rows.now)) }
 {
     let mut most = 0;
     for row in rows {
-        most = row_end(row)?.max(most);
+        most = texts_end(&row.texts)?.max(most);
     }
     Ok(most)
 }

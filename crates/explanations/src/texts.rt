@@ -1,26 +1,23 @@
 //! The text that explains a word, in either style.
 
-ghost use Rattle.std.specs.Prelude.{◌≡◌, ◌∷◌, ◌++◌, [], IfOk, OnOk, map, codes};
+ghost use Rattle.std.specs.Prelude.{◌≡◌, ◌++◌, IfOk, OnOk, codes, map};
 ghost use Rattle.std.specs.String.{string_bytes};
 ghost use Rattle.hyphenation_segments.specs.Segments.{marked_word};
 ghost use Rattle.explanations.specs.Drawings.{drawn, placed_row};
-ghost use Rattle.explanations.specs.Texts.{Explains, IsDrawn, IsTextOf, drawing_by, drawing_of, lines_of};
-ghost use Rattle.explanations.specs.Texts.{picture_of, picture_rows};
+ghost use Rattle.explanations.specs.Texts.{Explains, IsDrawn, IsTextOf, break_lines, drawing_by, drawing_of, limit_lines};
+ghost use Rattle.explanations.specs.Texts.{picture_rows, place_of, reason_lines, word_lines};
 ghost use Rattle.explanations.specs.Words.{IsDrawingOf, IsExplanation};
-ghost use Rattle.explanations.specs.Private.Facts.{IsKnown, facts_in, rows_in};
-ghost use Rattle.explanations.specs.Svg.{document_of, word_title};
+ghost use Rattle.explanations.specs.Private.Drawing.{IsKnown, facts_in};
+ghost use Rattle.explanations.specs.Svg.{word_title};
 
 use crate::facts::{Explanation, explain};
 use crate::layout::Layout;
 use crate::lines::{
-    name_of, push_bounds_line, push_breaks_line, push_exception, push_minima_line, push_patterns,
-    push_places_line, push_score_fields, push_text_line,
+    name_of, push_bounds, push_exception, push_patterns, push_places, push_scores, push_text_line,
 };
 use crate::numbers::sum;
-use crate::picture::push_picture;
-use crate::placed_rows::{
-    PictureRow, Shown, breaks_row, frame_row, push_pattern_rows, push_row, scores_row,
-};
+use crate::picture::picture_of;
+use crate::placed_rows::{PictureRow, Shown, push_first_rows, push_last_rows};
 use crate::style::Style;
 use crate::svg::{push_rows, push_title, rows_end};
 use crate::svg_document::{Drawing, document};
@@ -33,15 +30,26 @@ use hyphenation_segments::Word;
 use hyphenation_segments::iter::push_marked;
 use std::alloc::{AllocError, Global};
 
-// A word, and what is known of it.
+// A word as written, and what is known of it.
 #[derive(Drop)]
-struct Known<'a, 'd, C, B, O> {
-    facts: &'a Explanation<'d, C, B>,
-    minima: (usize, usize),
-    // The word as written, its breaks, and the word with a hyphen at each of them.
+struct Known<'a, 'd, C, B> {
     word: &'a str,
-    breaks: &'a [O],
-    hyphenated: &'a str,
+    facts: Explanation<'d, C, B>,
+    minima: (usize, usize),
+    // The places of the word's breaks, and the word with a hyphen at each of them.
+    places: Vec<usize>,
+    hyphenated: String,
+}
+
+// Returns the places of breaks. The only error is out of memory.
+fn places_of<O: Break>(alloc: Global, breaks: &[O]) -> Result<Vec<usize>, AllocError>
+    ensures { IfOk result (λ places. places.items ≡ map place_of (map O.meaning breaks.now)) }
+{
+    let mut places = Vec::new(alloc);
+    for b in breaks {
+        places.push(b.place())?;
+    }
+    Ok(places)
 }
 
 // Returns a word with a hyphen at each of its breaks. The only error is out of memory.
@@ -54,93 +62,110 @@ fn hyphenated<O: Break>(alloc: Global, word: &Word<'_, O>) -> Result<String, All
     Ok(text)
 }
 
-// Appends the lines for programs.
-fn push_lines<C: Payload, B: Listing, O: Break>(
-    text: &mut Vec<u8>,
-    known: &Known<'_, '_, C, B, O>,
-) -> Result<(), AllocError>
-    requires { IsKnown O.meaning known.now }
-    ensures { OnOk result (text.new.items ≡ text.old.items
-        ++ lines_of C.change_of (facts_in C.change_of B.meaning O.meaning known.now)) }
+// Returns what is known of a word with known breaks, by a dictionary. The only error is out of memory.
+fn known_of<'a, 'd, C: Payload, B: Listing, O: Break>(
+    alloc: Global,
+    dictionary: &'d Dictionary<C, B>,
+    word: &Word<'a, O>,
+) -> Result<Known<'a, 'd, C, B>, AllocError>
+    ensures { IfOk result (λ known. IsKnown C.change_of B.meaning dictionary.now word.now.text.now
+        (map O.meaning word.now.breaks.items) known) }
 {
-    let facts = known.facts;
+    let facts = explain(alloc, dictionary, word.text)?;
+    let places = places_of(alloc, &word.breaks)?;
+    let hyphenated = hyphenated(alloc, word)?;
+    let minima = dictionary.minima();
+    Ok(Known {
+        word: word.text,
+        facts,
+        minima,
+        places,
+        hyphenated,
+    })
+}
+
+// Appends the lines of a word, its patterns and its scores.
+fn push_word_lines<C: Payload, B: Listing>(
+    text: &mut Vec<u8>,
+    known: &Known<'_, '_, C, B>,
+) -> Result<(), AllocError>
+    ensures { OnOk result (text.new.items
+        ≡ text.old.items ++ word_lines C.change_of (facts_in C.change_of B.meaning known.now)) }
+{
+    let facts = &known.facts;
     push_text_line(text, b"word", known.word.as_bytes())?;
     push_text_line(text, b"folded", facts.folded.as_bytes())?;
     push_patterns(text, facts.framed.as_bytes(), &facts.rows)?;
-    push_score_fields(text, &facts.winners)?;
-    push_minima_line(text, known.minima)?;
-    push_bounds_line(text, facts.bounds)?;
-    push_places_line(text, b"soft-hyphens", &facts.soft_hyphens)?;
+    push_scores(text, &facts.winners)
+}
+
+// Appends the lines of where the minima and soft hyphens allow breaks.
+fn push_limit_lines<C: Payload, B: Listing>(
+    text: &mut Vec<u8>,
+    known: &Known<'_, '_, C, B>,
+) -> Result<(), AllocError>
+    ensures { OnOk result (text.new.items
+        ≡ text.old.items ++ limit_lines (facts_in C.change_of B.meaning known.now)) }
+{
+    let facts = &known.facts;
+    let (left, right) = known.minima;
+    push_places(text, b"minima", &[left, right])?;
+    push_bounds(text, facts.bounds)?;
+    push_places(text, b"soft-hyphens", &facts.soft_hyphens)
+}
+
+// Appends the lines of the fact that decides.
+fn push_reason_lines<C: Payload, B: Listing>(
+    text: &mut Vec<u8>,
+    known: &Known<'_, '_, C, B>,
+) -> Result<(), AllocError>
+    ensures { OnOk result (text.new.items
+        ≡ text.old.items ++ reason_lines (facts_in C.change_of B.meaning known.now)) }
+{
+    let facts = &known.facts;
     push_exception(text, facts.listed)?;
-    push_text_line(text, b"decided-by", name_of(facts.decision).as_bytes())?;
-    push_breaks_line(text, known.breaks)?;
+    push_text_line(text, b"decided-by", name_of(facts.decision).as_bytes())
+}
+
+// Appends the lines of a word's breaks.
+fn push_break_lines<C: Payload, B: Listing>(
+    text: &mut Vec<u8>,
+    known: &Known<'_, '_, C, B>,
+) -> Result<(), AllocError>
+    ensures { OnOk result (text.new.items
+        ≡ text.old.items ++ break_lines (facts_in C.change_of B.meaning known.now)) }
+{
+    push_places(text, b"breaks", &known.places)?;
     push_text_line(text, b"hyphenated", known.hyphenated.as_bytes())
 }
 
-// Appends the rows of the picture, by its columns.
-fn push_all_rows<C: Payload, B: Listing, O: Break>(
+// Returns the rows of the picture. The only error is out of memory.
+fn picture_rows<C: Payload, B: Listing>(
     alloc: Global,
-    placed: &mut Vec<PictureRow>,
-    layout: &Layout,
-    known: &Known<'_, '_, C, B, O>,
-) -> Result<(), AllocError>
-    requires { IsKnown O.meaning known.now }
-    ensures { OnOk result (map placed_row placed.new.items ≡ map placed_row placed.old.items
-        ++ rows_in C.change_of B.meaning O.meaning layout.now known.now) }
+    known: &Known<'_, '_, C, B>,
+) -> Result<Vec<PictureRow>, AllocError>
+    ensures { IfOk result (λ rows. map placed_row rows.items
+        ≡ picture_rows C.change_of (facts_in C.change_of B.meaning known.now)) }
 {
-    let facts = known.facts;
-    let framed = facts.framed.as_bytes();
-    let folded = facts.folded.as_str();
+    let facts = &known.facts;
+    let layout = Layout::new(alloc, &facts.framed, &facts.rows)?;
     let shown = Shown {
-        layout,
-        word: folded,
-        framed,
+        layout: &layout,
+        word: &facts.folded,
+        framed: facts.framed.as_bytes(),
         winners: &facts.winners,
     };
-    let first = frame_row(alloc, layout, framed)?;
-    push_row(placed, first)?;
-    push_pattern_rows(alloc, placed, &shown, &facts.rows)?;
-    let scores = scores_row(alloc, &shown)?;
-    push_row(placed, scores)?;
-    let last = breaks_row(
+    let mut rows = Vec::new(alloc);
+    push_first_rows(alloc, &mut rows, &shown, &facts.rows)?;
+    push_last_rows(
         alloc,
-        layout,
-        known.hyphenated,
+        &mut rows,
+        &shown,
+        &known.hyphenated,
         facts.decision,
         known.minima,
     )?;
-    push_row(placed, last)?;
-    Ok(())
-}
-
-// Returns the rows of the picture. The only error is out of memory.
-fn picture_rows<C: Payload, B: Listing, O: Break>(
-    alloc: Global,
-    known: &Known<'_, '_, C, B, O>,
-) -> Result<Vec<PictureRow>, AllocError>
-    requires { IsKnown O.meaning known.now }
-    ensures { IfOk result (λ rows. map placed_row rows.items
-        ≡ picture_rows C.change_of (facts_in C.change_of B.meaning O.meaning known.now)) }
-{
-    let layout = Layout::new(alloc, &known.facts.framed, &known.facts.rows)?;
-    let mut rows = Vec::new(alloc);
-    push_all_rows(alloc, &mut rows, &layout, known)?;
     Ok(rows)
-}
-
-// Returns the picture for people. The only error is out of memory.
-fn picture<C: Payload, B: Listing, O: Break>(
-    alloc: Global,
-    known: &Known<'_, '_, C, B, O>,
-) -> Result<Vec<u8>, AllocError>
-    requires { IsKnown O.meaning known.now }
-    ensures { IfOk result (λ text. text.items
-        ≡ picture_of C.change_of (facts_in C.change_of B.meaning O.meaning known.now)) }
-{
-    let rows = picture_rows(alloc, known)?;
-    let mut text = Vec::new(alloc);
-    push_picture(&mut text, &rows)?;
-    Ok(text)
 }
 
 // Returns the drawing of rows, below the title of a word. The only error is out of memory.
@@ -165,49 +190,45 @@ fn drawing_by(
 }
 
 // Returns the drawing of a word of which this is known. The only error is out of memory.
-fn known_drawing<C: Payload, B: Listing, O: Break>(
+fn known_drawing<C: Payload, B: Listing>(
     alloc: Global,
-    known: &Known<'_, '_, C, B, O>,
+    known: &Known<'_, '_, C, B>,
 ) -> Result<Drawing, AllocError>
-    requires { IsKnown O.meaning known.now }
     ensures { IfOk result (λ drawing. drawn drawing
-        ≡ drawing_of C.change_of (facts_in C.change_of B.meaning O.meaning known.now)) }
+        ≡ drawing_of C.change_of (facts_in C.change_of B.meaning known.now)) }
 {
     let rows = picture_rows(alloc, known)?;
-    drawing_by(alloc, known.word, known.hyphenated, &rows)
+    let drawing = drawing_by(alloc, known.word, &known.hyphenated, &rows)?;
+    Ok(drawing)
 }
 
-// Returns the document of an explanation's drawing. The only error is out of memory.
-fn document_by<C: Payload, B: Listing, O: Break>(
-    alloc: Global,
-    known: &Known<'_, '_, C, B, O>,
-) -> Result<Vec<u8>, AllocError>
-    requires { IsKnown O.meaning known.now }
-    ensures { IfOk result (λ text. text.items
-        ≡ document_of (drawing_of C.change_of (facts_in C.change_of B.meaning O.meaning known.now) ∷ [])) }
-{
-    let drawing = known_drawing(alloc, known)?;
-    document(alloc, &[drawing])
-}
-
-// Returns the text of an explanation in a style. The only error is out of memory.
-fn styled<C: Payload, B: Listing, O: Break>(
+// Returns the text of what is known in a style. The only error is out of memory.
+fn styled<C: Payload, B: Listing>(
     alloc: Global,
     style: Style,
-    known: &Known<'_, '_, C, B, O>,
+    known: &Known<'_, '_, C, B>,
 ) -> Result<Vec<u8>, AllocError>
-    requires { IsKnown O.meaning known.now }
-    ensures { IfOk result (λ text. IsTextOf style C.change_of
-        (facts_in C.change_of B.meaning O.meaning known.now) text.items) }
+    ensures { IfOk result (λ text. IsTextOf style C.change_of (facts_in C.change_of B.meaning known.now) text.items) }
 {
-    let mut text = Vec::new(alloc);
     match style {
         Style::Lines => {
-            push_lines(&mut text, known)?;
+            let mut text = Vec::new(alloc);
+            push_word_lines(&mut text, known)?;
+            push_limit_lines(&mut text, known)?;
+            push_reason_lines(&mut text, known)?;
+            push_break_lines(&mut text, known)?;
             Ok(text)
         }
-        Style::Picture => picture(alloc, known),
-        Style::Svg => document_by(alloc, known),
+        Style::Picture => {
+            let rows = picture_rows(alloc, known)?;
+            let text = picture_of(alloc, &rows)?;
+            Ok(text)
+        }
+        Style::Svg => {
+            let drawing = known_drawing(alloc, known)?;
+            let text = document(alloc, &[drawing])?;
+            Ok(text)
+        }
     }
 }
 
@@ -221,17 +242,9 @@ fn text_of<C: Payload, B: Listing, O: Break>(
     ensures { IfOk result (λ text. Explains C.change_of B.meaning dictionary.now style word.now.text.now
         (map O.meaning word.now.breaks.items) text.items) }
 {
-    let hyphenated = hyphenated(alloc, word)?;
-    let facts = explain(alloc, dictionary, word.text)?;
-    let minima = dictionary.minima();
-    let known = Known {
-        facts: &facts,
-        minima,
-        word: word.text,
-        breaks: &word.breaks,
-        hyphenated: &hyphenated,
-    };
-    styled(alloc, style, &known)
+    let known = known_of(alloc, dictionary, word)?;
+    let text = styled(alloc, style, &known)?;
+    Ok(text)
 }
 
 // Returns the drawing of a word with known breaks. The only error is out of memory.
@@ -243,17 +256,9 @@ fn drawing_of<C: Payload, B: Listing, O: Break>(
     ensures { IfOk result (λ drawing. IsDrawn C.change_of B.meaning dictionary.now word.now.text.now
         (map O.meaning word.now.breaks.items) (drawn drawing)) }
 {
-    let hyphenated = hyphenated(alloc, word)?;
-    let facts = explain(alloc, dictionary, word.text)?;
-    let minima = dictionary.minima();
-    let known = Known {
-        facts: &facts,
-        minima,
-        word: word.text,
-        breaks: &word.breaks,
-        hyphenated: &hyphenated,
-    };
-    known_drawing(alloc, &known)
+    let known = known_of(alloc, dictionary, word)?;
+    let drawing = known_drawing(alloc, &known)?;
+    Ok(drawing)
 }
 
 /// Returns the text that explains a word as written, by a dictionary. It has the patterns that occur in the word, its

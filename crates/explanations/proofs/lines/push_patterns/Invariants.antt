@@ -1,5 +1,4 @@
-use Rattle.std.proofs.Common.{◌≡◌, ◌++◌, drop, map}
-use Rattle.std.specs.Prelude.{flat_map}
+use Rattle.std.proofs.Common.{◌≡◌, ◌++◌, drop, map, flat_map}
 use Rattle.explanations.specs.Lines.{pattern_line}
 use Rattle.explanations.specs.Rows.{row_of}
 use Rattle.explanations.proofs.lines.push_patterns.Given as goal

@@ -1,5 +1,4 @@
-use Rattle.std.proofs.Common.{◌≡◌, ◌+◌, ◌-◌, ◌<◌, ◌≤◌, length, map}
-use Rattle.std.specs.Prelude.{slice_range}
+use Rattle.std.proofs.Common.{◌≡◌, ◌+◌, ◌-◌, ◌<◌, ◌≤◌, length, map, slice_range}
 use Rattle.hyphenation_trie.specs.Trie.{node_text, entries_of_key}
 use Rattle.explanations.specs.Rows.{row_of}
 use Rattle.explanations.specs.Private.Walking.{AreOccurrencesUpTo}

@@ -1,5 +1,4 @@
-use Rattle.std.proofs.Common.{◌≡◌, ◌++◌, drop, map}
-use Rattle.std.specs.Prelude.{flat_map}
+use Rattle.std.proofs.Common.{◌≡◌, ◌++◌, drop, map, flat_map}
 use Rattle.explanations.specs.Drawings.{placed}
 use Rattle.explanations.specs.Svg.{span}
 use Rattle.explanations.proofs.svg.push_spans.Given as goal

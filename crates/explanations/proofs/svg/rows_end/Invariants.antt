@@ -1,5 +1,4 @@
-use Rattle.std.proofs.Common.{◌≡◌, drop, map}
-use Rattle.std.specs.Prelude.{max}
+use Rattle.std.proofs.Common.{◌≡◌, drop, map, max}
 use Rattle.explanations.specs.Drawings.{placed_row}
 use Rattle.explanations.specs.Svg.{rows_end}
 use Rattle.explanations.proofs.svg.rows_end.Given as goal

@@ -1,5 +1,4 @@
-use Rattle.std.proofs.Common.{◌≡◌, drop, map}
-use Rattle.std.specs.Prelude.{max}
+use Rattle.std.proofs.Common.{◌≡◌, drop, map, max}
 use Rattle.explanations.specs.Drawings.{placed}
 use Rattle.explanations.specs.Svg.{texts_end}
 use Rattle.explanations.proofs.svg.texts_end.Given as goal

@@ -1,5 +1,4 @@
-use Rattle.std.proofs.Common.{◌≡◌, drop, map}
-use Rattle.std.specs.Prelude.{max}
+use Rattle.std.proofs.Common.{◌≡◌, drop, map, max}
 use Rattle.explanations.specs.Drawings.{drawn}
 use Rattle.explanations.specs.Svg.{widest}
 use Rattle.explanations.proofs.svg_document.widest.Given as goal

@@ -1,5 +1,4 @@
-use Rattle.std.proofs.Common.{ℕ, List, subst, sym}
-use Rattle.std.specs.Prelude.{IfOk}
+use Rattle.std.proofs.Common.{ℕ, List, subst, sym, IfOk}
 use Rattle.any_dictionary.specs.declared.AnyDictionary.{AnyDictionary}
 use Rattle.hyphenation_breaks.specs.Break.{Break}
 use Rattle.hyphenation_hyphenator.specs.Fitting.{fitted_breaks_of}

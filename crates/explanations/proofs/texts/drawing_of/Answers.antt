@@ -1,24 +1,9 @@
-use Rattle.std.proofs.Common.{◌∙◌, ap, sym, map}
-use Rattle.std.specs.Prelude.{codes}
-use Rattle.hyphenation_segments.specs.Segments.{marked_word}
-use Rattle.explanations.specs.Drawings.{drawn}
-use Rattle.explanations.proofs.Explaining.{rows_within, framed_is, draws_word}
+use Rattle.explanations.specs.Private.Drawing.{facts_in}
 use Rattle.explanations.proofs.texts.drawing_of.Goals as goal
 
-pub known_drawing-requires : goal.known_drawing-requires
-known_drawing-requires g c =
-    let f = c.in_ok-facts.ensures in
-    record {
-      framed = framed_is g.C.Payload.change_of g.B.Break.meaning c.args.dictionary.now c.args.word.now.text.now c.in_ok-facts.facts
-          (record { decision = f.decision; soft = f.soft_hyphens; folded = f.folded; framed = f.framed; bounds = f.bounds; listed = f.listed; rows = f.rows; winners = f.winners });
-      within = rows_within g.C.Payload.change_of g.B.Break.meaning c.args.dictionary.now c.args.word.now.text.now c.in_ok-facts.facts
-          (record { decision = f.decision; soft = f.soft_hyphens; folded = f.folded; framed = f.framed; bounds = f.bounds; listed = f.listed; rows = f.rows; winners = f.winners });
-      hyphenated = c.deref-2.ensures ∙ c.in_ok-hyphenated.ensures ∙ ap (λ bs. marked_word (codes "-") c.args.word.now.text.now (map g.O.Break.meaning bs)) (sym c.deref.ensures.value);
-    }
-
 pub returns : goal.returns
-returns g c =
-    let f = c.in_ok-facts.ensures in
-    draws_word g.C.Payload.change_of g.B.Break.meaning c.args.dictionary.now c.args.word.now.text.now c.in_ok-facts.facts
-    (record { decision = f.decision; soft = f.soft_hyphens; folded = f.folded; framed = f.framed; bounds = f.bounds; listed = f.listed; rows = f.rows; winners = f.winners })
-    drawn c.minima-minima.result (map g.O.Break.meaning c.args.word.now.breaks.items) (map g.O.Break.meaning c.deref.result.now) c.known_drawing.result c.minima-minima.ensures (ap (map g.O.Break.meaning) c.deref.ensures.value) c.known_drawing.ensures
+returns g c = record {
+  facts = facts_in g.C.Payload.change_of g.B.Break.meaning c.in_ok-known.known;
+  right = c.in_ok-known.ensures;
+  drawing_is = c.in_ok-drawing.ensures;
+}
