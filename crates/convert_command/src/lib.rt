@@ -191,7 +191,7 @@ fn convert_tex<C: Payload, B: Listing>(
 }
 
 // The bytes of the first file.
-fn first_of(bytes: &[Vec<u8>]) -> &[u8]
+fn first_file(bytes: &[Vec<u8>]) -> &[u8]
     ensures { result.now ≡ slice_index_or (map (λ one. one.items) bytes.now) 0 [] }
 {
     match bytes.first() {
@@ -225,7 +225,7 @@ fn convert_files<C: Payload, B: Listing>(
                 request.language,
                 request.left,
                 request.right,
-                first_of(bytes),
+                first_file(bytes),
             )?;
             Ok(converted)
         }

@@ -1,6 +1,6 @@
 -- Words of ASCII, in which each byte is a character.
 use Rattle.std.proofs.Common.{◌≡◌, ◌∙◌, ℕ, zero, suc, ◌+◌, ◌<◌, Bool, true, false, List, [], ◌∷◌, ◌++◌, length, map, refl, sym, ap, subst, arith, inl, inr, nat_lt, add-one, zero-add, get_or}
-use Rattle.std.specs.Prelude.{◌||◌, ◌==◌, filter, slice_index, slice_index_or, Option, None, is_some, option_map}
+use Rattle.std.specs.Prelude.{◌||◌, ◌&&◌, ◌==◌, filter, slice_index, slice_index_or, Option, None, is_some, option_map}
 use Rattle.std.specs.List.{list_all, list_any, range_with_len}
 use Rattle.std.proofs.lemmas.Bool.{cases_lt, and_parts, or_right}
 use Rattle.std.proofs.lemmas.Bool.Decides.{nat_tests}
@@ -52,3 +52,11 @@ ascii_changes word text changes all long none =
     let change : ℕ → Option ChangeAt = λ byte. option_map (change_in_characters text byte) (slice_index_or changes byte None) in
     fill_by_all change changes (length word) None long (λ k l. no_change_at changes k none ∙ ap (option_map (change_in_characters text k)) (sym (no_change_at changes k none)))
     ∙ sym (all_kept change (is_last word) (length word) (λ k l. last word k all l))
+
+-- Each byte of a word is a character of ASCII where all are.
+pub small_all : (word : List ℕ) → ((k : ℕ) → k < length word → get_or word k 0 < 128) → list_all is_small word ≡ true
+small_all [] all = refl
+small_all (x ∷ xs) all =
+    let first : x < 128 = all 0 (omega arith) in
+    let small : is_small x ≡ true = grind (arith, nat_tests, first) in
+    ap (λ b. b && list_all is_small xs) small ∙ small_all xs (λ k l. all (suc k) (omega (arith, l)))

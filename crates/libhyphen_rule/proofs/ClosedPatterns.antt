@@ -1,5 +1,5 @@
 -- Closed patterns give, only by the longest beginnings, the digits that all of them give.
-use Rattle.std.proofs.Common.{◌≡◌, ◌⊎◌, ◌==◌, ℕ, zero, suc, inl, inr, ◌+◌, ◌-◌, ◌<◌, ◌≤◌, max, nat_cmp, nat_eq, Bool, true, false, cond, List, [], ◌∷◌, ◌++◌, length, map, take, drop, get_or, filter, fold, slice_range, Option, None, Some, is_some, refl, sym, ap, subst, ◌∙◌, arith, true≢false}
+use Rattle.std.proofs.Common.{◌≡◌, ◌⊎◌, ◌==◌, ℕ, zero, suc, inl, inr, ◌+◌, ◌-◌, ◌<◌, ◌≤◌, max, nat_cmp, nat_eq, Bool, true, cond, List, [], ◌∷◌, ◌++◌, length, map, take, drop, get_or, filter, fold, slice_range, Option, None, Some, is_some, refl, sym, ap, subst, ◌∙◌, arith, true≢false}
 use Rattle.std.specs.Prelude.{option_and_then, option_map, slice_get}
 use Rattle.std.specs.Cmp.Lexicographic.{slice_cmp, pointwise, nat_list_eq_equiv, same_text, texts_ties}
 use Rattle.std.specs.Ordering.{eq_by_cmp}

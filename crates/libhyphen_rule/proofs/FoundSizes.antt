@@ -232,10 +232,10 @@ last_bytes-length (b ∷ bs) whole =
     ap (λ m. length (filter (is_last word) (range_with_len 0 m))) size ∙ last_more word n (end_last word n (sym size))
     ∙ ends_count word (ap not whole) n (omega arith) ∙ ap (λ m. count_by begins (take m word)) (sym size) ∙ ap (count_by begins) (take-length word)
 
-first_of : (size : ℕ) (text : List ℕ) → continues (get_or text 0 0) ≡ false → continues (get_or (take size text) 0 0) ≡ false
-first_of zero text whole = refl
-first_of (suc size) [] whole = refl
-first_of (suc size) (x ∷ xs) whole = whole
+take_begins : (size : ℕ) (text : List ℕ) → continues (get_or text 0 0) ≡ false → continues (get_or (take size text) 0 0) ≡ false
+take_begins zero text whole = refl
+take_begins (suc size) [] whole = refl
+take_begins (suc size) (x ∷ xs) whole = whole
 
 -- ---- The answer.
 
@@ -249,7 +249,7 @@ answer_by-size rules text size found digits whole long long_changes =
     elim (cases_Bool rules.utf8) [
       | inl utf8 ↦
           let starts : continues (get_or text 0 0) ≡ false = sym (ap (λ b. b && continues (get_or text 0 0)) utf8) ∙ whole in
-          let count : length (last_bytes word) ≡ characters word = last_bytes-length word (first_of size text starts) in
+          let count : length (last_bytes word) ≡ characters word = last_bytes-length word (take_begins size text starts) in
           let sized = sym (ap (λ b. cond b (characters word) (length word)) utf8) in (
             ap (λ b. length (cond {A = Answer} b chars bytes).digits) utf8 ∙ length-map (last_bytes word) _ ∙ count ∙ sized,
             ap (λ b. length (cond {A = Answer} b chars bytes).changes) utf8 ∙ length-map (last_bytes word) _ ∙ count ∙ sized,

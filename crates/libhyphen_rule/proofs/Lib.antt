@@ -24,6 +24,7 @@ pub mod FoundSizes
 pub mod Regions
 pub mod ClosedPatterns
 pub mod UnchangedLanes
+pub mod OddLanes
 pub mod UnchangedDigits
 pub mod PassedVectors
 pub mod UnchangedWords

@@ -7,23 +7,21 @@ use Rattle.std.proofs.lemmas.Bool.{ne_eqb, or_parts}
 use Rattle.std.proofs.lemmas.Bool.Decides.{nat_tests}
 use Rattle.std.proofs.lemmas.List.{get_or-take, length-take-le, take_all}
 use Rattle.libhyphen_files.specs.Bytes.{before_nul}
+use Rattle.hyphenation_breaks.specs.Dictionary.{TextMap}
 use Rattle.libhyphen_files.specs.Files.{Rules}
 use Rattle.libhyphen_files.specs.Ordinary.{IsOrdinary, may_begin_with}
+use Rattle.libhyphen_files.specs.Patterns.{Pattern}
+use Rattle.libhyphen_files.specs.Vectors.{BeginsNoKey}
 use Rattle.libhyphen_rule.specs.Calls.{digits_kept, found_by_call, taken_digit}
 use Rattle.libhyphen_rule.specs.Private.Ordinary.{AllOrdinary, KeepsDigits}
-use Rattle.libhyphen_rule.specs.Private.Unchanged.{HasNoDigits, IsUnchanged}
+use Rattle.libhyphen_rule.specs.Private.Unchanged.{BeginsNone, HasNoDigits, IsUnchanged}
 use Rattle.libhyphen_rule.specs.Words.{digits_beside, is_beside}
 use Rattle.libhyphen_rule.specs.declared.calls.CallMinima.{CallMinima}
 use Rattle.libhyphen_rule.proofs.Absent.{digits_stay, not_beside}
+use Rattle.libhyphen_rule.proofs.OddLanes.{none_of}
 use Rattle.libhyphen_rule.proofs.UnchangedParts.{no_digits}
 
 -- ---- What holds for each byte.
-
-none_of : (p : ℕ → Bool) (xs : List ℕ) → ((k : ℕ) → k < length xs → p (get_or xs k 0) ≡ false) → list_any p xs ≡ false
-none_of p [] none = refl
-none_of p (x ∷ xs) none =
-    let first : p x ≡ false = none 0 (omega arith) in
-    ap (λ b. b || list_any p xs) first ∙ none_of p xs (λ k l. none (suc k) (omega (arith, l)))
 
 all_of : (p : ℕ → Bool) (xs : List ℕ) → ((k : ℕ) → k < length xs → p (get_or xs k 0) ≡ true) → list_all p xs ≡ true
 all_of p [] all = refl
@@ -45,6 +43,16 @@ pub ordinary_word : (rules : Rules) (text : List ℕ) (size : ℕ) → size ≤ 
 ordinary_word rules text size within all = λ k l.
     let below : k < size = omega (arith, l, length-take-le size text within) in
     subst (λ (b : ℕ). IsOrdinary rules b) (sym (get_or-take size text k 0 below)) (all k (omega (arith, below, within)))
+
+-- Where no key begins in a text's frame, none does in that of its first bytes.
+pub none_of_first : (patterns : TextMap (List Pattern)) (text : List ℕ) (size : ℕ) → size ≤ length text → BeginsNone patterns text
+    → BeginsNone patterns (take size text)
+none_of_first patterns text size within none = record {
+  dotted = none.dotted;
+  each = λ k l.
+      let below : k < size = omega (arith, l, length-take-le size text within) in
+      subst (λ (b : ℕ). BeginsNoKey patterns b) (sym (get_or-take size text k 0 below)) (none.each k (omega (arith, below, within)));
+}
 
 -- Such a text has no digits.
 pub ordinary_digits : (rules : Rules) (text : List ℕ) → AllOrdinary rules text → HasNoDigits text

@@ -5,7 +5,7 @@ use Rattle.std.specs.List.{range_with_len, list_any}
 use Rattle.std.proofs.lemmas.Bool.{cases_eq, cases_lt, or_parts}
 use Rattle.std.proofs.lemmas.Bool.Decides.{nat_tests}
 use Rattle.std.specs.Option.{option_or}
-use Rattle.std.proofs.lemmas.List.{drop-map, get_or-append_right, get_or-drop, get_or-set_other, get_or-set_same, get_or-take, get_or_append_left, get_or_default, length-drop, length-replicate, length-set, length-take-le, set-get_or, take-map}
+use Rattle.std.proofs.lemmas.List.{drop-map, get_or-append_right, get_or-drop, get_or-replicate, get_or-set_other, get_or-set_same, get_or-take, get_or_append_left, get_or_default, length-drop, length-replicate, length-set, length-take-le, set-get_or, take-map}
 use Rattle.std.proofs.lemmas.Slice.{drop-put_mid}
 use borrow.Rule.Slice.PartMut.{post_of, put_mid, same_len_mid}
 use Rattle.std.proofs.lemmas.List.FromFn.{fill_by_all}
@@ -16,10 +16,11 @@ use Rattle.libhyphen_rule.specs.Counting.{shown}
 use Rattle.libhyphen_rule.specs.Minima.{changes_but, digits_but, left_goes, right_goes, goes_before, goes_after}
 use Rattle.libhyphen_rule.specs.OneLevel.{ChangeAt, is_odd, level_changes, level_digits}
 use Rattle.libhyphen_rule.specs.Parts.{Asked, Asking, Found, PartMinima, Parting, below_found, change_with, changes_with, digit_with, digits_with, ends_part, found_below, found_in, is_within, part_text, parted_up_to, seen_after, some_change, top_found, with_behind, with_part, without_left_of_part, without_right_of_part, word_found}
-use Rattle.libhyphen_rule.specs.Private.Unchanged.{HasNoDigits, IsUnchanged}
+use Rattle.libhyphen_rule.specs.Private.Unchanged.{BeginsNone, HasNoDigits, IsUnchanged}
 use Rattle.libhyphen_rule.specs.Private.UnchangedParts.{found_unchanged, part_unchanged}
 use Rattle.libhyphen_rule.proofs.PlacesOfParts.{map_range_agree, within_before}
 use Rattle.libhyphen_rule.proofs.WordsFound.{below_alone, below_whole, left_of, put_of, right_of, seen_set, top_of}
+use Rattle.libhyphen_rule.proofs.UnchangedWords.{empty_digits, empty_unchanged}
 use Rattle.libhyphen_rule.proofs.Partings.{append_none, found_whole, parted_asked}
 
 -- ---- Lists without changes.
@@ -291,3 +292,30 @@ word_unchanged_is rules left left' right right' word behind digits digits' of_le
     subst (λ ds. IsUnchanged (word_found rules (record { left = left'; right = right' }) word behind) ds) (sym of_digits)
     (subst (λ r. IsUnchanged (word_found rules (record { left = left'; right = r }) word behind) digits) of_right
     (subst (λ l. IsUnchanged (word_found rules (record { left = l; right = right }) word behind) digits) of_left is))
+
+-- ---- Words in which the level at the top finds nothing.
+
+even_zeros : (n : ℕ) → list_any is_odd (replicate {A = ℕ} n 48) ≡ false
+even_zeros zero = refl
+even_zeros (suc n) = even_zeros n
+
+abbrev zeros : ℕ → List ℕ
+zeros n = replicate n 48
+
+zeros_are : (n byte : ℕ) → byte < length (zeros n) → get_or (zeros n) byte 0 ≡ 48
+zeros_are n byte lt = get_or-replicate n byte 48 0 (omega (arith, length-replicate {A = ℕ} n 48))
+
+-- The digits of a text in which no byte begins a key of the level at the top are those of the level below.
+pub below_alone_unchanged : (rules : Rules) (minima : PartMinima) (depth parts : ℕ) (asked : Asked) (new : List ℕ) (level : Level)
+    → level ≡ rules.top → HasNoDigits asked.text → BeginsNone level.patterns asked.text
+    → found_unchanged new parts ≡ found_below rules minima parts asked (replicate (length asked.text) None)
+    → found_unchanged new parts ≡ found_in rules minima depth parts asked
+unfolding level_digits level_changes
+below_alone_unchanged rules minima depth parts asked new level is plain none below =
+    let top : List ℕ = zeros (length asked.text) in
+    let long : length top ≡ length asked.text = length-replicate {A = ℕ} (length asked.text) 48 in
+    whole_unchanged rules minima depth parts asked top new long
+    (top_unchanged rules parts asked.text top level is long
+    (empty_digits level.patterns asked.text plain none top long (zeros_are (length asked.text)))
+    (empty_unchanged level.patterns asked.text plain none))
+    (even_zeros (length asked.text)) below

@@ -17,7 +17,7 @@ use Rattle.libhyphen_rule.specs.OneLevel.{Made, changes_by, digits_by, digit_at,
 use Rattle.libhyphen_rule.specs.Private.Claims.{made_now}
 use Rattle.libhyphen_rule.specs.Private.Digits.{HasDigits}
 use Rattle.libhyphen_rule.specs.Private.Lanes.{AllPlain, IsFound, IsPassed, IsReadWhole}
-use Rattle.libhyphen_rule.specs.Private.Unchanged.{HasNoDigits}
+use Rattle.libhyphen_rule.specs.Private.Unchanged.{BeginsNone, HasNoDigits}
 use Rattle.libhyphen_rule.specs.declared.unchanged.FramePass.{FramePass}
 use Rattle.libhyphen_rule.proofs.PlacedChanges.{none_made}
 use Rattle.libhyphen_rule.proofs.RaisedDigits.{behind_inner, behind_last, digits_are, length-framed}
@@ -180,10 +180,9 @@ no_digits digits zeros = λ byte below. elim (cases_lt (byte + 1) (length digits
   | inr le ↦ zeros byte below ∙ sym (behind_last (offers []) (length digits) byte le)
 ]
 
-module _ (patterns : TextMap (List Pattern)) (word : List ℕ) (plain : HasNoDigits word) (ends : BeginsNoKey patterns dot)
-    (each : (byte : ℕ) → byte < length word → BeginsNoKey patterns (slice_index word byte)) where
+module _ (patterns : TextMap (List Pattern)) (word : List ℕ) (plain : HasNoDigits word) (none : BeginsNone patterns word) where
   empty : counted_in patterns (framed word) ≡ []
-  empty = none_counted patterns (framed word) (framed_none patterns word plain ends each)
+  empty = none_counted patterns (framed word) (framed_none patterns word plain none.dotted none.each)
 
   pub empty_digits : (digits : List ℕ) → length digits ≡ length word
       → ((byte : ℕ) → byte < length digits → slice_index digits byte ≡ digit_zero) → digits ≡ digits_by patterns word

@@ -1,6 +1,6 @@
 //! The calls of libhyphen.
 
-ghost use Rattle.std.specs.Prelude.{◌≡◌, ◌<◌, ◌≤◌, ◌++◌, ◌∷◌, [], IfOk, IfSome, IsTrue, None, Some, length};
+ghost use Rattle.std.specs.Prelude.{◌≡◌, ◌<◌, ◌≤◌, ◌++◌, ◌∷◌, [], IfOk, IfSome, IsFalse, IsTrue, None, Some, length};
 ghost use Rattle.std.specs.Prelude.{replicate, take, drop, slice_index, false, if◌then◌else◌};
 ghost use Rattle.std.specs.Option.{option_map};
 ghost use Rattle.libhyphen_rule.specs.Found.{placed_all, found_of, answer_view};
@@ -8,8 +8,8 @@ ghost use Rattle.libhyphen_files.specs.Bytes.{before_nul, continues};
 ghost use Rattle.libhyphen_rule.specs.Calls.{answer_of, inner_digit, inner_digits, plain_digits, text_of_call};
 ghost use Rattle.libhyphen_rule.specs.Calls.{found_by_call, changes_in_characters, taken_digit, greater, least_of, at_least_two, plain_answer};
 ghost use Rattle.libhyphen_rule.specs.Parts.{without_left, without_right};
-ghost use Rattle.libhyphen_rule.specs.Private.Ordinary.{AllOrdinary, KeepsDigits};
-ghost use Rattle.libhyphen_rule.specs.Private.Unchanged.{HasNoDigits, IsUnchanged};
+ghost use Rattle.libhyphen_rule.specs.Private.Ordinary.{AllAscii, AllOrdinary, KeepsDigits};
+ghost use Rattle.libhyphen_rule.specs.Private.Unchanged.{BeginsNone, HasNoDigits, IsUnchanged};
 ghost use Rattle.libhyphen_rule.specs.Words.{changes_of_characters, digits_beside, digits_of_characters};
 
 use crate::digits::read_digits;
@@ -258,6 +258,40 @@ fn all_ordinary(dictionary: &LevelDictionary, text: &[u8]) -> bool
     true
 }
 
+// The facts that a look at each byte of a text tells.
+#[derive(Clone, Copy)]
+struct Looked {
+    // Each byte is one of most words.
+    ordinary: bool,
+    // A pattern of the level at the top may count.
+    counts: bool,
+    // Each byte is a character of ASCII.
+    ascii: bool,
+}
+
+// Looks at each byte of a text once.
+#[inline(always)]
+fn look_at(dictionary: &LevelDictionary, text: &[u8]) -> Looked
+    ensures ordinary { IsTrue result.ordinary → AllOrdinary dictionary.now text.now }
+    ensures counts { IsFalse result.counts → BeginsNone dictionary.now.top.patterns text.now }
+    ensures ascii { IsTrue result.ascii → AllAscii text.now }
+{
+    let top = dictionary.top();
+    let mut ordinary = true;
+    let mut counts = top.may_begin(b'.');
+    let mut ascii = true;
+    for byte in text.iter() {
+        ordinary &= dictionary.is_ordinary(*byte);
+        counts |= top.may_begin(*byte);
+        ascii &= *byte < 128;
+    }
+    Looked {
+        ordinary,
+        counts,
+        ascii,
+    }
+}
+
 // Takes the places away beside which a text without breaks begins or ends, in the first bytes of a text, a word.
 fn take_kept(
     dictionary: &LevelDictionary,
@@ -305,16 +339,18 @@ fn kept_digits(
 
 // Finds the digits of both levels in a word without digits, the first bytes of a text, at most 64. Those of places too
 // near to its ends are left out. Returns false, with anything in the list, where a pattern counts that may change
-// letters. The text has no byte 0.
+// letters. The text has no byte 0. `counts` is whether a pattern of the level at the top may count.
 fn put_digits_by_call(
     dictionary: &LevelDictionary,
     minima: Option<CallMinima>,
     text: &[u8],
     size: usize,
+    counts: bool,
     digits: &mut [u8],
 ) -> bool
     requires within { size ≤ length text.now }
     requires word { HasNoDigits (take size text.now) }
+    requires none { IsFalse counts → BeginsNone dictionary.now.top.patterns (take size text.now) }
     requires seen { text.now ≡ before_nul text.now }
     requires short { size ≤ 64 }
     requires digits { length digits.old ≡ size }
@@ -325,7 +361,7 @@ fn put_digits_by_call(
     let least = least_of(dictionary.top().minima(), minima);
     let utf8 = dictionary.is_utf8();
     let (left, right) = (least.compound_left, least.compound_right);
-    if !read_short_word(dictionary, left, right, word, behind, digits) {
+    if !read_short_word(dictionary, left, right, word, behind, counts, digits) {
         return false;
     }
     let (left, right) = (at_least_two(least.left), at_least_two(least.right));
@@ -335,13 +371,15 @@ fn put_digits_by_call(
 }
 
 // Leaves of the digits of a word's bytes those of its characters, at the front of the list. Returns how many there are.
-fn keep_digits(utf8: bool, word: &[u8], digits: &mut [u8]) -> usize
-    requires { length digits.old ≡ length word.now }
+// `ascii` is whether each byte is known to be one.
+fn keep_digits(utf8: bool, ascii: bool, word: &[u8], digits: &mut [u8]) -> usize
+    requires ascii { IsTrue ascii → AllAscii word.now }
+    requires digits { length digits.old ≡ length word.now }
     ensures digits { take result digits.new ≡ (if utf8 then digits_of_characters word.now digits.old else digits.old) }
     ensures count { result ≤ length word.now }
     ensures length { length digits.new ≡ length digits.old }
 {
-    if utf8 && !is_ascii(word) {
+    if utf8 && !ascii {
         keep_last_digits(word, digits)
     } else {
         word.len()
@@ -374,13 +412,14 @@ pub fn short_digits(
     ensures digits { length digits.new ≡ size }
 {
     let utf8 = dictionary.is_utf8();
-    if utf8 && begins_within(text) || !all_ordinary(dictionary, text) {
+    let looked = look_at(dictionary, text);
+    if utf8 && begins_within(text) || !looked.ordinary {
         return None;
     }
-    if !put_digits_by_call(dictionary, minima, text, size, digits) {
+    if !put_digits_by_call(dictionary, minima, text, size, looked.counts, digits) {
         return None;
     }
-    Some(keep_digits(utf8, &text[..size], digits))
+    Some(keep_digits(utf8, looked.ascii, &text[..size], digits))
 }
 
 // Returns the changes of a word's characters. The word is the first bytes of a text. The only error is out of memory.

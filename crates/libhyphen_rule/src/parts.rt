@@ -92,7 +92,7 @@ fn zeros(alloc: Global, count: usize) -> Result<Vec<u8>, AllocError>
 }
 
 // Returns the first bytes of a text. The only error is out of memory.
-fn first_of(alloc: Global, text: &[u8], count: usize) -> Result<Vec<u8>, AllocError>
+fn first_bytes(alloc: Global, text: &[u8], count: usize) -> Result<Vec<u8>, AllocError>
     ensures { IfOk result (λ v. v.items ≡ take count text.now) }
 {
     if count < text.len() {
@@ -145,7 +145,7 @@ fn with_behind(alloc: Global, asked: AskedText<'_>) -> Result<Vec<u8>, AllocErro
 {
     let all = joined(alloc, asked.text, asked.behind)?;
     match nul_at(&all) {
-        Some(end) => first_of(alloc, &all, end),
+        Some(end) => first_bytes(alloc, &all, end),
         None => Ok(all),
     }
 }
@@ -406,7 +406,7 @@ fn texts_at_change(
     let kept = end.saturating_sub(change.pos);
     match find_equals(change.text) {
         Some(equals) => {
-            let front = first_of(alloc, change.text, equals)?;
+            let front = first_bytes(alloc, change.text, equals)?;
             let whole = joined(alloc, &seen[..kept], &front)?;
             let text = rest_of(alloc, &whole, begin)?;
             Ok(PartTexts {
@@ -496,7 +496,7 @@ fn seen_after(
             let all = with_behind(alloc, asked)?;
             let zeros = zeros(alloc, asked.text.len())?;
             let whole = joined(alloc, &all, &zeros)?;
-            first_of(alloc, &whole, asked.text.len())
+            first_bytes(alloc, &whole, asked.text.len())
         }
         None => {
             let mut seen = seen;

@@ -8,18 +8,20 @@
 //!
 //! A vector with a lane above 9 does not tell the node's pattern. The pass goes on then, and its digits are not used.
 
-ghost use Rattle.std.specs.Prelude.{◌≡◌, ℕ, List, ◌+◌, ◌<◌, ◌≤◌, max, None, IsTrue, IsFalse};
-ghost use Rattle.std.specs.Prelude.{length, replicate, slice_index};
-ghost use Rattle.hyphenation_breaks.specs.Ascii.{digit_zero, dot};
+ghost use Rattle.std.specs.Prelude.{◌≡◌, ℕ, List, ◌+◌, ◌%◌, ◌<◌, ◌≤◌, max, None, IfSome, IsTrue, IsFalse, false, true};
+ghost use Rattle.std.specs.Prelude.{drop, length, replicate, slice_index, take};
+ghost use Rattle.std.specs.List.{list_any};
+ghost use Rattle.hyphenation_breaks.specs.Ascii.{digit_zero};
 ghost use Rattle.hyphenation_dictionary.specs.Parts.{patterns_of};
 ghost use Rattle.hyphenation_trie.specs.Steps.{AreSteps};
 ghost use Rattle.hyphenation_trie.specs.Trie.{EachBeginsKey};
-ghost use Rattle.libhyphen_files.specs.Vectors.{AreVectors, BeginsNoKey};
-ghost use Rattle.libhyphen_rule.specs.OneLevel.{changes_by, digits_by, level_changes, level_digits};
+ghost use Rattle.libhyphen_files.specs.Vectors.{AreVectors};
+ghost use Rattle.libhyphen_rule.specs.OneLevel.{changes_by, digits_by, is_odd, level_changes, level_digits};
 ghost use Rattle.libhyphen_rule.specs.Private.Lanes.{AllKnown, AtNode, AtRow, IsReadWhole, PassesByte, TakesVector};
-ghost use Rattle.libhyphen_rule.specs.Private.Unchanged.{HasNoDigits};
+ghost use Rattle.libhyphen_rule.specs.Private.Unchanged.{BeginsNone, HasNoDigits};
 
 use crate::digits::clear;
+use crate::parts::has_break;
 use hyphenation_dictionary::laws::keys_are_looked_up;
 use hyphenation_trie::laws::{keys_have_nodes, longest_goes_on};
 use hyphenation_trie::table::steps::Steps;
@@ -290,12 +292,137 @@ fn read_frame(
     true
 }
 
+// Makes numbers the digits that write them, each modulo 256.
+#[inline(always)]
+fn write_all(list: &mut [u8; 96])
+    ensures { (i : ℕ) → i < 96 → slice_index list.new i ≡ (slice_index list.old i + digit_zero) % 256 }
+{
+    for i in 0..96 {
+        list[i] = list[i].wrapping_add(b'0');
+    }
+}
+
+// Returns how many digits from a place of a list on are even before the first odd one; 16 if all of 16 are even.
+#[inline(always)]
+fn even_before(list: &[u8], at: usize) -> usize
+    requires { at + 16 ≤ length list.now }
+    ensures before { (i : ℕ) → at ≤ i → i < at + result → is_odd (slice_index list.now i) ≡ false }
+    ensures there { result < 16 → is_odd (slice_index list.now (at + result)) ≡ true }
+{
+    let digits = u8x16::from_slice(&list[at..]);
+    let odd = (digits & u8x16::splat(1))
+        .simd_gt(u8x16::splat(0))
+        .to_bitmask();
+    if odd == 0 {
+        return 16;
+    }
+    odd.trailing_zeros() as usize
+}
+
+// Reports whether some of the first digits from place 16 of a list on is odd. There are at most 64 of them.
+#[inline(always)]
+fn has_odd(list: &[u8; 96], count: usize) -> bool
+    requires { count ≤ 64 }
+    ensures { result ≡ list_any is_odd (take count (drop 16 list.now)) }
+{
+    let mut at = 0;
+    while at < count {
+        let even = even_before(list, at + 16);
+        if even < 16 {
+            return at + even < count;
+        }
+        at += 16;
+    }
+    false
+}
+
+// Puts the digits of a short word's places, by the list in which they are counted from 0. The place behind the last byte
+// has none. Returns whether some digit is odd, with anything in the list.
+#[inline(always)]
+fn put_short(list: &mut [u8; 96], digits: &mut [u8]) -> bool
+    requires short { length digits.old ≤ 64 }
+    requires known { (byte : ℕ) → byte + 1 < length digits.old → slice_index list.old (byte + 16) < 10 }
+    ensures inner { (byte : ℕ) → byte + 1 < length digits.old
+        → slice_index digits.new byte ≡ digit_zero + slice_index list.old (byte + 16) }
+    ensures last { (byte : ℕ) → byte + 1 ≡ length digits.old → slice_index digits.new byte ≡ digit_zero }
+    ensures length { length digits.new ≡ length digits.old }
+    ensures odd { result ≡ list_any is_odd digits.new }
+{
+    if digits.is_empty() {
+        return false;
+    }
+    let inner = digits.len() - 1;
+    write_all(list);
+    digits.copy_from_slice(&list[16..inner + 17]);
+    digits[inner] = b'0';
+    has_odd(list, inner)
+}
+
+// Finds the digits of a word's places by some patterns, as `read_frame` does, in a word of at most 64 bytes. Returns
+// whether some digit is odd; `None` where a pattern counts that may change letters.
+//
+// The list is its own. Nothing else leads to it, so the compiler keeps in registers where the tables are.
+#[inline(always)]
+fn read_short_frame(
+    patterns: &Automaton<StoredPattern>,
+    vectors: &NodeVectors,
+    word: &[u8],
+    digits: &mut [u8],
+) -> Option<bool>
+    requires begins { EachBeginsKey patterns.now }
+    requires vectors { AreVectors patterns.now vectors.now }
+    requires word { HasNoDigits word.now }
+    requires short { length word.now ≤ 64 }
+    requires digits { length digits.old ≡ length word.now }
+    ensures digits { IfSome result (λ _. digits.new ≡ digits_by (patterns_of patterns.now) word.now) }
+    ensures changes { IfSome result (λ _.
+        changes_by (patterns_of patterns.now) word.now ≡ replicate (length word.now) None) }
+    ensures odd { IfSome result (λ odd. odd ≡ list_any is_odd digits.new) }
+    ensures digits_length { length digits.new ≡ length digits.old }
+{
+    let mut list = [0u8; 96];
+    let pass = read_whole(patterns, vectors, word, &mut list);
+    if !all_known(pass.seen) {
+        return None;
+    }
+    Some(put_short(&mut list, digits))
+}
+
+// Finds the digits of a word's places by some patterns, in one pass over the word's frame. Returns whether some digit is
+// odd; `None` where a pattern counts that may change letters. The word has no digits.
+#[inline(always)]
+fn read_any_frame(
+    patterns: &Automaton<StoredPattern>,
+    vectors: &NodeVectors,
+    word: &[u8],
+    list: &mut [u8],
+    digits: &mut [u8],
+) -> Option<bool>
+    requires begins { EachBeginsKey patterns.now }
+    requires vectors { AreVectors patterns.now vectors.now }
+    requires word { HasNoDigits word.now }
+    requires list { length word.now + 18 ≤ length list.old }
+    requires digits { length digits.old ≡ length word.now }
+    ensures digits { IfSome result (λ _. digits.new ≡ digits_by (patterns_of patterns.now) word.now) }
+    ensures changes { IfSome result (λ _.
+        changes_by (patterns_of patterns.now) word.now ≡ replicate (length word.now) None) }
+    ensures odd { IfSome result (λ odd. odd ≡ list_any is_odd digits.new) }
+    ensures list_length { length list.new ≡ length list.old }
+    ensures digits_length { length digits.new ≡ length digits.old }
+{
+    if word.len() <= 64 {
+        return read_short_frame(patterns, vectors, word, digits);
+    }
+    if !read_frame(patterns, vectors, word, list, digits) {
+        return None;
+    }
+    Some(has_break(digits))
+}
+
 // Reports whether some byte of a word's frame may begin a key. The word has no digits.
 #[inline(always)]
-fn may_count(level: &FrozenLevel, word: &[u8]) -> bool
-    ensures dot { IsFalse result → BeginsNoKey level.now.patterns dot }
-    ensures each { IsFalse result → (byte : ℕ) → byte < length word.now
-        → BeginsNoKey level.now.patterns (slice_index word.now byte) }
+pub(crate) fn may_count(level: &FrozenLevel, word: &[u8]) -> bool
+    ensures { IsFalse result → BeginsNone level.now.patterns word.now }
 {
     if level.may_begin(b'.') {
         return true;
@@ -309,7 +436,8 @@ fn may_count(level: &FrozenLevel, word: &[u8]) -> bool
 }
 
 // Finds the digits of a word's places by one level: for each byte of the word that of the place behind it. Returns
-// false, and leaves anything in the lists, where a pattern counts that may change letters. The word has no digits.
+// whether some digit is odd; `None`, with anything in the lists, where a pattern counts that may change letters. The word
+// has no digits.
 //
 // The first list is room to work in, 18 bytes longer than the word or more.
 #[inline(always)]
@@ -318,19 +446,20 @@ pub(crate) fn read_unchanged(
     word: &[u8],
     list: &mut [u8],
     digits: &mut [u8],
-) -> bool
+) -> Option<bool>
     requires word { HasNoDigits word.now }
     requires list { length word.now + 18 ≤ length list.old }
     requires digits { length digits.old ≡ length word.now }
-    ensures digits { IsTrue result → digits.new ≡ level_digits level.now word.now }
-    ensures changes { IsTrue result → level_changes level.now word.now ≡ replicate (length word.now) None }
+    ensures digits { IfSome result (λ _. digits.new ≡ level_digits level.now word.now) }
+    ensures changes { IfSome result (λ _. level_changes level.now word.now ≡ replicate (length word.now) None) }
+    ensures odd { IfSome result (λ odd. odd ≡ list_any is_odd digits.new) }
     ensures list_length { length list.new ≡ length list.old }
     ensures digits_length { length digits.new ≡ length digits.old }
 {
     if !may_count(level, word) {
         clear(digits);
-        return true;
+        return Some(false);
     }
     let (patterns, vectors) = level.patterns_with_vectors();
-    read_frame(patterns, vectors, word, list, digits)
+    read_any_frame(patterns, vectors, word, list, digits)
 }

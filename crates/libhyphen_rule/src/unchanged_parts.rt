@@ -6,12 +6,12 @@ ghost use Rattle.std.specs.Char.{is_ascii_digit};
 ghost use Rattle.std.specs.List.{list_any};
 ghost use Rattle.libhyphen_rule.specs.Found.{asked_in, minima_of};
 ghost use Rattle.libhyphen_rule.specs.Parts.{found_in, word_found};
-ghost use Rattle.libhyphen_rule.specs.Private.Unchanged.{HasNoDigits, IsUnchanged};
+ghost use Rattle.libhyphen_rule.specs.Private.Unchanged.{BeginsNone, HasNoDigits, IsUnchanged};
 ghost use Rattle.libhyphen_rule.specs.Private.UnchangedParts.{FindsBelow, IsUnchangedWord, LeavesLeft, LeavesRight, part_unchanged};
 
 use crate::minima::{take_left, take_right};
-use crate::parts::{AskedText, BothLevels, MOST_DEPTH, ends_part, has_break};
-use crate::unchanged::read_unchanged;
+use crate::parts::{AskedText, BothLevels, MOST_DEPTH, ends_part};
+use crate::unchanged::{may_count, read_unchanged};
 use libhyphen_files::LevelDictionary;
 use libhyphen_files::bytes::before_nul;
 use std::alloc::{AllocError, Global};
@@ -78,9 +78,9 @@ fn unchanged_below(
     ensures list_length { length list.new ≡ length list.old }
     ensures digits_length { length digits.new ≡ length digits.old }
 {
-    if !read_unchanged(levels.dictionary.below(), asked.text, list, digits) {
+    let Some(_) = read_unchanged(levels.dictionary.below(), asked.text, list, digits) else {
         return false;
-    }
+    };
     take_left_end(levels, asked, digits);
     take_right_end(levels, asked, digits);
     true
@@ -124,10 +124,8 @@ fn unchanged_in(
     ensures list_length { length list.new ≡ length list.old }
     ensures digits_length { length digits.new ≡ length digits.old }
 {
-    if !read_unchanged(levels.dictionary.top(), asked.text, list, digits) {
-        return None;
-    }
-    if !has_break(digits) {
+    let parted = read_unchanged(levels.dictionary.top(), asked.text, list, digits)?;
+    if !parted {
         if !unchanged_below(levels, asked, list, digits) {
             return None;
         }
@@ -161,17 +159,19 @@ fn unchanged_in(
 }
 
 // Finds the digits of a word that has none itself. Returns false, with anything in the lists, where a pattern counts
-// that may change letters.
+// that may change letters. `counts` is whether a pattern of the level at the top may count.
 //
 // The first list is room to work in.
 fn read_word(
     levels: BothLevels<'_>,
     word: &[u8],
     behind: &[u8],
+    counts: bool,
     list: &mut [u8],
     digits: &mut [u8],
 ) -> bool
     requires word { HasNoDigits word.now }
+    requires none { IsFalse counts → BeginsNone levels.dictionary.now.top.patterns word.now }
     requires list { length word.now + 18 ≤ length list.old }
     requires digits { length digits.old ≡ length word.now }
     ensures found { IsTrue result
@@ -185,6 +185,9 @@ fn read_word(
         at_left: true,
         at_right: true,
     };
+    if !counts {
+        return unchanged_below(levels, asked, list, digits);
+    }
     unchanged_in(levels, MOST_DEPTH, word.len(), asked, list, digits).is_some()
 }
 
@@ -209,29 +212,33 @@ pub(crate) fn word_without_digits(
         left,
         right,
     };
+    let counts = may_count(dictionary.top(), word);
     let mut digits = vec![in alloc; b'0'; word.len()]?;
     let is_found = if word.len() <= 64 {
         let mut list = [0u8; 96];
-        read_word(levels, word, behind, &mut list, &mut digits)
+        read_word(levels, word, behind, counts, &mut list, &mut digits)
     } else {
         let mut list = vec![in alloc; 0u8; word.len() + 18]?;
-        read_word(levels, word, behind, &mut list, &mut digits)
+        read_word(levels, word, behind, counts, &mut list, &mut digits)
     };
     if is_found { Ok(Some(digits)) } else { Ok(None) }
 }
 
 // Finds the digits of a word by both levels, before the minima of the whole word. Returns false, with anything in the
 // list, where a pattern counts that may change letters. The word has at most 64 bytes, and no digits. `behind` is what
-// follows it; `left` and `right` are the least numbers of letters in its parts.
+// follows it; `left` and `right` are the least numbers of letters in its parts. `counts` is whether a pattern of the
+// level at the top may count.
 pub(crate) fn read_short_word(
     dictionary: &LevelDictionary,
     left: i32,
     right: i32,
     word: &[u8],
     behind: &[u8],
+    counts: bool,
     digits: &mut [u8],
 ) -> bool
     requires word { HasNoDigits word.now }
+    requires none { IsFalse counts → BeginsNone dictionary.now.top.patterns word.now }
     requires short { length word.now ≤ 64 }
     requires digits { length digits.old ≡ length word.now }
     ensures found { IsTrue result → IsUnchangedWord dictionary.now left right word.now behind.now digits.new }
@@ -243,5 +250,5 @@ pub(crate) fn read_short_word(
         right,
     };
     let mut list = [0u8; 96];
-    read_word(levels, word, behind, &mut list, digits)
+    read_word(levels, word, behind, counts, &mut list, digits)
 }

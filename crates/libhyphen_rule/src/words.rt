@@ -187,8 +187,9 @@ pub(crate) fn keep_last_digits(word: &[u8], digits: &mut [u8]) -> usize
 {
     let mut count = 0;
     for byte in 0..word.len() {
+        // The next digit takes the place of one that does not count. So no branch depends on the bytes.
+        digits[count] = digits[byte];
         if is_last(word, byte) {
-            digits[count] = digits[byte];
             count += 1;
         }
     }

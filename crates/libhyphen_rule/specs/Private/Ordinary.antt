@@ -10,6 +10,10 @@ use Rattle.libhyphen_rule.specs.declared.calls.CallMinima.{CallMinima}
 abbrev pub AllOrdinary : Rules → List ℕ → Type 0
 AllOrdinary rules text = (byte : ℕ) → byte < length text → IsOrdinary rules (slice_index text byte)
 
+-- Each byte of the text is a character of ASCII.
+abbrev pub AllAscii : List ℕ → Type 0
+AllAscii text = (byte : ℕ) → byte < length text → slice_index text byte < 128
+
 -- These digits are found in a word, in which no change is made, without those beside texts without breaks.
 pub record KeepsDigits (rules : Rules) (given : Option CallMinima) (text : List ℕ) (size : ℕ) (digits : List ℕ) : Type 0 where
   pub first : List ℕ

@@ -1,8 +1,8 @@
 use Rattle.std.proofs.Common.{◌≡◌, ◌∙◌, Bool, sym, ap, arith, cond, length, take, List, ℕ}
 use Rattle.std.proofs.lemmas.List.{take_all}
 use Rattle.libhyphen_rule.specs.Words.{digits_of_characters}
-use Rattle.libhyphen_rule.proofs.Ascii.{ascii_digits}
-use Rattle.libhyphen_rule.proofs.calls.keep_digits.Goals.{else-utf8-via-then-utf8+else-not-is_ascii, else-utf8-via-else-utf8}
+use Rattle.libhyphen_rule.proofs.Ascii.{ascii_digits, small_all}
+use Rattle.libhyphen_rule.proofs.calls.keep_digits.Goals.{else-utf8-via-then-utf8+else-not-ascii, else-utf8-via-else-utf8}
 use Rattle.libhyphen_rule.proofs.calls.keep_digits.Goals as goal
 
 pub returns-else-utf8-clause-digits : goal.returns-else-utf8-clause-digits
@@ -10,9 +10,9 @@ returns-else-utf8-clause-digits c =
     let word = c.args.word.now in
     let digits : List ℕ = c.args.digits.now in
     let told : Bool → List ℕ = λ utf8. cond utf8 (digits_of_characters word digits) digits in
-    let all : take (length word) digits ≡ digits = take_all (length word) digits (omega (arith, c.requires)) in
+    let all : take (length word) digits ≡ digits = take_all (length word) digits (omega (arith, c.requires.digits)) in
     elim c.else-utf8.branch [
-      | else-utf8-via-then-utf8+else-not-is_ascii w ↦
-          all ∙ ascii_digits word digits (sym w.is_ascii.ensures ∙ w.if-not-is_ascii.false) c.requires ∙ sym (ap told w.if-utf8.true)
+      | else-utf8-via-then-utf8+else-not-ascii w ↦
+          all ∙ ascii_digits word digits (small_all word (c.requires.ascii w.if-not-ascii.false)) c.requires.digits ∙ sym (ap told w.if-utf8.true)
       | else-utf8-via-else-utf8 w ↦ all ∙ sym (ap told w.if-utf8.false)
     ]

@@ -4,7 +4,7 @@ use Rattle.libhyphen_files.specs.Bytes.{before_nul}
 use Rattle.libhyphen_rule.specs.Calls.{found_by_call, least_of, at_least_two, part_minima}
 use Rattle.libhyphen_rule.specs.Minima.{digits_but, left_goes, right_goes}
 use Rattle.libhyphen_rule.specs.Parts.{Found, PartMinima, word_found}
-use Rattle.libhyphen_rule.specs.Private.Unchanged.{HasNoDigits, IsUnchanged}
+use Rattle.libhyphen_rule.specs.Private.Unchanged.{BeginsNone, HasNoDigits, IsUnchanged}
 use Rattle.libhyphen_rule.proofs.UnchangedCalls.{unchanged_left, unchanged_right}
 use Rattle.libhyphen_rule.proofs.calls.put_digits_by_call.Goals as goal
 
@@ -12,6 +12,11 @@ pub read_short_word-requires-clause-word : goal.read_short_word-requires-clause-
 read_short_word-requires-clause-word c =
     let word : c.split_at.result.0.now ≡ take c.args.size c.args.text.now = search rules in
     subst (λ (xs : List ℕ). HasNoDigits xs) (sym word) c.requires.word
+
+pub read_short_word-requires-clause-none : goal.read_short_word-requires-clause-none
+read_short_word-requires-clause-none c not =
+    let word : c.split_at.result.0.now ≡ take c.args.size c.args.text.now = search rules in
+    subst (λ (xs : List ℕ). BeginsNone c.args.dictionary.now.top.patterns xs) (sym word) (c.requires.none not)
 
 pub returns-clause-found : goal.returns-clause-found
 unfolding found_by_call

@@ -16,11 +16,11 @@ returns-in_ok-whole-in-Some-clause-seen c =
     let whole = c.in_ok-whole-in-Some.whole.items in
     let whole_is : whole ≡ all ++ zeros =
     c.in_ok-whole-in-Some.ensures ∙ ap (λ xs. xs ++ c.deref-in-Some.result.now) c.deref.ensures.value ∙ ap (λ xs. all ++ xs) c.deref-in-Some.ensures.value in
-    ok_same c.first_of.result (λ v. v.items) _ _
+    ok_same c.first_bytes.result (λ v. v.items) _ _
     (ap (take (length asked.text)) c.deref-in-Some-2.ensures.value
     ∙ seen_changed asked seen c.args.end (placed c.in-Some.field-0) all zeros whole c.in_ok-all-in-Some.ensures c.in_ok-zeros-in-Some.ensures whole_is
     ∙ sym (ap (λ o. seen_after asked seen c.args.end (option_map placed o)) c.in-Some.is))
-    c.first_of.ensures
+    c.first_bytes.ensures
 
 pub returns-in-None-clause-seen : goal.returns-in-None-clause-seen
 returns-in-None-clause-seen c =

@@ -1,4 +1,4 @@
-use Rattle.std.proofs.Common.{◌≡◌, ◌+◌, length, refl, ap, ◌∙◌, arith, []}
+use Rattle.std.proofs.Common.{refl, ◌∙◌, arith, []}
 use Rattle.std.proofs.lemmas.List.{get_or-replicate}
 use Rattle.libhyphen_rule.specs.Counting.{framed}
 use Rattle.libhyphen_rule.specs.Private.Lanes.{AtRow}

@@ -19,15 +19,15 @@ below_is t c =
     whole_unchanged c.args.levels.dictionary.now (minima_of c.args.levels) c.args.depth c.args.parts (asked_in c.args.asked) c.read_unchanged.new.digits c.unchanged_below.new.digits
     long
     (top_unchanged c.args.levels.dictionary.now c.args.parts c.args.asked.text.now c.read_unchanged.new.digits c.top.result.now c.top.ensures long
-    (c.if-not-read_unchanged.ensures.digits (search rules)) (c.if-not-read_unchanged.ensures.changes (search rules)))
+    c.in_ok-parted.ensures.digits c.in_ok-parted.ensures.changes)
     (search rules)
     (c.if-not-unchanged_below.ensures.found (search rules) c.args.parts)
 
-pub returns-then-not-has_break-clause-found : goal.returns-then-not-has_break-clause-found
-returns-then-not-has_break-clause-found t c = is_unchanged _ c.unchanged_below.new.digits c.args.parts (below_is t c)
+pub returns-then-not-parted-clause-found : goal.returns-then-not-parted-clause-found
+returns-then-not-parted-clause-found t c = is_unchanged _ c.unchanged_below.new.digits c.args.parts (below_is t c)
 
-pub returns-then-not-has_break-clause-parts : goal.returns-then-not-has_break-clause-parts
-returns-then-not-has_break-clause-parts t c = has_parts _ c.unchanged_below.new.digits c.args.parts (below_is t c)
+pub returns-then-not-parted-clause-parts : goal.returns-then-not-parted-clause-parts
+returns-then-not-parted-clause-parts t c = has_parts _ c.unchanged_below.new.digits c.args.parts (below_is t c)
 
 pub loop-byte-init : goal.loop-byte-init
 loop-byte-init t c = record {
@@ -151,7 +151,7 @@ found_is t c =
     let end : c.loop-byte.byte ≡ length asked.text = omega arith in
     found_parted rules_are minima c.args.depth c.args.parts asked top (found_unchanged c.loop-byte.digits c.loop-byte.left) c.loop-byte.begin asked.text
     (top_unchanged rules_are c.args.parts asked.text c.read_unchanged.new.digits c.top.result.now c.top.ensures (c.read_unchanged.ensures.digits_length ∙ c.requires.digits)
-    (c.if-not-read_unchanged.ensures.digits (search rules)) (c.if-not-read_unchanged.ensures.changes (search rules)))
+    c.in_ok-parted.ensures.digits c.in_ok-parted.ensures.changes)
     odd
     (ap (parted_up_to (ask_at rules_are minima c.args.depth) asked top) (sym end) ∙ c.loop-byte.invariant.parted)
 

@@ -1,4 +1,4 @@
-use Rattle.std.proofs.Common.{◌≡◌, ◌∙◌, ◌+◌, ◌<◌, ℕ, List, ap, arith, map, length, refl, sym, take, [], ◌∷◌, ◌++◌}
+use Rattle.std.proofs.Common.{◌≡◌, ◌∙◌, ◌+◌, ◌<◌, ◌≤◌, ℕ, zero, suc, List, ap, arith, map, length, refl, set, sym, take, [], ◌∷◌, ◌++◌}
 use Rattle.std.specs.Prelude.{filter, slice_index}
 use Rattle.std.specs.List.{range_with_len}
 use Rattle.std.proofs.lemmas.Grind.{take-set_at}
@@ -8,36 +8,45 @@ use Rattle.libhyphen_rule.proofs.WordSteps.{kept_more, left_more}
 use Rattle.libhyphen_rule.proofs.words.keep_last_digits.Goals as goal
 use Rattle.libhyphen_rule.proofs.words.keep_last_digits.Goals.{then-is_last, else-is_last}
 
+-- The first numbers of a list stay where one behind them is set.
+take_before_set : (xs : List ℕ) (k v : ℕ) → take k (set xs k v) ≡ take k xs
+take_before_set [] k v = refl
+take_before_set (x ∷ xs) zero v = refl
+take_before_set (x ∷ xs) (suc k) v = ap (λ (ys : List ℕ). x ∷ ys) (take_before_set xs k v)
+
 pub loop-byte-preserved : goal.loop-byte-preserved
 loop-byte-preserved c =
     let n : ℕ = c.loop-byte.byte in
     let count : ℕ = c.loop-byte.count in
     let digits : List ℕ = c.loop-byte.digits in
-    let new : List ℕ = c.if-is_last.digits in
+    let here : ℕ = slice_index digits n in
     let last = is_last c.args.word.now in
     let digit = λ (byte : ℕ). slice_index c.args.digits.now byte in
     let inv = c.loop-byte.invariant in
     let within : count < length digits = omega (arith, inv.count, inv.length, c.requires, c.loop-byte-test.true) in
+    let later : (byte : ℕ) → n + 1 ≤ byte → slice_index (set digits count here) byte ≡ slice_index c.args.digits.now byte =
+    λ byte le.
+    get_or-set_other digits count byte here 0 (λ e. absurd (omega (arith, e, le, inv.count)))
+    ∙ inv.later byte (omega (arith, le)) in
+    let long : length (set digits count here) ≡ length c.args.digits.now = length-set digits count here ∙ inv.length in
     elim c.if-is_last.branch [
       | then-is_last w ↦ record {
-        length = ap length w.digits-is ∙ length-set digits count (slice_index digits n) ∙ inv.length;
+        length = long;
         count = omega (arith, w.count-is, inv.count);
-        kept = ap (λ (k : ℕ). take k new) w.count-is ∙ ap (take (count + 1)) w.digits-is
-            ∙ take-set_at digits count (count + 1) (slice_index digits n) refl within
+        kept = ap (λ (k : ℕ). take k (set digits count here)) w.count-is
+            ∙ take-set_at digits count (count + 1) here refl within
             ∙ ap (λ (v : ℕ). take count digits ++ v ∷ []) (inv.later n (omega arith))
             ∙ ap (λ (xs : List ℕ). xs ++ digit n ∷ []) inv.kept
             ∙ sym (kept_more digit last n (sym c.is_last.ensures ∙ w.if-is_last.true));
-        later = λ byte le.
-            ap (λ (xs : List ℕ). slice_index xs byte) w.digits-is
-            ∙ get_or-set_other digits count byte (slice_index digits n) 0 (λ e. absurd (omega (arith, e, le, inv.count)))
-            ∙ inv.later byte (omega (arith, le));
+        later = later;
       }
       | else-is_last w ↦ record {
-        length = ap length w.digits-is ∙ inv.length;
+        length = long;
         count = omega (arith, w.count-is, inv.count);
-        kept = ap (λ (k : ℕ). take k new) w.count-is ∙ ap (take count) w.digits-is ∙ inv.kept
+        kept = ap (λ (k : ℕ). take k (set digits count here)) w.count-is
+            ∙ take_before_set digits count here ∙ inv.kept
             ∙ sym (left_more digit last n (sym c.is_last.ensures ∙ w.if-is_last.false));
-        later = λ byte le. ap (λ (xs : List ℕ). slice_index xs byte) w.digits-is ∙ inv.later byte (omega (arith, le));
+        later = later;
       }
     ]
 

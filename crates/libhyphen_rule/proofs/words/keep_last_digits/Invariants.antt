@@ -1,4 +1,4 @@
-use Rattle.std.proofs.Common.{◌≡◌, ◌≤◌, ◌<◌, ℕ, length, map, take}
+use Rattle.std.proofs.Common.{◌≡◌, ◌≤◌, ℕ, length, map, take}
 use Rattle.std.specs.Prelude.{filter, slice_index}
 use Rattle.std.specs.List.{range_with_len}
 use Rattle.libhyphen_rule.specs.Words.{is_last}
