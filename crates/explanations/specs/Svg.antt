@@ -5,7 +5,7 @@ use Rattle.explanations.specs.Placed.{Placed, PlacedRow}
 use Rattle.explanations.specs.declared.marks.Mark.{Mark}
 use Rattle.explanations.specs.declared.placed.Class.{Class}
 use Rattle.explanations.specs.declared.placed.Class.TheVariants.{Letter, Value, Word, Note}
-use Rattle.explanations.specs.declared.svg_document.TheConstants.{OPEN, HEAD, STYLE, BODY}
+use Rattle.explanations.specs.declared.svg_document.TheConstants.{STYLE}
 
 -- U+FFFD, which replaces a character that XML forbids and for the other control characters below U+0020.
 abbrev pub replacement : List ℕ
@@ -111,19 +111,20 @@ groups above (drawing ∷ drawings) = group above drawing.svg ++ groups (above +
 
 -- The beginning of a document, up to its size.
 unfoldable pub document_open : List ℕ
-document_open = OPEN.now
+document_open = codes "<svg xmlns='http://www.w3.org/2000/svg' viewBox='0 0 "
 
--- The title of a document, after its size.
+-- The title of a document, after its size and up to its style sheet.
 unfoldable pub document_title : List ℕ
-document_title = HEAD.now
+document_title =
+    codes "' role='img' xml:space='preserve'><title>Why words break where they do</title><style>"
 
--- The style sheet of a document.
+-- The style sheet of a document. It is that of the code, of which a law says that it ends no element.
 unfoldable pub style_sheet : List ℕ
 style_sheet = STYLE.now
 
--- The background of a document.
+-- The background of a document, after its style sheet.
 unfoldable pub background : List ℕ
-background = BODY.now
+background = codes "</style><rect width='100%' height='100%' fill='#fff'/>\n"
 
 -- The title, the style sheet and the background of a document, after its size.
 unfoldable pub document_style : List ℕ
@@ -133,6 +134,6 @@ document_style = document_title ++ (style_sheet ++ background)
 abbrev pub document_begin : ℕ → ℕ → List ℕ
 document_begin width height = document_open ++ (decimal width ++ (codes " " ++ (decimal height ++ document_style)))
 
--- The document of drawings. Its size is that of all of them, and its constant texts are those of the code.
+-- The document of drawings. Its size is that of all of them.
 abbrev pub document_of : List Drawn → List ℕ
 document_of drawings = document_begin (widest drawings) (24 * all_rows drawings) ++ (groups 0 drawings ++ codes "</svg>\n")

@@ -8,22 +8,12 @@ ghost use Rattle.explanations.specs.Svg.{document_style, document_title, group, 
 use crate::numbers::{product, push_number, sum};
 use std::alloc::{AllocError, Global};
 
-/// The beginning of a document, up to its size.
-pub const OPEN: &str = "<svg xmlns='http://www.w3.org/2000/svg' viewBox='0 0 ";
-
-/// The title of a document, after its size and up to its style sheet.
-pub const HEAD: &str =
-    "' role='img' xml:space='preserve'><title>Why words break where they do</title><style>";
-
 /// The style sheet of a document.
 pub const STYLE: &str = "\
 text{font-family:monospace;font-size:18px;fill:#1d2433;text-anchor:middle}\
 .odd,.even{font-size:13px}.odd{fill:#c8102e;font-weight:bold}.even{fill:#6b7a90}\
 .wins{text-decoration:underline}.word,.note{text-anchor:start}.word{font-weight:bold}\
 .note{font-size:14px;fill:#5a6475}";
-
-/// The background of a document, after its style sheet.
-pub const BODY: &str = "</style><rect width='100%' height='100%' fill='#fff'/>\n";
 
 /// The drawing of a word in SVG.
 ///
@@ -91,7 +81,7 @@ fn push_groups(text: &mut Vec<u8>, drawings: &[Drawing]) -> Result<(), AllocErro
 fn push_document_open(text: &mut Vec<u8>) -> Result<(), AllocError>
     ensures { OnOk result (text.new.items ≡ text.old.items ++ document_open) }
 {
-    text.extend_from_slice(OPEN.as_bytes())
+    text.extend_from_slice(b"<svg xmlns='http://www.w3.org/2000/svg' viewBox='0 0 ")
 }
 
 // Appends the title of a document, after its size.
@@ -99,7 +89,9 @@ fn push_document_open(text: &mut Vec<u8>) -> Result<(), AllocError>
 fn push_document_title(text: &mut Vec<u8>) -> Result<(), AllocError>
     ensures { OnOk result (text.new.items ≡ text.old.items ++ document_title) }
 {
-    text.extend_from_slice(HEAD.as_bytes())
+    text.extend_from_slice(
+        b"' role='img' xml:space='preserve'><title>Why words break where they do</title><style>",
+    )
 }
 
 // Appends the style sheet of a document.
@@ -115,7 +107,7 @@ fn push_style_sheet(text: &mut Vec<u8>) -> Result<(), AllocError>
 fn push_background(text: &mut Vec<u8>) -> Result<(), AllocError>
     ensures { OnOk result (text.new.items ≡ text.old.items ++ background) }
 {
-    text.extend_from_slice(BODY.as_bytes())
+    text.extend_from_slice(b"</style><rect width='100%' height='100%' fill='#fff'/>\n")
 }
 
 // Appends the title, the style sheet and the background of a document, after its size.
