@@ -1,7 +1,7 @@
 -- Rows of a table, and their cells.
-use Rattle.std.proofs.Common.{◌≡◌, ◌≢◌, ℕ, zero, suc, ◌+◌, ◌-◌, ◌*◌, ◌%◌, ◌^◌, ◌<◌, ◌≤◌, Bool, true, false, cond, List, [], ◌∷◌, ◌++◌, length, take, drop, set, get_or, slice_index, sym, ap, subst, ◌∙◌, arith, ◌⊎◌, inl, inr}
+use Rattle.std.proofs.Common.{◌≡◌, ◌≢◌, ℕ, zero, suc, ◌+◌, ◌-◌, ◌*◌, ◌%◌, ◌^◌, ◌<◌, ◌≤◌, Bool, true, false, cond, List, [], ◌∷◌, ◌++◌, length, take, drop, set, get_or, slice_index, sym, ap, subst, refl, ◌∙◌, arith, ◌⊎◌, inl, inr}
 use Rattle.std.specs.Prelude.{slice_index_or, replicate}
-use Rattle.std.proofs.lemmas.Bool.{cases_lt, cases_eq, eq-eqb, ne_eqb}
+use Rattle.std.proofs.lemmas.Bool.{cases_Bool, cases_lt, cases_eq, eq-eqb, ne_eqb}
 use Rattle.std.proofs.lemmas.List.{length-append, length-set, get_or-set_same, get_or-set_other, get_or_append_left, get_or_default, get_or_push}
 use Rattle.std.proofs.Math.Nat.{mul-le-mul_right, suc-mul}
 use Rattle.std.proofs.lemmas.Nat.{pow_pos, pow-add, mod_low, shr_high}
@@ -15,7 +15,7 @@ use Rattle.hyphenation_trie.specs.Private.Links.{HasNoChild}
 use Rattle.hyphenation_trie.specs.Private.States.{LinkedTree, links_of, IsLinked}
 use Rattle.hyphenation_trie.specs.declared.frozen.Links.{Links}
 use Rattle.hyphenation_trie.specs.declared.table.split.Split.{Split}
-use Rattle.hyphenation_trie.specs.Private.TableRows.{AreInner, HasRowOf, AreRowNodes, AreRowsOf, cell_of, free_cell, AreLinked, link_row, filled, AreFilled}
+use Rattle.hyphenation_trie.specs.Private.TableRows.{AreInner, HasRowOf, AreOwnRows, AreRowNodes, AreRowsOf, cell_of, free_cell, AreLinked, link_row, filled, AreFilled}
 use Rattle.hyphenation_trie.proofs.ChainsGrow.{zero_read}
 use Rattle.hyphenation_trie.proofs.LinksMade.{link_less}
 use Rattle.hyphenation_trie.proofs.Suffixes.{depth_pos, parent, Ends-refl, Ends-nil, Ends-same, Ends-rest, Ends-both, Ends-trans, Ends-whole, Ends-push}
@@ -87,40 +87,137 @@ own_row tree trie nodes of p plt child has =
     let same : length (node_text tree m) ≡ length text = omega (arith, most, has.inner.ends.0) in
     trie.distinct m p has.inner.within plt (Ends-same text text (node_text tree m) (Ends-refl text) has.inner.ends same)
 
--- the nodes before a bound in the order have their rows
+-- the marked nodes before a bound have their own rows
+pub record OwnBelow (marks : List Bool) (nodes of : List ℕ) (bound : ℕ) : Type 0 where
+  pub rows_of : length of ≡ length marks
+  pub has_root : 0 < length nodes
+  pub root : slice_index nodes 0 ≡ 0
+  pub within : (r : ℕ) → r < length nodes → slice_index nodes r < length marks
+  pub before : (r : ℕ) → r < length nodes → slice_index nodes r < bound
+  pub marked : (r : ℕ) → 0 < r → r < length nodes → (0 < slice_index nodes r) × (slice_index_or marks (slice_index nodes r) false ≡ true)
+  pub own : (r : ℕ) → r < length nodes → slice_index of (slice_index nodes r) ≡ r
+  pub each : (j : ℕ) → 0 < j → j < bound → slice_index_or marks j false ≡ true → (slice_index of j < length nodes) × (slice_index nodes (slice_index of j) ≡ j)
+
+-- at first only the root has a row
+pub own_start : (marks : List Bool) (nodes of : List ℕ) → 0 < length marks → nodes ≡ 0 ∷ [] → of ≡ replicate (length marks) 0 → length of ≡ length marks → OwnBelow marks nodes of 1
+own_start marks nodes of some first zeros len =
+    let one : length nodes ≡ 1 = ap length first in
+    let root : slice_index nodes 0 ≡ 0 = ap (λ (xs : List ℕ). slice_index xs 0) first in
+    let only : (r : ℕ) → r < length nodes → slice_index nodes r ≡ 0 = λ r lt. let is : r ≡ 0 = omega arith in ap (λ (k : ℕ). slice_index nodes k) is ∙ root in
+    record {
+      rows_of = len;
+      has_root = omega arith;
+      root = root;
+      within = λ r lt. omega (arith, only r lt, some);
+      before = λ r lt. omega (arith, only r lt);
+      marked = λ r pos lt. absurd (omega arith);
+      own = λ r lt. let is : r ≡ 0 = omega arith in ap (λ (xs : List ℕ). slice_index xs (slice_index nodes r)) zeros ∙ zero_read (length marks) (slice_index nodes r) ∙ sym is;
+      each = λ j pos low mark. absurd (omega arith);
+    }
+
+-- a marked node gets its row
+pub own_more : (marks : List Bool) (nodes of : List ℕ) (node : ℕ) → 0 < node → node < length marks → slice_index_or marks node false ≡ true → OwnBelow marks nodes of node → OwnBelow marks (nodes ++ node ∷ []) (set of node (length nodes)) (node + 1)
+own_more marks nodes of node some lt mark was =
+    let n : ℕ = length nodes in
+    let new : List ℕ = set of node n in
+    let more : List ℕ = nodes ++ node ∷ [] in
+    let count : length more ≡ n + 1 = length-append nodes (node ∷ []) in
+    let other : (j : ℕ) → j ≢ node → slice_index new j ≡ slice_index of j = λ j apart. get_or-set_other of node j n 0 apart in
+    let mine : slice_index new node ≡ n = get_or-set_same of node n 0 (omega (arith, lt, was.rows_of)) in
+    let old_at : (r : ℕ) → r < n → slice_index more r ≡ slice_index nodes r = λ r low. get_or_append_left nodes (node ∷ []) 0 r low in
+    let new_at : (r : ℕ) → r ≡ n → slice_index more r ≡ node = λ r is. get_or_push nodes node 0 r (sym is) in
+    let split : (P : ℕ → Type 0) → ((r : ℕ) → r < n → P (slice_index nodes r)) → P node → (r : ℕ) → r < length more → P (slice_index more r) = λ P olds one r low. elim (cases_lt r n) [
+      | inl before ↦ subst P (sym (old_at r before)) (olds r before)
+      | inr end ↦ subst P (sym (new_at r (omega (arith, count)))) one
+    ] in
+    record {
+      rows_of = length-set of node n ∙ was.rows_of;
+      has_root = omega (arith, count);
+      root = old_at 0 was.has_root ∙ was.root;
+      within = split (λ i. i < length marks) was.within lt;
+      before = split (λ i. i < node + 1) (λ r low. omega (arith, was.before r low)) (omega arith);
+      marked = λ r pos low. elim (cases_lt r n) [
+        | inl before ↦
+            let old = was.marked r pos before in
+            (omega (arith, old_at r before, old.0), ap (λ (i : ℕ). slice_index_or marks i false) (old_at r before) ∙ old.1)
+        | inr end ↦
+            let there = new_at r (omega (arith, count)) in
+            (omega (arith, there, some), ap (λ (i : ℕ). slice_index_or marks i false) there ∙ mark)
+      ];
+      own = λ r low. elim (cases_lt r n) [
+        | inl before ↦ ap (λ (i : ℕ). slice_index new i) (old_at r before) ∙ other (slice_index nodes r) (λ e. absurd (omega (arith, was.before r before, e))) ∙ was.own r before
+        | inr end ↦
+            let is : r ≡ n = omega (arith, count) in
+            ap (λ (i : ℕ). slice_index new i) (new_at r is) ∙ mine ∙ sym is
+      ];
+      each = λ j pos low is_marked. elim (cases_eq j node) [
+        | inl same ↦
+            let row : slice_index new j ≡ n = ap (λ (i : ℕ). slice_index new i) same ∙ mine in
+            (omega (arith, row, count), ap (λ (i : ℕ). slice_index more i) row ∙ new_at n refl ∙ sym same)
+        | inr apart ↦
+            let old = was.each j pos (omega arith) is_marked in
+            (omega (arith, other j apart, old.0, count), ap (λ (i : ℕ). slice_index more i) (other j apart) ∙ old_at (slice_index of j) old.0 ∙ old.1)
+      ];
+    }
+
+-- another node gets none
+pub own_less : (marks : List Bool) (nodes of : List ℕ) (node : ℕ) → slice_index_or marks node false ≡ false → OwnBelow marks nodes of node → OwnBelow marks nodes of (node + 1)
+own_less marks nodes of node none was = record {
+  rows_of = was.rows_of;
+  has_root = was.has_root;
+  root = was.root;
+  within = was.within;
+  before = λ r low. omega (arith, was.before r low);
+  marked = was.marked;
+  own = was.own;
+  each = λ j pos low is_marked. elim (cases_eq j node) [
+    | inl same ↦ let bad : true ≡ false = sym is_marked ∙ ap (λ (i : ℕ). slice_index_or marks i false) same ∙ none in absurd cc
+    | inr apart ↦ was.each j pos (omega arith) is_marked
+  ];
+}
+
+pub own_all : (marks : List Bool) (nodes of : List ℕ) (bound : ℕ) → length marks ≤ bound → OwnBelow marks nodes of bound → AreOwnRows marks nodes of
+own_all marks nodes of bound le was = record {
+  rows_of = was.rows_of;
+  has_root = was.has_root;
+  root = was.root;
+  within = was.within;
+  marked = was.marked;
+  own = was.own;
+  each = λ j pos low. was.each j pos (omega arith);
+}
+
+-- the nodes before a bound in the order have their rows, and so have all with children
 pub record AreNumbered {E : Type 0} (tree : Tree E) (order : List ℕ) (marks : List Bool) (nodes of : List ℕ) (bound : ℕ) : Type 0 where
   pub rows : AreRowNodes tree nodes of
   pub marked : (r : ℕ) → 0 < r → r < length nodes → slice_index_or marks (slice_index nodes r) false ≡ true
-  pub last : (r k : ℕ) → r < length nodes → bound ≤ k → k < length order → length (node_text tree (slice_index nodes r)) ≤ length (node_text tree (slice_index order k))
-  pub each : (j : ℕ) → j < length tree.texts → HasRowOf tree nodes of j ⊎ ((0 < j) × (slice_index of j ≡ 0) × ((k : ℕ) → k < bound → slice_index order k ≢ j))
+  pub each : (j : ℕ) → j < length tree.texts → HasRowOf tree nodes of j ⊎ ((0 < j) × (slice_index_or marks j false ≡ false) × ((k : ℕ) → k < bound → slice_index order k ≢ j))
 
--- at first only the root has a row
-pub numbered_start : {E : Type 0} (tree : Tree E) → IsTrie tree → (order : List ℕ) (marks : List Bool) (nodes of : List ℕ) → nodes ≡ 0 ∷ [] → of ≡ replicate (length tree.texts) 0 → length of ≡ length tree.texts → AreNumbered tree order marks nodes of 0
-numbered_start tree trie order marks nodes of first zeros len =
-    let zero_of : (j : ℕ) → slice_index of j ≡ 0 = λ j. ap (λ (xs : List ℕ). slice_index xs j) zeros ∙ zero_read (length tree.texts) j in
-    let one : length nodes ≡ 1 = ap length first in
-    let root : slice_index nodes 0 ≡ 0 = ap (λ (xs : List ℕ). slice_index xs 0) first in
-    let only : (r : ℕ) → r < length nodes → r ≡ 0 = λ r lt. omega arith in
-    let root_at : (r : ℕ) → r < length nodes → slice_index nodes r ≡ 0 = λ r lt. ap (λ (k : ℕ). slice_index nodes k) (only r lt) ∙ root in
-    let root_text : (r : ℕ) → r < length nodes → length (node_text tree (slice_index nodes r)) ≡ 0 = λ r lt. ap (λ (k : ℕ). length (node_text tree k)) (root_at r lt) ∙ ap length trie.root in
+-- at first those with children
+pub numbered_start : {E : Type 0} (tree : Tree E) → IsTrie tree → (order : List ℕ) (marks : List Bool) (nodes of : List ℕ) → AreInner tree marks → AreOwnRows marks nodes of → AreNumbered tree order marks nodes of 0
+numbered_start tree trie order marks nodes of inner own =
+    let held : (j : ℕ) → j < length tree.texts → slice_index of j < length nodes → slice_index nodes (slice_index of j) ≡ j → HasRowOf tree nodes of j = λ j lt row is. record {
+      row = row;
+      inner = subst (λ (i : ℕ). IsLongestInner tree (node_text tree j) i) (sym is) (inner_self tree j lt);
+    } in
     record {
       rows = record {
-        rows_of = len;
-        has_root = omega arith;
-        root = root;
-        within = λ r lt. omega (arith, root_at r lt, trie.has_root);
-        after_root = λ r pos lt. absurd (omega (arith, only r lt));
-        ascend = λ r s le lt. omega (arith, root_text r (omega arith));
-        own = λ r lt. zero_of (slice_index nodes r) ∙ sym (only r lt);
+        rows_of = own.rows_of ∙ inner.nodes;
+        has_root = own.has_root;
+        root = own.root;
+        within = λ r lt. omega (arith, own.within r lt, inner.nodes);
+        after_root = λ r pos lt. (own.marked r pos lt).0;
+        own = own.own;
       };
-      marked = λ r pos lt. absurd (omega (arith, only r lt));
-      last = λ r k lt le klt. omega (arith, root_text r lt);
+      marked = λ r pos lt. (own.marked r pos lt).1;
       each = λ j lt. elim (cases_eq j 0) [
-        | inl is ↦ inl (record {
-          row = omega (arith, zero_of j);
-          inner = subst (λ (i : ℕ). IsLongestInner tree (node_text tree j) i) (is ∙ sym (ap (λ (i : ℕ). slice_index nodes i) (zero_of j) ∙ root)) (inner_self tree j lt);
-        })
-        | inr apart ↦ inr (omega arith, zero_of j, λ k low. absurd (omega arith))
+        | inl is ↦
+            let row : slice_index of j ≡ 0 = ap (λ (i : ℕ). slice_index of i) (is ∙ sym own.root) ∙ own.own 0 own.has_root in
+            inl (held j lt (omega (arith, row, own.has_root)) (ap (λ (i : ℕ). slice_index nodes i) row ∙ own.root ∙ sym is))
+        | inr apart ↦ elim (cases_Bool (slice_index_or marks j false)) [
+          | inl marked ↦ let has = own.each j (omega arith) (omega (arith, inner.nodes, lt)) marked in inl (held j lt has.0 has.1)
+          | inr unmarked ↦ inr (omega arith, unmarked, λ k low. absurd (omega arith))
+        ]
       ];
     }
 
@@ -169,14 +266,12 @@ numbered_leaf {E} tree trie order marks nodes of at link by inner lt leaf longes
         root = rows.root;
         within = rows.within;
         after_root = rows.after_root;
-        ascend = rows.ascend;
         own = λ r rlt. other (slice_index nodes r) (λ e. elim (cases_eq r 0) [
           | inl first ↦ absurd (omega (arith, within.0, sym e ∙ ap (λ (i : ℕ). slice_index nodes i) first ∙ rows.root))
           | inr later ↦ let bad : true ≡ false = sym (numbered.marked r (omega arith) rlt) ∙ ap (λ (i : ℕ). slice_index_or marks i false) e ∙ leaf in absurd cc
         ]) ∙ rows.own r rlt;
       };
       marked = numbered.marked;
-      last = λ r k rlt le klt. numbered.last r k rlt (omega arith) klt;
       each = λ j jlt. elim (cases_eq j node) [
         | inl same ↦ inl (subst (λ (i : ℕ). HasRowOf tree nodes new i) (sym same) (record {
           row = omega (arith, mine, has.row);
@@ -187,92 +282,19 @@ numbered_leaf {E} tree trie order marks nodes of at link by inner lt leaf longes
             row = omega (arith, other j apart, old.row);
             inner = subst (λ (r : ℕ). IsLongestInner tree (node_text tree j) (slice_index nodes r)) (sym (other j apart)) old.inner;
           })
-          | inr left ↦ inr (left.0, other j apart ∙ left.1, visited order at j apart left.2)
-        ]
-      ];
-    }
-
--- a node with children that has no row
-pub numbered_inner : {E : Type 0} (tree : Tree E) → IsTrie tree → (order : List ℕ) (marks : List Bool) (nodes of : List ℕ) (at : ℕ) → AreByDepth tree.texts order → at < length order
-    → slice_index_or marks (slice_index order at) false ≡ true → slice_index of (slice_index order at) ≡ 0 → AreNumbered tree order marks nodes of at
-    → AreNumbered tree order marks (nodes ++ slice_index order at ∷ []) (set of (slice_index order at) (length nodes)) (at + 1)
-numbered_inner {E} tree trie order marks nodes of at by lt mark none numbered =
-    let node : ℕ = slice_index order at in
-    let n : ℕ = length nodes in
-    let new : List ℕ = set of node n in
-    let more : List ℕ = nodes ++ node ∷ [] in
-    let within = by.within at lt in
-    let rows = numbered.rows in
-    let count : length more ≡ n + 1 = length-append nodes (node ∷ []) in
-    let other : (j : ℕ) → j ≢ node → slice_index new j ≡ slice_index of j = λ j apart. get_or-set_other of node j n 0 apart in
-    let mine : slice_index new node ≡ n = get_or-set_same of node n 0 (omega (arith, within.1, rows.rows_of)) in
-    let old_at : (r : ℕ) → r < n → slice_index more r ≡ slice_index nodes r = λ r low. get_or_append_left nodes (node ∷ []) 0 r low in
-    let new_at : (r : ℕ) → r ≡ n → slice_index more r ≡ node = λ r is. get_or_push nodes node 0 r (sym is) in
-    let split : (P : ℕ → Type 0) → ((r : ℕ) → r < n → P (slice_index nodes r)) → P node → (r : ℕ) → r < length more → P (slice_index more r) = λ P olds one r low. elim (cases_lt r n) [
-      | inl before ↦ subst P (sym (old_at r before)) (olds r before)
-      | inr end ↦ subst P (sym (new_at r (omega (arith, count)))) one
-    ] in
-    record {
-      rows = record {
-        rows_of = length-set of node n ∙ rows.rows_of;
-        has_root = omega (arith, count);
-        root = old_at 0 rows.has_root ∙ rows.root;
-        within = split (λ i. i < length tree.texts) rows.within within.1;
-        after_root = λ r pos low. elim (cases_lt r n) [
-          | inl before ↦ omega (arith, old_at r before, rows.after_root r pos before)
-          | inr end ↦ omega (arith, new_at r (omega (arith, count)), within.0)
-        ];
-        ascend = λ r s le low. elim (cases_lt s n) [
-          | inl before ↦ omega (arith, rows.ascend r s le before, ap (λ (i : ℕ). length (node_text tree i)) (old_at r (omega arith)), ap (λ (i : ℕ). length (node_text tree i)) (old_at s before))
-          | inr end ↦
-              let there = ap (λ (i : ℕ). length (node_text tree i)) (new_at s (omega (arith, count))) in
-              elim (cases_lt r n) [
-                | inl first ↦ omega (arith, numbered.last r at first (omega arith) lt, ap (λ (i : ℕ). length (node_text tree i)) (old_at r first), there)
-                | inr both ↦ omega (arith, ap (λ (i : ℕ). length (node_text tree i)) (new_at r (omega (arith, count))), there)
-              ]
-        ];
-        own = λ r low. elim (cases_lt r n) [
-          | inl before ↦
-              let own = rows.own r before in
-              let apart : slice_index nodes r ≢ node = λ e.
-              let first : r ≡ 0 = sym own ∙ ap (λ (i : ℕ). slice_index of i) e ∙ none in
-              absurd (omega (arith, within.0, sym e ∙ ap (λ (i : ℕ). slice_index nodes i) first ∙ rows.root)) in
-              ap (λ (i : ℕ). slice_index new i) (old_at r before) ∙ other (slice_index nodes r) apart ∙ own
-          | inr end ↦
-              let is : r ≡ n = omega (arith, count) in
-              ap (λ (i : ℕ). slice_index new i) (new_at r is) ∙ mine ∙ sym is
-        ];
-      };
-      marked = λ r pos low. elim (cases_lt r n) [
-        | inl before ↦ ap (λ (i : ℕ). slice_index_or marks i false) (old_at r before) ∙ numbered.marked r pos before
-        | inr end ↦ ap (λ (i : ℕ). slice_index_or marks i false) (new_at r (omega (arith, count))) ∙ mark
-      ];
-      last = λ r k low le klt. split (λ i. length (node_text tree i) ≤ length (node_text tree (slice_index order k)))
-          (λ s before. numbered.last s k before (omega arith) klt) (by.ascend at k (omega arith) klt) r low;
-      each = λ j jlt. elim (cases_eq j node) [
-        | inl same ↦ inl (subst (λ (i : ℕ). HasRowOf tree more new i) (sym same) (record {
-          row = omega (arith, mine, count);
-          inner = subst (λ (i : ℕ). IsLongestInner tree (node_text tree node) i) (sym (new_at (slice_index new node) mine)) (inner_self tree node within.1);
-        }))
-        | inr apart ↦ elim (numbered.each j jlt) [
-          | inl old ↦ inl (record {
-            row = omega (arith, other j apart, old.row, count);
-            inner = subst (λ (i : ℕ). IsLongestInner tree (node_text tree j) i) (sym (ap (λ (r : ℕ). slice_index more r) (other j apart) ∙ old_at (slice_index of j) old.row)) old.inner;
-          })
-          | inr left ↦ inr (left.0, other j apart ∙ left.1, visited order at j apart left.2)
+          | inr left ↦ inr (left.0, left.1, visited order at j apart left.2)
         ]
       ];
     }
 
 -- a node that has its row
-pub numbered_again : {E : Type 0} (tree : Tree E) (order : List ℕ) (marks : List Bool) (nodes of : List ℕ) (at : ℕ) → slice_index of (slice_index order at) ≢ 0 → AreNumbered tree order marks nodes of at → AreNumbered tree order marks nodes of (at + 1)
-numbered_again tree order marks nodes of at some numbered = record {
+pub numbered_again : {E : Type 0} (tree : Tree E) (order : List ℕ) (marks : List Bool) (nodes of : List ℕ) (at : ℕ) → slice_index_or marks (slice_index order at) false ≡ true → AreNumbered tree order marks nodes of at → AreNumbered tree order marks nodes of (at + 1)
+numbered_again tree order marks nodes of at mark numbered = record {
   rows = numbered.rows;
   marked = numbered.marked;
-  last = λ r k rlt le klt. numbered.last r k rlt (omega arith) klt;
   each = λ j jlt. elim (numbered.each j jlt) [
     | inl old ↦ inl old
-    | inr left ↦ inr (left.0, left.1, visited order at j (λ e. some (ap (λ (i : ℕ). slice_index of i) (sym e) ∙ left.1)) left.2)
+    | inr left ↦ inr (left.0, left.1, visited order at j (λ e. let bad : true ≡ false = sym mark ∙ ap (λ (i : ℕ). slice_index_or marks i false) (sym e) ∙ left.1 in absurd cc) left.2)
   ];
 }
 
@@ -498,50 +520,145 @@ filled_free own other is = ap (λ (t : Bool). cond t other own) (eq-eqb own (2 ^
 pub filled_own : (own other : ℕ) → own ≢ 2 ^ 32 - 1 → filled own other ≡ own
 filled_own own other apart = ap (λ (t : Bool). cond t other own) (ne_eqb own (2 ^ 32 - 1) apart)
 
--- the row of a link lies before the row of its node
-pub link_row_less : {E : Type 0} (trie : LinkedTree E) → IsTrie trie.tree → IsLinked trie → (nodes of : List ℕ) → AreRowsOf trie.tree nodes of → (r : ℕ) → 0 < r → r < length nodes → link_row trie nodes of r < r
-link_row_less {E} trie is linked nodes of rows r pos lt =
+-- the row of a link is that of a shorter text
+pub link_row_shorter : {E : Type 0} (trie : LinkedTree E) → IsTrie trie.tree → IsLinked trie → (nodes of : List ℕ) → AreRowsOf trie.tree nodes of → (r : ℕ) → 0 < r → r < length nodes
+    → length (node_text trie.tree (slice_index nodes (link_row trie nodes of r))) < length (node_text trie.tree (slice_index nodes r))
+link_row_shorter {E} trie is linked nodes of rows r pos lt =
     let tree = trie.tree in
     let p : ℕ = slice_index nodes r in
     let plt = rows.rows.within r lt in
     let longest = (linked p plt).link in
-    let link : ℕ = (links_of trie p).link in
-    let has = rows.each link longest.within in
-    let less = link_less tree (node_text tree p) link (depth_pos tree is p (rows.rows.after_root r pos lt) plt) longest in
-    elim (cases_lt (slice_index of link) r) [
-      | inl before ↦ before
-      | inr after ↦ absurd (omega (arith, rows.rows.ascend r (slice_index of link) after has.row, has.inner.ends.0, less))
-    ]
+    let has = rows.each (links_of trie p).link longest.within in
+    let less = link_less tree (node_text tree p) (links_of trie p).link (depth_pos tree is p (rows.rows.after_root r pos lt) plt) longest in
+    omega (arith, has.inner.ends.0, less)
+
+-- it is one of the rows
+pub link_row_within : {E : Type 0} (trie : LinkedTree E) → IsLinked trie → (nodes of : List ℕ) → AreRowsOf trie.tree nodes of → (r : ℕ) → r < length nodes → link_row trie nodes of r < length nodes
+link_row_within trie linked nodes of rows r lt = (rows.each (links_of trie (slice_index nodes r)).link (linked (slice_index nodes r) (rows.rows.within r lt)).link.within).row
 
 -- how the row of a link is read
-pub row_read : {E : Type 0} (trie : LinkedTree E) → IsLinked trie → (nodes of : List ℕ) → AreRowsOf trie.tree nodes of → (r node from : ℕ) (links : Links) → r < length nodes → node ≡ get_or nodes r node → links ≡ links_of trie node
+pub row_read : {E : Type 0} (trie : LinkedTree E) → IsLinked trie → (nodes of : List ℕ) → AreRowsOf trie.tree nodes of → (r node from : ℕ) (links : Links) → r < length nodes → slice_index nodes r ≡ node → links ≡ links_of trie node
     → from ≡ get_or of links.link from → from ≡ link_row trie nodes of r
-row_read {E} trie linked nodes of rows r node from links lt read_node read_links read_from =
-    let node_is : node ≡ slice_index nodes r = read_node ∙ get_or_default nodes r node 0 lt in
-    let link_is : links.link ≡ (links_of trie (slice_index nodes r)).link = ap (λ x. x.link) (read_links ∙ ap (λ (i : ℕ). links_of trie i) node_is) in
+row_read {E} trie linked nodes of rows r node from links lt node_is read_links read_from =
+    let link_is : links.link ≡ (links_of trie (slice_index nodes r)).link = ap (λ x. x.link) (read_links ∙ ap (λ (i : ℕ). links_of trie i) (sym node_is)) in
     let within = (linked (slice_index nodes r) (rows.rows.within r lt)).link.within in
     read_from ∙ get_or_default of links.link from 0 (omega (arith, link_is, within, rows.rows.rows_of)) ∙ ap (λ (i : ℕ). slice_index of i) link_is
 
+-- how the row of a node of the order is read, and the node of that row
+pub record IsReadAt (nodes of : List ℕ) (node row found : ℕ) : Type 0 where
+  pub is : row ≡ slice_index of node
+  pub low : row < length nodes
+  pub found_is : found ≡ slice_index nodes row
+
+pub read_at : {E : Type 0} (tree : Tree E) (nodes of : List ℕ) → AreRowsOf tree nodes of → (node row found : ℕ) → node < length tree.texts → row ≡ get_or of node row → found ≡ get_or nodes row found → IsReadAt nodes of node row found
+read_at tree nodes of rows node row found lt read_row read_node =
+    let is : row ≡ slice_index of node = read_row ∙ get_or_default of node row 0 (omega (arith, lt, rows.rows.rows_of)) in
+    let low : row < length nodes = omega (arith, is, (rows.each node lt).row) in
+    record { is = is; low = low; found_is = read_node ∙ get_or_default nodes row found 0 low }
+
+-- it is not the root's
+pub not_first : {E : Type 0} (tree : Tree E) (nodes of : List ℕ) → AreRowsOf tree nodes of → (node row : ℕ) → 0 < node → slice_index nodes row ≡ node → 0 < row
+not_first tree nodes of rows node zero pos is = absurd (omega (arith, pos, is, rows.rows.root))
+not_first tree nodes of rows node (suc row) pos is = omega arith
+
+-- a node that is not the one of its row has none
+pub has_none : {E : Type 0} (tree : Tree E) (nodes of : List ℕ) → AreRowsOf tree nodes of → (node row : ℕ) → row ≡ slice_index of node → slice_index nodes row ≢ node → (r : ℕ) → r < length nodes → node ≢ slice_index nodes r
+has_none tree nodes of rows node row is apart r lt e =
+    let same : row ≡ r = is ∙ ap (λ (i : ℕ). slice_index of i) e ∙ rows.rows.own r lt in
+    apart (ap (λ (i : ℕ). slice_index nodes i) same ∙ sym e)
+
+-- two rows are apart
+pub rows_apart : (r s quarter : ℕ) → r ≢ s → (r * quarter * 4 + quarter * 4 ≤ s * quarter * 4) ⊎ (s * quarter * 4 + quarter * 4 ≤ r * quarter * 4)
+rows_apart r s quarter apart = elim (cases_lt r s) [
+  | inl less ↦ inl (omega (arith, row_after r s quarter less))
+  | inr more ↦ inr (omega (arith, row_after s r quarter (omega arith)))
+]
+
+-- a cell that is filled stays so
+filled_twice : (own other : ℕ) → filled (filled own other) other ≡ filled own other
+filled_twice own other = elim (cases_eq own (2 ^ 32 - 1)) [
+  | inl free ↦
+      let is : filled own other ≡ other = filled_free own other free in
+      ap (λ (x : ℕ). filled x other) is ∙ elim (cases_eq other (2 ^ 32 - 1)) [
+        | inl both ↦ filled_free other other both ∙ sym is
+        | inr apart ↦ filled_own other other apart ∙ sym is
+      ]
+  | inr apart ↦ let is : filled own other ≡ own = filled_own own other apart in ap (λ (x : ℕ). filled x other) is
+]
+
+-- a row is filled if its node is before a bound in the order, and else it is as it was
+abbrev pub IsFilledOrNot : (ℕ → ℕ) → List ℕ → List ℕ → ℕ → ℕ → List ℕ → List ℕ → ℕ → ℕ → Type 0
+IsFilledOrNot from nodes order bound quarter old now r k =
+    ((i : ℕ) × (i < bound) × (slice_index order i ≡ slice_index nodes r) × (slice_index now (r * quarter * 4 + k) ≡ filled (slice_index old (r * quarter * 4 + k)) (slice_index now (from r * quarter * 4 + k))))
+    ⊎ (((i : ℕ) → i < bound → slice_index order i ≢ slice_index nodes r) × (slice_index now (r * quarter * 4 + k) ≡ slice_index old (r * quarter * 4 + k)))
+
+pub record AreFilledBelow (from : ℕ → ℕ) (nodes order : List ℕ) (bound quarter : ℕ) (old now : List ℕ) : Type 0 where
+  pub root : (k : ℕ) → k < quarter * 4 → slice_index now k ≡ slice_index old k
+  pub each : (r k : ℕ) → 0 < r → r < length nodes → k < quarter * 4 → IsFilledOrNot from nodes order bound quarter old now r k
+
+pub filled_start : (from : ℕ → ℕ) (nodes order : List ℕ) (quarter : ℕ) (old : List ℕ) → AreFilledBelow from nodes order 0 quarter old old
+filled_start from nodes order quarter old = record {
+  root = λ k lt. refl;
+  each = λ r k pos rlt klt. inr (λ i low. absurd (omega arith), refl);
+}
+
+-- a node of the order that is no row's
+pub filled_less : (from : ℕ → ℕ) (nodes order : List ℕ) (at quarter : ℕ) (old now : List ℕ) → ((r : ℕ) → r < length nodes → slice_index order at ≢ slice_index nodes r) → AreFilledBelow from nodes order at quarter old now → AreFilledBelow from nodes order (at + 1) quarter old now
+filled_less from nodes order at quarter old now none was = record {
+  root = was.root;
+  each = λ r k pos rlt klt. elim (was.each r k pos rlt klt) [
+    | inl done ↦ inl (done.0, omega (arith, done.1), done.2, done.3)
+    | inr left ↦ inr (visited order at (slice_index nodes r) (λ e. none r rlt (sym e)) left.0, left.1)
+  ];
+}
+
 -- one row more
-pub filled_more : (from : ℕ → ℕ) (row rows quarter : ℕ) (old now new : List ℕ) → 0 < row → row < rows → ((r : ℕ) → 0 < r → r < rows → from r < r)
-    → AreFilled from row quarter old now → ((i : ℕ) → row * quarter * 4 ≤ i → slice_index now i ≡ slice_index old i)
+pub filled_more : (from : ℕ → ℕ) (depth : ℕ → ℕ) (nodes of order : List ℕ) (at row quarter : ℕ) (old now new : List ℕ) → 0 < row → row < length nodes → slice_index nodes row ≡ slice_index order at
+    → ((r : ℕ) → r < length nodes → slice_index of (slice_index nodes r) ≡ r)
+    → ((i : ℕ) → i ≤ at → depth (slice_index order i) ≤ depth (slice_index order at))
+    → ((r : ℕ) → 0 < r → r < length nodes → depth (slice_index nodes (from r)) < depth (slice_index nodes r))
+    → AreFilledBelow from nodes order at quarter old now
     → ((k : ℕ) → k < quarter * 4 → slice_index new (row * quarter * 4 + k) ≡ filled (slice_index now (row * quarter * 4 + k)) (slice_index now (from row * quarter * 4 + k)))
-    → ((i : ℕ) → i < row * quarter * 4 → slice_index new i ≡ slice_index now i) → AreFilled from (row + 1) quarter old new
-filled_more from row rows quarter old now new pos lt less before rest mine stays =
-    let kept : (r k : ℕ) → r < row → k < quarter * 4 → slice_index new (r * quarter * 4 + k) ≡ slice_index now (r * quarter * 4 + k) = λ r k rlt klt. stays (r * quarter * 4 + k) (omega (arith, row_after r row quarter rlt)) in
+    → ((i : ℕ) → i < row * quarter * 4 → slice_index new i ≡ slice_index now i) → ((i : ℕ) → row * quarter * 4 + quarter * 4 ≤ i → slice_index new i ≡ slice_index now i)
+    → AreFilledBelow from nodes order (at + 1) quarter old new
+filled_more from depth nodes of order at row quarter old now new pos lt is own ascend shorter was mine before after =
+    let kept : (r k : ℕ) → r ≢ row → k < quarter * 4 → slice_index new (r * quarter * 4 + k) ≡ slice_index now (r * quarter * 4 + k) = λ r k apart klt. elim (rows_apart r row quarter apart) [
+      | inl first ↦ before (r * quarter * 4 + k) (omega (arith, first))
+      | inr last ↦ after (r * quarter * 4 + k) (omega (arith, last))
+    ] in
+    let not_own : from row ≢ row = λ e. absurd (omega (arith, shorter row pos lt, ap (λ (r : ℕ). depth (slice_index nodes r)) e)) in
     record {
-      root = λ k klt. stays k (omega (arith, row_after 0 row quarter pos)) ∙ before.root k klt;
-      each = λ r k rpos rlt klt. elim (cases_lt r row) [
-        | inl first ↦
-            let there = kept (from r) k (omega (arith, less r rpos (omega arith))) klt in
-            kept r k first klt ∙ before.each r k rpos first klt ∙ ap (λ (x : ℕ). filled (slice_index old (r * quarter * 4 + k)) x) (sym there)
-        | inr last ↦
-            let is : row ≡ r = omega arith in
-            let there = kept (from row) k (less row pos lt) klt in
-            subst (λ (i : ℕ). slice_index new (i * quarter * 4 + k) ≡ filled (slice_index old (i * quarter * 4 + k)) (slice_index new (from i * quarter * 4 + k))) is
-            (mine k klt ∙ ap (λ (x : ℕ). filled x (slice_index now (from row * quarter * 4 + k))) (rest (row * quarter * 4 + k) (omega arith)) ∙ ap (λ (x : ℕ). filled (slice_index old (row * quarter * 4 + k)) x) (sym there))
+      root = λ k klt. before k (omega (arith, row_after 0 row quarter pos)) ∙ was.root k klt;
+      each = λ r k rpos rlt klt. elim (cases_eq r row) [
+        | inl same ↦
+            let there : slice_index new (from row * quarter * 4 + k) ≡ slice_index now (from row * quarter * 4 + k) = kept (from row) k not_own klt in
+            let there_now : ℕ = slice_index now (from row * quarter * 4 + k) in
+            let first : ℕ = slice_index old (row * quarter * 4 + k) in
+            let now_is : filled (slice_index now (row * quarter * 4 + k)) there_now ≡ filled first there_now = elim (was.each row k pos lt klt) [
+              | inl done ↦ ap (λ (x : ℕ). filled x there_now) done.3 ∙ filled_twice first there_now
+              | inr left ↦ ap (λ (x : ℕ). filled x there_now) left.1
+            ] in
+            subst (λ (x : ℕ). IsFilledOrNot from nodes order (at + 1) quarter old new x k) (sym same)
+            (inl (at, omega arith, sym is, mine k klt ∙ now_is ∙ ap (λ (x : ℕ). filled first x) (sym there)))
+        | inr apart ↦ elim (was.each r k rpos rlt klt) [
+          | inl done ↦
+              let low = ascend done.0 (omega (arith, done.1)) in
+              let other : from r ≢ row = λ e. absurd (omega (arith, shorter r rpos rlt, ap (λ (x : ℕ). depth (slice_index nodes x)) e, ap depth is, ap depth done.2, low)) in
+              inl (done.0, omega (arith, done.1), done.2, kept r k apart klt ∙ done.3 ∙ ap (λ (x : ℕ). filled (slice_index old (r * quarter * 4 + k)) x) (sym (kept (from r) k other klt)))
+          | inr left ↦ inr (visited order at (slice_index nodes r) (λ e. apart (sym (own r rlt) ∙ ap (λ (i : ℕ). slice_index of i) (e ∙ sym is) ∙ own row lt)) left.0, kept r k apart klt ∙ left.1)
+        ]
       ];
     }
+
+pub filled_all : (from : ℕ → ℕ) (nodes order : List ℕ) (bound quarter : ℕ) (old new : List ℕ) → length order ≤ bound → ((r : ℕ) → 0 < r → r < length nodes → (i : ℕ) × (i < length order) × (slice_index order i ≡ slice_index nodes r))
+    → AreFilledBelow from nodes order bound quarter old new → AreFilled from (length nodes) quarter old new
+filled_all from nodes order bound quarter old new le there was = record {
+  root = was.root;
+  each = λ r k pos lt klt. elim (was.each r k pos lt klt) [
+    | inl done ↦ done.3
+    | inr left ↦ let at = there r pos lt in absurd (left.0 at.0 (omega (arith, at.1)) at.2)
+  ];
+}
 
 -- the cell of a child is not free
 taken : (of numbers : List ℕ) (quarter : ℕ) (split : Split) (child : ℕ) → IsSplit split → slice_index of child * quarter < split.last_place → cell_of of numbers quarter split child ≢ 2 ^ 32 - 1
@@ -558,7 +675,7 @@ module _ {E : Type 0} (trie : LinkedTree E) (is : IsTrie trie.tree) (linked : Is
   low_place b child blt lt = place_below split of quarter child (length nodes) (rows.each child lt).row (omega (arith, class.below b blt)) places
 
   -- each cell of each row is right
-  pub cells_right : (n r b : ℕ) → r < n → r < length nodes → b < 256 → IsCellTo trie.tree numbers nodes quarter split (node_text trie.tree (slice_index nodes r) ++ b ∷ []) (slice_index new (r * quarter * 4 + slice_index classes b))
+  pub cells_right : (n r b : ℕ) → length (node_text trie.tree (slice_index nodes r)) < n → r < length nodes → b < 256 → IsCellTo trie.tree numbers nodes quarter split (node_text trie.tree (slice_index nodes r) ++ b ∷ []) (slice_index new (r * quarter * 4 + slice_index classes b))
   cells_right zero r b low rlt blt = absurd (omega arith)
   cells_right (suc n) zero b low rlt blt =
       let tree = trie.tree in
@@ -593,7 +710,7 @@ module _ {E : Type 0} (trie : LinkedTree E) (is : IsTrie trie.tree) (linked : Is
             let link : ℕ = (links_of trie p).link in
             let longest = (linked p plt).link in
             let has = rows.each link longest.within in
-            let less = link_row_less trie is linked nodes of rows r (omega arith) rlt in
+            let less = link_row_shorter trie is linked nodes of rows r (omega arith) rlt in
             let before = cells_right n from b (omega (arith, less)) has.row blt in
             subst (λ (x : ℕ). IsCellTo tree numbers nodes quarter split (node_text tree p ++ b ∷ []) x) (sym (same ∙ filled_free own other free.0))
             (cell_link tree is numbers nodes quarter split p link (slice_index nodes from) b other plt free.1 longest has.inner before)
@@ -604,5 +721,5 @@ module _ {E : Type 0} (trie : LinkedTree E) (is : IsTrie trie.tree) (linked : Is
     has_root = rows.rows.has_root;
     root = rows.rows.root;
     room = room;
-    each = λ r b rlt blt. cells_right (length nodes) r b rlt rlt blt;
+    each = λ r b rlt blt. cells_right (suc (length (node_text trie.tree (slice_index nodes r)))) r b (omega arith) rlt blt;
   }

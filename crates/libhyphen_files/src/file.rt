@@ -50,6 +50,7 @@ impl LevelDictionary {
     }
 
     /// Reports whether the charset is UTF-8.
+    #[inline(always)]
     pub fn is_utf8(&self) -> bool
         ensures { result ≡ self.now.utf8 }
     {
@@ -57,6 +58,7 @@ impl LevelDictionary {
     }
 
     /// Returns the level that parts compounds. It is asked first.
+    #[inline(always)]
     pub fn top(&self) -> &FrozenLevel
         ensures { result.now ≡ self.now.top }
     {
@@ -64,6 +66,7 @@ impl LevelDictionary {
     }
 
     /// Returns the level that breaks a word, or a part, in which the level at the top finds no break.
+    #[inline(always)]
     pub fn below(&self) -> &FrozenLevel
         ensures { result.now ≡ self.now.below }
     {

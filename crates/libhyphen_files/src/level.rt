@@ -68,6 +68,7 @@ impl Model for FrozenLevel {
 
 impl FrozenLevel {
     /// Returns the least numbers of letters around a break, as the level sets them; 0 where it sets none.
+    #[inline(always)]
     pub fn minima(&self) -> &Minima
         ensures { result.now ≡ self.now.minima }
     {
@@ -75,6 +76,7 @@ impl FrozenLevel {
     }
 
     /// Returns the texts directly before and after which no break is.
+    #[inline(always)]
     pub fn no_hyphen(&self) -> &[Vec<u8>]
         ensures { map (λ text. text.items) result.now ≡ self.now.no_hyphen }
     {
@@ -82,6 +84,7 @@ impl FrozenLevel {
     }
 
     /// Returns the keys, each with its pattern, ready to be found in words. Each node but the root begins a key.
+    #[inline(always)]
     pub fn patterns(&self) -> &Automaton<StoredPattern>
         ensures known { patterns_of result.now ≡ self.now.patterns }
         ensures begins { EachBeginsKey result.now }
@@ -90,6 +93,7 @@ impl FrozenLevel {
     }
 
     /// Returns the keys, as [`patterns`](FrozenLevel::patterns) does, and the vectors of the nodes.
+    #[inline(always)]
     pub fn patterns_with_vectors(&self) -> (&Automaton<StoredPattern>, &NodeVectors)
         ensures known { patterns_of result.0.now ≡ self.now.patterns }
         ensures begins { EachBeginsKey result.0.now }
@@ -99,6 +103,7 @@ impl FrozenLevel {
     }
 
     /// Reports whether a key may begin with a byte.
+    #[inline(always)]
     pub fn may_begin(&self, byte: u8) -> bool
         ensures { IsFalse result → BeginsNoKey self.now.patterns byte }
     {
@@ -106,6 +111,7 @@ impl FrozenLevel {
     }
 
     /// Reports whether some pattern may have a change. If not, a caller need not look for changes.
+    #[inline(always)]
     pub fn has_changes(&self) -> bool
         ensures { IsFalse result → HasNoChanges self.now.patterns }
     {

@@ -1,5 +1,5 @@
 -- Rows of a table while they are made.
-use Rattle.std.specs.Prelude.{◌≡◌, ◌≢◌, ◌==◌, ℕ, zero, suc, ◌+◌, ◌*◌, ◌-◌, ◌^◌, ◌<◌, ◌≤◌, ◌⊎◌, if◌then◌else◌, Bool, true, false, List, [], ◌∷◌, ◌++◌, length, slice_index, slice_index_or}
+use Rattle.std.specs.Prelude.{◌≡◌, ◌≢◌, ◌==◌, ℕ, zero, suc, ◌+◌, ◌*◌, ◌-◌, ◌^◌, ◌<◌, ◌⊎◌, if◌then◌else◌, Bool, true, false, List, [], ◌∷◌, ◌++◌, length, slice_index, slice_index_or}
 use Rattle.hyphenation_trie.specs.Trie.{Tree, node_text}
 use Rattle.hyphenation_trie.specs.Steps.{HasChild, IsLongestInner}
 use Rattle.hyphenation_trie.specs.declared.table.split.Split.{Split}
@@ -15,15 +15,25 @@ pub record HasRowOf {E : Type 0} (tree : Tree E) (nodes of : List ℕ) (node : �
   pub row : slice_index of node < length nodes
   pub inner : IsLongestInner tree (node_text tree node) (slice_index nodes (slice_index of node))
 
--- These are the nodes of rows, in the order of their depths. The first is the root. Each has its own row.
+-- Each marked node has a row of its own, and so has the root, the first one. A row is also known of each node.
+pub record AreOwnRows (marks : List Bool) (nodes of : List ℕ) : Type 0 where
+  pub rows_of : length of ≡ length marks
+  pub has_root : 0 < length nodes
+  pub root : slice_index nodes 0 ≡ 0
+  pub within : (r : ℕ) → r < length nodes → slice_index nodes r < length marks
+  pub marked : (r : ℕ) → 0 < r → r < length nodes
+      → (0 < slice_index nodes r) × (slice_index_or marks (slice_index nodes r) false ≡ true)
+  pub own : (r : ℕ) → r < length nodes → slice_index of (slice_index nodes r) ≡ r
+  pub each : (j : ℕ) → 0 < j → j < length marks → slice_index_or marks j false ≡ true
+      → (slice_index of j < length nodes) × (slice_index nodes (slice_index of j) ≡ j)
+
+-- These are the nodes of rows. The first is the root. Each has its own row.
 pub record AreRowNodes {E : Type 0} (tree : Tree E) (nodes of : List ℕ) : Type 0 where
   pub rows_of : length of ≡ length tree.texts
   pub has_root : 0 < length nodes
   pub root : slice_index nodes 0 ≡ 0
   pub within : (r : ℕ) → r < length nodes → slice_index nodes r < length tree.texts
   pub after_root : (r : ℕ) → 0 < r → r < length nodes → 0 < slice_index nodes r
-  pub ascend : (r s : ℕ) → r ≤ s → s < length nodes
-      → length (node_text tree (slice_index nodes r)) ≤ length (node_text tree (slice_index nodes s))
   pub own : (r : ℕ) → r < length nodes → slice_index of (slice_index nodes r) ≡ r
 
 -- The rows of all nodes.

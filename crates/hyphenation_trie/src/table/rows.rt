@@ -2,15 +2,18 @@
 //!
 //! The cell of a child leads to the child. Where a node has no child at a byte, its cell is that of its link. The link
 //! has the longest text that ends the node's text and is shorter. So first the cells of all children are set, and then
-//! each row takes its other cells from the row of its link. Rows are in the order of depths, so the row of the link is
-//! complete by then.
+//! each row takes its other cells from the row of its link. Rows are filled in the order of depths, so the row of the
+//! link is complete by then.
+//!
+//! Rows are in the order of their nodes, and nodes in the order in which their keys came. In a sorted list a text comes
+//! right before the longer ones that it begins. So the rows that a word is read by lie near each other.
 
-ghost use Rattle.std.specs.Prelude.{◌≡◌, ◌+◌, ◌*◌, ◌-◌, ◌^◌, ◌<◌, ◌≤◌, ℕ, List, length, slice_index, IfOk, IfSome, OnOk};
+ghost use Rattle.std.specs.Prelude.{◌≡◌, ◌⊎◌, ◌+◌, ◌*◌, ◌-◌, ◌^◌, ◌<◌, ◌≤◌, ℕ, List, length, slice_index, IfOk, IfSome, OnOk};
 ghost use Rattle.hyphenation_trie.specs.Cells.{numbers_of, IsSplit};
 ghost use Rattle.hyphenation_trie.specs.Private.Known.{AreByDepth, AreClasses};
 ghost use Rattle.hyphenation_trie.specs.Steps.{AreRows};
 ghost use Rattle.hyphenation_trie.specs.Private.States.{IsLinked};
-ghost use Rattle.hyphenation_trie.specs.Private.TableRows.{filled, free_cell, link_row, AreLinked, AreFilled, AreInner, AreRowsOf};
+ghost use Rattle.hyphenation_trie.specs.Private.TableRows.{filled, free_cell, link_row, AreLinked, AreFilled, AreInner, AreOwnRows, AreRowsOf};
 
 use crate::frozen::Frozen;
 use crate::lists::list_of_first;
@@ -24,7 +27,7 @@ const FREE: u32 = u32::MAX;
 // The rows of a table.
 #[derive(Drop)]
 struct Rows {
-    // The node of each row. The first is the root. They are in the order of depths.
+    // The node of each row. The first is the root.
     nodes: Vec<u32>,
     // For each node the row of the longest node with children that ends its text.
     of: Vec<u32>,
@@ -43,6 +46,25 @@ fn inner_nodes<E: Drop>(alloc: Global, trie: &Frozen<E>) -> Result<Vec<bool>, Al
     Ok(inner)
 }
 
+// Returns a row for the root and for each other node that has a child, in the order of the nodes. The other nodes have the
+// row of the root. The only error is out of memory.
+fn own_rows(alloc: Global, inner: &[bool]) -> Result<Rows, AllocError>
+    requires { 0 < length inner.now }
+    ensures { IfOk result (λ rows. AreOwnRows inner.now rows.nodes.items rows.of.items) }
+{
+    let mut nodes = list_of_first(alloc, 1, 0u32)?;
+    let mut of = vec![in alloc; 0u32; inner.len()]?;
+    for node in 1..inner.len() {
+        if inner[node] {
+            let row = to_u32(nodes.len())?;
+            let number = to_u32(node)?;
+            nodes.push(number)?;
+            of[node] = row;
+        }
+    }
+    Ok(Rows { nodes, of })
+}
+
 // Returns the rows, given the nodes by their depths, and whether each has a child. The only error is out of memory.
 fn rows_of<E: Drop>(
     alloc: Global,
@@ -56,16 +78,11 @@ fn rows_of<E: Drop>(
     ensures { IfOk result (λ rows. AreRowsOf trie.now.tree rows.nodes.items rows.of.items) }
 {
     trie.invariant();
-    let mut nodes = list_of_first(alloc, 1, 0u32)?;
-    let mut of = vec![in alloc; 0u32; trie.count()]?;
+    let Rows { nodes, mut of } = own_rows(alloc, inner)?;
     for node in order {
         let at = *node as usize;
         if !inner[at] {
             of[at] = of[trie.links(at).link as usize];
-        } else if of[at] == 0 {
-            let row = to_u32(nodes.len())?;
-            nodes.push(*node)?;
-            of[at] = row;
         }
     }
     Ok(Rows { nodes, of })
@@ -126,10 +143,11 @@ fn filled_cell(own: u32, of_link: u32) -> u32
     if own == FREE { of_link } else { own }
 }
 
-// Fills the free cells of a row from another row before it.
+// Fills the free cells of a row from another row.
 fn fill_row(cells: &mut [u32], start: usize, from: usize, width: usize)
-    requires before { from + width ≤ start }
+    requires apart { (from + width ≤ start) ⊎ (start + width ≤ from) }
     requires room { start + width ≤ length cells.old }
+    requires from_room { from + width ≤ length cells.old }
     ensures count { length cells.new ≡ length cells.old }
     ensures filled { (k : ℕ) → k < width
         → slice_index cells.new (start + k) ≡ filled (slice_index cells.old (start + k)) (slice_index cells.old (from + k)) }
@@ -141,9 +159,16 @@ fn fill_row(cells: &mut [u32], start: usize, from: usize, width: usize)
     }
 }
 
-// Fills the free cells of all rows from the rows of their links.
-fn fill_rows<E: Drop>(cells: &mut [u32], trie: &Frozen<E>, rows: &Rows, quarter: usize)
+// Fills the free cells of all rows from the rows of their links, in the order of the depths of their nodes.
+fn fill_rows<E: Drop>(
+    cells: &mut [u32],
+    trie: &Frozen<E>,
+    order: &[u32],
+    rows: &Rows,
+    quarter: usize,
+)
     requires linked { IsLinked trie.now }
+    requires order { AreByDepth trie.now.tree.texts order.now }
     requires rows { AreRowsOf trie.now.tree rows.now.nodes.items rows.now.of.items }
     requires places { length rows.now.nodes.items * quarter < 2 ^ 32 }
     requires count { length cells.old ≡ length rows.now.nodes.items * quarter * 4 }
@@ -152,10 +177,14 @@ fn fill_rows<E: Drop>(cells: &mut [u32], trie: &Frozen<E>, rows: &Rows, quarter:
         quarter cells.old cells.new }
 {
     trie.invariant();
-    for row in 1..rows.nodes.len() {
-        let link = trie.links(rows.nodes[row] as usize).link;
-        let from = rows.of[link as usize] as usize * quarter * 4;
-        fill_row(cells, row * quarter * 4, from, quarter * 4);
+    for node in order {
+        let at = *node as usize;
+        let row = rows.of[at] as usize;
+        if rows.nodes[row] == *node {
+            let link = trie.links(at).link;
+            let from = rows.of[link as usize] as usize * quarter * 4;
+            fill_row(cells, row * quarter * 4, from, quarter * 4);
+        }
     }
 }
 
@@ -189,6 +218,6 @@ pub(super) fn cells_of<E: Drop>(
     }
     let mut cells = free_cells(alloc, places, quarter)?;
     set_children(&mut cells, trie, &rows, numbers, classes, quarter, split);
-    fill_rows(&mut cells, trie, &rows, quarter);
+    fill_rows(&mut cells, trie, order, &rows, quarter);
     Ok(Some(cells))
 }
