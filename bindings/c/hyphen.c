@@ -138,7 +138,7 @@ static bool by_levels(struct own *own, bool given, const hyphenation_levels_mini
   hyphenation_levels_change few[CHANGES], *changes = few;
   uint8_t short_texts[TEXTS], *texts = short_texts;
   const uint8_t *text = (const uint8_t *)word;
-  size_t length = size + strlen(word + size), changes_room = CHANGES, texts_room = TEXTS;
+  size_t length = word[size] ? size + strlen(word + size) : size, changes_room = CHANGES, texts_room = TEXTS;
   size_t count, changes_count, texts_count, written;
   uint32_t status;
   bool made;

@@ -56,6 +56,7 @@ pub struct CallAnswer<'d> {
 
 // Returns the greater of two minima.
 #[tactic(auto, unfolding(crate::specs::Calls::greater))]
+#[inline(always)]
 fn greater(given: i32, own: i8) -> i32
     ensures { result ≡ greater given own }
 {
@@ -64,6 +65,7 @@ fn greater(given: i32, own: i8) -> i32
 }
 
 // Returns the minima of a dictionary.
+#[inline(always)]
 fn own_minima(own: &Minima) -> CallMinima
     ensures { result ≡ least_of own.now None }
 {
@@ -76,6 +78,7 @@ fn own_minima(own: &Minima) -> CallMinima
 }
 
 // Returns the minima of a dictionary, or of each the greater one of it and of a caller's.
+#[inline(always)]
 fn least_of(own: &Minima, given: Option<CallMinima>) -> CallMinima
     ensures { result ≡ least_of own.now given }
 {
@@ -91,6 +94,7 @@ fn least_of(own: &Minima, given: Option<CallMinima>) -> CallMinima
 
 // Returns the minimum of a whole word.
 #[tactic(auto, unfolding(crate::specs::Calls::at_least_two))]
+#[inline(always)]
 fn at_least_two(least: i32) -> i32
     ensures { result ≡ at_least_two least }
 {
@@ -98,6 +102,7 @@ fn at_least_two(least: i32) -> i32
 }
 
 // Reports whether a text begins within a character of UTF-8.
+#[inline(always)]
 fn begins_within(text: &[u8]) -> bool
     ensures { result ≡ continues (slice_index text.now 0) }
 {
@@ -340,6 +345,7 @@ fn kept_digits(
 // Finds the digits of both levels in a word without digits, the first bytes of a text, at most 64. Those of places too
 // near to its ends are left out. Returns false, with anything in the list, where a pattern counts that may change
 // letters. The text has no byte 0. `counts` is whether a pattern of the level at the top may count.
+#[inline(always)]
 fn put_digits_by_call(
     dictionary: &LevelDictionary,
     minima: Option<CallMinima>,
@@ -372,6 +378,7 @@ fn put_digits_by_call(
 
 // Leaves of the digits of a word's bytes those of its characters, at the front of the list. Returns how many there are.
 // `ascii` is whether each byte is known to be one.
+#[inline(always)]
 fn keep_digits(utf8: bool, ascii: bool, word: &[u8], digits: &mut [u8]) -> usize
     requires ascii { IsTrue ascii → AllAscii word.now }
     requires digits { length digits.old ≡ length word.now }

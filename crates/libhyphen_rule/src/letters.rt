@@ -9,6 +9,7 @@ ghost use Rattle.libhyphen_rule.specs.Letters.{digits_at_begin, digits_at_end, l
 use libhyphen_files::bytes::continues;
 
 // Returns the number of characters that a byte begins: 1 or 0.
+#[inline(always)]
 pub(crate) fn characters_at(utf8: bool, byte: u8) -> usize
     ensures { result ≡ (if not utf8 || not (continues byte) then 1 else 0) }
 {
@@ -16,6 +17,7 @@ pub(crate) fn characters_at(utf8: bool, byte: u8) -> usize
 }
 
 // Reports whether a text begins with the ligature ffi or ffl.
+#[inline(always)]
 fn begins_with_ligature(text: &[u8]) -> bool
     ensures { result
         ≡ (begins_with text.now (0xEF ∷ 0xAC ∷ 0x83 ∷ []) || begins_with text.now (0xEF ∷ 0xAC ∷ 0x84 ∷ [])) }
@@ -24,6 +26,7 @@ fn begins_with_ligature(text: &[u8]) -> bool
 }
 
 // Returns the number of letters that a byte begins.
+#[inline(always)]
 pub(crate) fn letters_at(utf8: bool, text: &[u8], at: usize) -> usize
     requires { at < length text.now }
     ensures { result ≡ letters_at utf8 text.now at }
@@ -66,6 +69,7 @@ pub(crate) fn letters(utf8: bool, text: &[u8]) -> usize
 }
 
 // Returns the number of digits with which a text begins.
+#[inline(always)]
 pub(crate) fn digits_at_begin(text: &[u8]) -> usize
     ensures { result ≡ digits_at_begin text.now }
 {
@@ -77,6 +81,7 @@ pub(crate) fn digits_at_begin(text: &[u8]) -> usize
 }
 
 // Returns the number of digits with which a text ends.
+#[inline(always)]
 fn last_digits(text: &[u8]) -> usize
     ensures { result ≡ suffix_len is_ascii_digit text.now }
 {
@@ -88,6 +93,7 @@ fn last_digits(text: &[u8]) -> usize
 }
 
 // Returns the number of digits with which a word ends. Its first byte is not one of them.
+#[inline(always)]
 pub(crate) fn digits_at_end(word: &[u8]) -> usize
     ensures { result ≡ digits_at_end word.now }
 {

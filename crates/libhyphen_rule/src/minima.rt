@@ -22,6 +22,7 @@ fn is_below(utf8: bool, least: i32, count: usize, text: &[u8]) -> bool
 }
 
 // Reports whether letters are fewer than a minimum and some digits, which are no letters.
+#[inline(always)]
 fn is_few(letters: usize, least: i32, digits: usize) -> bool
     ensures { result ≡ is_below letters (least +ℤ pos digits) }
 {
@@ -104,6 +105,7 @@ fn change_behind<'d>(changes: &[Option<PlacedChange<'d>>], byte: usize) -> Optio
 
 // Takes away the place behind a byte: its digit is 0 then, and it has no change. The list of changes may end before the
 // place.
+#[inline(always)]
 fn take_place(digits: &mut [u8], changes: &mut [Option<PlacedChange<'_>>], byte: usize)
     requires { byte < length digits.old }
     ensures digits { digits.new ≡ set digits.old byte digit_zero }
@@ -121,6 +123,7 @@ fn take_place(digits: &mut [u8], changes: &mut [Option<PlacedChange<'_>>], byte:
 // for each byte of the word. The list of changes may be shorter: there are no changes behind its end. A place that goes
 // gets the digit 0, and no change. The count of letters never falls, so the first place that has enough ends the
 // search.
+#[inline(always)]
 pub(crate) fn take_left(
     utf8: bool,
     least: i32,
@@ -155,6 +158,7 @@ pub(crate) fn take_left(
 // `text` is the word with what follows it, up to the first byte 0. There is a digit for each byte of the word. The list
 // of changes may be shorter: there are no changes behind its end. A place that goes gets the digit 0, and no change.
 // The search goes from the end, and the first place that has enough ends it.
+#[inline(always)]
 pub(crate) fn take_right(
     utf8: bool,
     least: i32,

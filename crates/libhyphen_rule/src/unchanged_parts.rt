@@ -25,6 +25,7 @@ pub(crate) fn has_digit(word: &[u8]) -> bool
 
 // Takes away the places that are too near to the begin of a part, if it does not begin the word. Nothing is behind it
 // then.
+#[inline(always)]
 fn take_left_end(levels: BothLevels<'_>, asked: AskedText<'_>, digits: &mut [u8])
     requires behind { IsFalse asked.at_left → asked.behind.now ≡ [] }
     ensures digits { LeavesLeft levels.entry asked.entry digits.old digits.new }
@@ -42,6 +43,7 @@ fn take_left_end(levels: BothLevels<'_>, asked: AskedText<'_>, digits: &mut [u8]
 }
 
 // Takes away the places that are too near to the end of a part, if it does not end the word. Nothing is behind it then.
+#[inline(always)]
 fn take_right_end(levels: BothLevels<'_>, asked: AskedText<'_>, digits: &mut [u8])
     requires behind { IsFalse asked.at_right → asked.behind.now ≡ [] }
     requires length { length digits.old ≡ length asked.text.now }
@@ -64,6 +66,7 @@ fn take_right_end(levels: BothLevels<'_>, asked: AskedText<'_>, digits: &mut [u8
 // in the lists, where a pattern of the level below counts that may change letters.
 //
 // The first list is room to work in.
+#[inline(always)]
 fn unchanged_below(
     levels: BothLevels<'_>,
     asked: AskedText<'_>,
@@ -162,6 +165,7 @@ fn unchanged_in(
 // that may change letters. `counts` is whether a pattern of the level at the top may count.
 //
 // The first list is room to work in.
+#[inline(always)]
 fn read_word(
     levels: BothLevels<'_>,
     word: &[u8],
@@ -228,6 +232,7 @@ pub(crate) fn word_without_digits(
 // list, where a pattern counts that may change letters. The word has at most 64 bytes, and no digits. `behind` is what
 // follows it; `left` and `right` are the least numbers of letters in its parts. `counts` is whether a pattern of the
 // level at the top may count.
+#[inline(always)]
 pub(crate) fn read_short_word(
     dictionary: &LevelDictionary,
     left: i32,

@@ -145,6 +145,7 @@ pub(crate) fn is_ascii(word: &[u8]) -> bool
 }
 
 // Reports whether a byte begins a character of UTF-8.
+#[inline(always)]
 fn begins(byte: u8) -> bool
     ensures { result ≡ begins byte }
 {
@@ -152,6 +153,7 @@ fn begins(byte: u8) -> bool
 }
 
 // Reports whether a byte of a word is the last one of a character.
+#[inline(always)]
 fn is_last(word: &[u8], byte: usize) -> bool
     requires { byte < length word.now }
     ensures { result ≡ is_last word.now byte }
@@ -179,6 +181,7 @@ pub(crate) fn digits_of_characters(
 
 // Moves the digit behind the last byte of each character of a word in UTF-8 to the front of the list. Returns how many
 // there are. The rest of the list has anything then.
+#[inline(always)]
 pub(crate) fn keep_last_digits(word: &[u8], digits: &mut [u8]) -> usize
     requires { length digits.old ≡ length word.now }
     ensures digits { take result digits.new ≡ digits_of_characters word.now digits.old }
