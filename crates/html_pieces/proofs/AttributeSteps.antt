@@ -1,7 +1,7 @@
 -- One byte more of a tag whose attributes are read.
 use Rattle.std.proofs.Common.{◌≡◌, ℕ, ◌+◌, ◌-◌, ◌<◌, Bool, true, false, List, [], ◌∷◌, ◌++◌, length, drop, slice_range, get_or, refl, ap, sym, ◌∙◌, arith, IsTrue, if◌then◌else◌, append_assoc, length-append}
 use Rattle.std.specs.Option.{unwrap_or}
-use Rattle.html_pieces.specs.declared.bytes.Form.{Form}
+use Rattle.html_pieces.specs.declared.bytes.PageForm.{PageForm}
 use Rattle.html_pieces.specs.Pieces.{next}
 use Rattle.html_pieces.specs.Private.Parts.{EndsAt}
 use Rattle.html_pieces.specs.Tags.{Attribute, is_name, is_value, is_unquoted, attribute_name_after, attribute_value_after, ended, attributes_from, attributes_of}
@@ -47,15 +47,15 @@ value_ends tag value i false false true false lt e n = none_ends tag (i + 1)
 value_ends tag value i false was false unquoted lt e n = absurd (cc n)
 
 -- the result after i bytes
-pub record Read (form : Form) (tag : List ℕ) (found : List Attribute) (state : State) (name value : List ℕ) (i : ℕ) : Type 0 where
+pub record Read (form : PageForm) (tag : List ℕ) (found : List Attribute) (state : State) (name value : List ℕ) (i : ℕ) : Type 0 where
   pub told : found ++ attributes_from form state name value (drop i tag) ≡ attributes_of form tag
   pub name_at : IsTrue (is_name state) → EndsAt tag name i
   pub value_at : IsTrue (is_value state) → EndsAt tag value i
 
-pub read_first : (form : Form) (tag : List ℕ) → Read form tag [] TagOpen [] [] 1
+pub read_first : (form : PageForm) (tag : List ℕ) → Read form tag [] TagOpen [] [] 1
 read_first form tag = record { told = refl; name_at = λ h. absurd (cc h); value_at = λ h. absurd (cc h) }
 
-pub read_on : (form : Form) (tag : List ℕ) (found found' : List Attribute) (state after : State) (name value name' value' : List ℕ) (i : ℕ) → Read form tag found state name value i → i < length tag
+pub read_on : (form : PageForm) (tag : List ℕ) (found found' : List Attribute) (state after : State) (name value name' value' : List ℕ) (i : ℕ) → Read form tag found state name value i → i < length tag
     → after ≡ unwrap_or (next form false state [] (get_or tag i 0)) TagEnd → found' ≡ found ++ ended state after name value
     → name' ≡ attribute_name_after state after name (get_or tag i 0) → value' ≡ attribute_value_after state after value (get_or tag i 0)
     → Read form tag found' after name' value' (i + 1)

@@ -1,7 +1,7 @@
 -- One byte more of a comment.
 use Rattle.std.proofs.Common.{◌≡◌, ℕ, ◌==◌, ◌||◌, ◌&&◌, List, [], ◌∷◌, ◌++◌, reverse, refl, ap, sym, ◌∙◌, subst, Bool, true, false, codes, eqb-true}
-use Rattle.html_pieces.specs.declared.bytes.Form.{Form}
-use Rattle.html_pieces.specs.declared.bytes.Form.TheVariants.{Html, Xml}
+use Rattle.html_pieces.specs.declared.bytes.PageForm.{PageForm}
+use Rattle.html_pieces.specs.declared.bytes.PageForm.TheVariants.{Html, Xml}
 use Rattle.html_pieces.specs.Grammar.{begins_with, ends_in, EndsFirst, ends_markup}
 use Rattle.html_pieces.proofs.FirstEnds.{NoneEnds, none_more, ends_here, snoc_ends}
 
@@ -13,7 +13,7 @@ pub record LastBytes (body : List ℕ) (dash dashes own_dash own_dashes bang : B
   pub own_dashes_is : begins_with (codes "--") (reverse body) ≡ own_dashes
   pub bang_is : begins_with (codes "!--") (reverse body) ≡ bang
 
-abbrev pub comment_ends : Form → Bool → Bool → Bool → ℕ → Bool
+abbrev pub comment_ends : PageForm → Bool → Bool → Bool → ℕ → Bool
 comment_ends Html dashes own bang b = b == 62 && dashes || b == 62 && bang
 comment_ends Xml dashes own bang b = b == 62 && own
 
@@ -27,7 +27,7 @@ last_more {body} {dash} {dashes} {own_dash} {own_dashes} {bang} t b = record {
   bang_is = snoc_ends 33 (45 ∷ 45 ∷ []) body b ∙ ap (λ x. b == 33 && x) t.own_dashes_is;
 }
 
-pub ends_by_last : (form : Form) (foreign : Bool) {body : List ℕ} {dash dashes own_dash own_dashes bang : Bool} → LastBytes body dash dashes own_dash own_dashes bang → (b : ℕ)
+pub ends_by_last : (form : PageForm) (foreign : Bool) {body : List ℕ} {dash dashes own_dash own_dashes bang : Bool} → LastBytes body dash dashes own_dash own_dashes bang → (b : ℕ)
     → ends_markup form foreign (60 ∷ 33 ∷ 45 ∷ 45 ∷ (body ++ b ∷ [])) ≡ comment_ends form dashes own_dashes bang b
 ends_by_last Html foreign {body} {dash} {dashes} {own_dash} {own_dashes} {bang} t b =
     ap (λ x. x || ends_in (codes "--!>") (body ++ b ∷ [])) (snoc_ends 62 (45 ∷ 45 ∷ []) (45 ∷ 45 ∷ body) b ∙ ap (λ x. b == 62 && x) t.dashes_is)
@@ -46,7 +46,7 @@ last_at dash' dashes' own_dash' own_dashes' bang' t e f g h i = record {
 }
 
 -- a comment so far, which has not ended
-pub record CommentFront (form : Form) (foreign : Bool) (front : List ℕ) (dash dashes own_dash own_dashes bang : Bool) : Type 0 where
+pub record CommentFront (form : PageForm) (foreign : Bool) (front : List ℕ) (dash dashes own_dash own_dashes bang : Bool) : Type 0 where
   pub body : List ℕ
   pub whole : front ≡ 60 ∷ 33 ∷ 45 ∷ 45 ∷ body
   pub none : NoneEnds (ends_markup form foreign) front
@@ -55,16 +55,16 @@ pub record CommentFront (form : Form) (foreign : Bool) (front : List ℕ) (dash 
 whole_more : (front body : List ℕ) (b : ℕ) → front ≡ 60 ∷ 33 ∷ 45 ∷ 45 ∷ body → front ++ b ∷ [] ≡ 60 ∷ 33 ∷ 45 ∷ 45 ∷ (body ++ b ∷ [])
 whole_more front body b e = ap (λ xs. xs ++ b ∷ []) e
 
-ends_now : (form : Form) (foreign : Bool) (front : List ℕ) (dash dashes own_dash own_dashes bang : Bool) (c : CommentFront form foreign front dash dashes own_dash own_dashes bang) (b : ℕ)
+ends_now : (form : PageForm) (foreign : Bool) (front : List ℕ) (dash dashes own_dash own_dashes bang : Bool) (c : CommentFront form foreign front dash dashes own_dash own_dashes bang) (b : ℕ)
     → ends_markup form foreign (front ++ b ∷ []) ≡ comment_ends form dashes own_dashes bang b
 ends_now form foreign front dash dashes own_dash own_dashes bang c b = ap (ends_markup form foreign) (whole_more front c.body b c.whole) ∙ ends_by_last form foreign c.last b
 
-no_end : (form : Form) (dashes own bang : Bool) → comment_ends form dashes own bang 45 ≡ false
+no_end : (form : PageForm) (dashes own bang : Bool) → comment_ends form dashes own bang 45 ≡ false
 no_end Html dashes own bang = refl
 no_end Xml dashes own bang = refl
 
 -- a byte that is a dash
-pub dash_more : (form : Form) (foreign : Bool) (front : List ℕ) (dash dashes own_dash own_dashes bang : Bool) (b : ℕ) → CommentFront form foreign front dash dashes own_dash own_dashes bang → b == 45 ≡ true
+pub dash_more : (form : PageForm) (foreign : Bool) (front : List ℕ) (dash dashes own_dash own_dashes bang : Bool) (b : ℕ) → CommentFront form foreign front dash dashes own_dash own_dashes bang → b == 45 ≡ true
     → CommentFront form foreign (front ++ b ∷ []) true dash true own_dash false
 dash_more form foreign front dash dashes own_dash own_dashes bang b c e =
     let is : b ≡ 45 = eqb-true b 45 e in
@@ -76,7 +76,7 @@ dash_more form foreign front dash dashes own_dash own_dashes bang b c e =
     })
 
 -- a byte that is no dash, and ends nothing
-pub other_more : (form : Form) (foreign : Bool) (front : List ℕ) (dash dashes own_dash own_dashes bang : Bool) (b : ℕ) → CommentFront form foreign front dash dashes own_dash own_dashes bang → b == 45 ≡ false
+pub other_more : (form : PageForm) (foreign : Bool) (front : List ℕ) (dash dashes own_dash own_dashes bang : Bool) (b : ℕ) → CommentFront form foreign front dash dashes own_dash own_dashes bang → b == 45 ≡ false
     → comment_ends form dashes own_dashes bang b ≡ false → CommentFront form foreign (front ++ b ∷ []) false false false false (b == 33 && own_dashes)
 other_more form foreign front dash dashes own_dash own_dashes bang b c e n = record {
   body = c.body ++ b ∷ [];
@@ -86,7 +86,7 @@ other_more form foreign front dash dashes own_dash own_dashes bang b c e n = rec
 }
 
 -- a byte that ends it
-pub comment_done : (form : Form) (foreign : Bool) (front : List ℕ) (dash dashes own_dash own_dashes bang : Bool) (b : ℕ) (rest : List ℕ) → CommentFront form foreign front dash dashes own_dash own_dashes bang
+pub comment_done : (form : PageForm) (foreign : Bool) (front : List ℕ) (dash dashes own_dash own_dashes bang : Bool) (b : ℕ) (rest : List ℕ) → CommentFront form foreign front dash dashes own_dash own_dashes bang
     → comment_ends form dashes own_dashes bang b ≡ true → EndsFirst (ends_markup form foreign) (front ++ b ∷ []) rest
 comment_done form foreign front dash dashes own_dash own_dashes bang b rest c e =
     ends_here (ends_markup form foreign) front b rest c.none (ends_now form foreign front dash dashes own_dash own_dashes bang c b ∙ e)

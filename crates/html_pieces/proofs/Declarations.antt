@@ -3,10 +3,10 @@ use Rattle.std.proofs.Common.{◌≡◌, ℕ, ◌==◌, ◌||◌, ◌&&◌, List
 use Rattle.std.proofs.lemmas.Bool.Decides.{Decides-eqb, nat_tests}
 use Rattle.std.proofs.lemmas.Slice.Eq.{starts_is}
 use Rattle.std.specs.List.{starts_with}
-use Rattle.html_pieces.specs.declared.bytes.Form.{Form}
-use Rattle.html_pieces.specs.declared.bytes.Form.TheVariants.{Html, Xml}
+use Rattle.html_pieces.specs.declared.bytes.PageForm.{PageForm}
+use Rattle.html_pieces.specs.declared.bytes.PageForm.TheVariants.{Html, Xml}
 use Rattle.html_pieces.specs.declared.tokenizer.State.TheVariants.{TagOpen, MarkupEnd, BogusComment, CdataSection, DoctypeSubset, ProcessingInstruction, ProcessingInstructionMark}
-use Rattle.html_pieces.specs.declared.tokenizer.Kind.TheVariants.{Text, Other}
+use Rattle.html_pieces.specs.declared.tokenizer.PieceKind.TheVariants.{Text, Other}
 use Rattle.std.specs.Cmp.Lexicographic.{pointwise}
 use Rattle.html_pieces.specs.Bytes.{is_white_space, is_continuation}
 use Rattle.html_pieces.specs.Forms.{begins_with_order_mark, begins_with_declaration, has_declaration}
@@ -80,7 +80,7 @@ xml_stays false true e = absurd (cc e)
 xml_stays false false e = refl
 
 -- the piece that begins with a declaration
-declared_first : (form : Form) (w : ℕ) (more : List ℕ) → is_white_space w ≡ true → DeclaresFirst (pieces_from form 0 TagOpen (60 ∷ []) (63 ∷ 120 ∷ 109 ∷ 108 ∷ w ∷ more))
+declared_first : (form : PageForm) (w : ℕ) (more : List ℕ) → is_white_space w ≡ true → DeclaresFirst (pieces_from form 0 TagOpen (60 ∷ []) (63 ∷ 120 ∷ 109 ∷ 108 ∷ w ∷ more))
 unfolding next
 declared_first Html w more white =
     let front = 60 ∷ 63 ∷ 120 ∷ 109 ∷ 108 ∷ [] in
@@ -91,15 +91,15 @@ declared_first Xml w more white =
     let on = xml_stays (is_continuation w) (w == 63) (not_question w white) in
     subst DeclaresFirst (sym (pieces_on Xml 0 ProcessingInstruction ProcessingInstruction front w more on)) (declares_first w _ white (first_other Xml ProcessingInstruction (declaration w []) more refl))
 
-declares_plain : (form : Form) (w : ℕ) (more : List ℕ) → is_white_space w ≡ true → Declares (pieces_of form (declaration w more))
+declares_plain : (form : PageForm) (w : ℕ) (more : List ℕ) → is_white_space w ≡ true → Declares (pieces_of form (declaration w more))
 unfolding begin
 declares_plain form w more white = as_first (pieces_from form 0 TagOpen (60 ∷ []) (63 ∷ 120 ∷ 109 ∷ 108 ∷ w ∷ more)) (declared_first form w more white)
 
-declares_marked : (form : Form) (w : ℕ) (more : List ℕ) → is_white_space w ≡ true → Declares (pieces_of form (0xEF ∷ 0xBB ∷ 0xBF ∷ declaration w more))
+declares_marked : (form : PageForm) (w : ℕ) (more : List ℕ) → is_white_space w ≡ true → Declares (pieces_of form (0xEF ∷ 0xBB ∷ 0xBF ∷ declaration w more))
 unfolding next begin content_after depth_after kind_of
 declares_marked form w more white = inr (record { kind = refl; bytes = refl; second = declared_first form w more white })
 
-declares_cases : (form : Form) (page : List ℕ) (c : Bool) → begins_with_order_mark page ≡ c → has_declaration page ≡ true → Declares (pieces_of form page)
+declares_cases : (form : PageForm) (page : List ℕ) (c : Bool) → begins_with_order_mark page ≡ c → has_declaration page ≡ true → Declares (pieces_of form page)
 declares_cases form page true m e =
     let tells = starts_is {E = nat_eq} Decides-eqb page (0xEF ∷ 0xBB ∷ 0xBF ∷ []) (begins_with_order_mark page) refl in
     let s = shape (drop 3 page) (sym (ap (λ c. begins_with_declaration (if c then drop 3 page else page)) m) ∙ e) in
@@ -110,7 +110,7 @@ declares_cases form page false m e =
     subst (λ p. Declares (pieces_of form p)) (sym s.is) (declares_plain form s.w s.more s.white)
 
 -- The pieces of a page with a declaration say so.
-pub declares_of : (form : Form) (page : List ℕ) → has_declaration page ≡ true → Declares (pieces_of form page)
+pub declares_of : (form : PageForm) (page : List ℕ) → has_declaration page ≡ true → Declares (pieces_of form page)
 declares_of form page e = declares_cases form page (begins_with_order_mark page) refl e
 
 -- ---- and the other way round

@@ -7,10 +7,10 @@ use Rattle.std.specs.Option.{option_map_or}
 use Rattle.std.specs.Str.{IsUtf8}
 use Rattle.std.specs.List.{ends_with}
 use Rattle.std.specs.Cmp.Lexicographic.{pointwise}
-use Rattle.html_pieces.specs.declared.bytes.Form.{Form}
+use Rattle.html_pieces.specs.declared.bytes.PageForm.{PageForm}
 use Rattle.html_pieces.specs.declared.tokenizer.State.{State}
 use Rattle.html_pieces.specs.declared.tokenizer.State.TheVariants.{Data, TagName, BeforeAttributeName, AttributeName, AfterAttributeName, BeforeAttributeValue, DoubleQuotedValue, SingleQuotedValue, UnquotedValue, AfterQuotedValue, SelfClosingTag, TagEnd, EmptyTagEnd, BogusComment, DoctypeSubset, DoctypeSubsetEnd, ProcessingInstruction, ProcessingInstructionMark, Comment, CommentEndDash, CdataSection, CdataSectionBracket, MarkupEnd, Raw, ScriptEscaped, ScriptDoubleEscaped, Plaintext}
-use Rattle.html_pieces.specs.declared.tokenizer.Kind.TheVariants.{StartTag, EmptyTag, EndTag}
+use Rattle.html_pieces.specs.declared.tokenizer.PieceKind.TheVariants.{StartTag, EmptyTag, EndTag}
 use Rattle.html_pieces.specs.declared.tokenizer.RawElement.TheVariants.{Script}
 use Rattle.html_pieces.specs.Bytes.{is_continuation, is_white_space, ends_name, is_same_name, is_xml}
 use Rattle.html_pieces.specs.Names.{is_end_tag, name_of, raw_end_tag, is_foreign_root}
@@ -35,7 +35,7 @@ high_no_space b h = grind (arith, nat_tests)
 high_no_name_end : (b : ℕ) → is_continuation b ≡ true → ends_name b ≡ false
 high_no_name_end b h = grind (arith, nat_tests)
 
-next_high : (form : Form) (foreign : Bool) (state : State) (front : List ℕ) (b : ℕ) → is_ascii state ≡ false → is_continuation b ≡ true → next form foreign state front b ≡ Some state
+next_high : (form : PageForm) (foreign : Bool) (state : State) (front : List ℕ) (b : ℕ) → is_ascii state ≡ false → is_continuation b ≡ true → next form foreign state front b ≡ Some state
 unfolding next in_raw in_escaped in_double_escaped
 next_high form foreign Data front b a h = past_if (b == 60 || b == 38) None (Some Data) (Some Data) (no_continuation b h) refl
 next_high form foreign TagName front b a h =
@@ -88,13 +88,13 @@ no_continuation_after f last b bs u lt =
 absurd_if : {A : Type 0} → true ≡ false → A
 absurd_if e = cc
 
-after_cases : (form : Form) (foreign : Bool) (state : State) (front : List ℕ) (b last : ℕ) (a c : Bool) → is_ascii state ≡ a → is_continuation b ≡ c → (is_ascii state ≡ true → last < 128) → (last < 128 → is_continuation b ≡ false)
+after_cases : (form : PageForm) (foreign : Bool) (state : State) (front : List ℕ) (b last : ℕ) (a c : Bool) → is_ascii state ≡ a → is_continuation b ≡ c → (is_ascii state ≡ true → last < 128) → (last < 128 → is_continuation b ≡ false)
     → (if c then Some state else next form foreign state front b) ≡ next form foreign state front b
 after_cases form foreign state front b last a false e f s n = refl
 after_cases form foreign state front b last true true e f s n = absurd_if (sym f ∙ n (s e))
 after_cases form foreign state front b last false true e f s n = sym (next_high form foreign state front b e f)
 
-after_is_next : (form : Form) (foreign : Bool) (state : State) (front : List ℕ) (b last : ℕ) → (is_ascii state ≡ true → last < 128) → (last < 128 → is_continuation b ≡ false)
+after_is_next : (form : PageForm) (foreign : Bool) (state : State) (front : List ℕ) (b last : ℕ) → (is_ascii state ≡ true → last < 128) → (last < 128 → is_continuation b ≡ false)
     → state_after form foreign state front b ≡ next form foreign state front b
 after_is_next form foreign state front b last s n =
     after_cases form foreign state front b last (is_ascii state) (is_continuation b) refl refl s n
@@ -119,7 +119,7 @@ depth_same n TagEnd front = tag_depth n front (is_end_tag front) (is_foreign_roo
 depth_same n EmptyTagEnd front = empty_depth n front (is_end_tag front) (is_foreign_root (name_of front)) refl refl
 depth_same n _ front = refl
 
-grammar_cases : (form : Form) (depth : ℕ) (before : List ℕ) (within state : State) (front : List ℕ) (b : ℕ) (bs : List ℕ) (o : Option State) → state_after form (nat_lt 0 depth) state front b ≡ o → IsUtf8 (front ++ b ∷ bs) → To form (nat_lt 0 depth) before within state front b o
+grammar_cases : (form : PageForm) (depth : ℕ) (before : List ℕ) (within state : State) (front : List ℕ) (b : ℕ) (bs : List ℕ) (o : Option State) → state_after form (nat_lt 0 depth) state front b ≡ o → IsUtf8 (front ++ b ∷ bs) → To form (nat_lt 0 depth) before within state front b o
     → ((after : State) → Stands form (nat_lt 0 depth) before within after (front ++ b ∷ []) → (is_ascii after ≡ true → b < 128) → AreInGrammar form depth before within (pieces_from form depth after (front ++ b ∷ []) bs))
     → (IsUtf8 (b ∷ bs) → Starts form (nat_lt 0 (depth_after depth state front)) (since_tag before (kind_of state front) front) (content_by form (nat_lt 0 depth) within (kind_of state front) front) (content_after form (nat_lt 0 depth) state front) b
     → AreInGrammar form (depth_after depth state front) (since_tag before (kind_of state front) front) (content_by form (nat_lt 0 depth) within (kind_of state front) front) (after_piece form depth state front b bs))
@@ -133,7 +133,7 @@ grammar_cases form depth before within state front b bs None e u t on anew = (
       (t.is.1 (nat_lt 0 (depth_after depth state front)))),
 )
 
-grammar_from : (form : Form) (depth : ℕ) (before : List ℕ) (within state : State) (f : List ℕ) (last : ℕ) (bs : List ℕ) → IsUtf8 (f ++ last ∷ bs) → Stands form (nat_lt 0 depth) before within state (f ++ last ∷ []) → (is_ascii state ≡ true → last < 128)
+grammar_from : (form : PageForm) (depth : ℕ) (before : List ℕ) (within state : State) (f : List ℕ) (last : ℕ) (bs : List ℕ) → IsUtf8 (f ++ last ∷ bs) → Stands form (nat_lt 0 depth) before within state (f ++ last ∷ []) → (is_ascii state ≡ true → last < 128)
     → AreInGrammar form depth before within (pieces_from form depth state (f ++ last ∷ []) bs)
 grammar_from form depth before within state f last [] u s a = (cut form (nat_lt 0 depth) before within state (f ++ last ∷ []) s, tt)
 grammar_from form depth before within state f last (b ∷ bs) u s a =
@@ -146,7 +146,7 @@ grammar_from form depth before within state f last (b ∷ bs) u s a =
     (λ after t l. grammar_from form depth before within after front b bs page t l)
     (λ v t. grammar_from form (depth_after depth state front) (since_tag before (kind_of state front) front) (content_by form (nat_lt 0 depth) within (kind_of state front) front) (begin (content_after form (nat_lt 0 depth) state front) b) [] b bs v t.0 t.1)
 
-pub grammar_of_page : (form : Form) (page : List ℕ) → IsUtf8 page → AreInGrammar form 0 [] Data (pieces_of form page)
+pub grammar_of_page : (form : PageForm) (page : List ℕ) → IsUtf8 page → AreInGrammar form 0 [] Data (pieces_of form page)
 grammar_of_page form [] u = tt
 grammar_of_page form (b ∷ bs) u =
     let t = data_starts form false [] Data b refl in

@@ -7,11 +7,11 @@ use Rattle.std.specs.Char.{to_ascii_lowercase}
 use Rattle.std.specs.Option.{option_map_or}
 use Rattle.std.specs.List.{list_any, ends_with}
 use Rattle.std.specs.Cmp.Lexicographic.{pointwise}
-use Rattle.html_pieces.specs.declared.bytes.Form.{Form}
-use Rattle.html_pieces.specs.declared.bytes.Form.TheVariants.{Html, Xml}
+use Rattle.html_pieces.specs.declared.bytes.PageForm.{PageForm}
+use Rattle.html_pieces.specs.declared.bytes.PageForm.TheVariants.{Html, Xml}
 use Rattle.html_pieces.specs.declared.tokenizer.State.{State}
 use Rattle.html_pieces.specs.declared.tokenizer.State.TheVariants.{Data, CharacterReference, ReferenceName, ReferenceEnd, TagOpen, EndTagOpen, TagName, BeforeAttributeName, AttributeName, AfterAttributeName, BeforeAttributeValue, DoubleQuotedValue, SingleQuotedValue, UnquotedValue, AfterQuotedValue, SelfClosingTag, TagEnd, EmptyTagEnd, MarkupDeclarationOpen, MarkupDeclarationDash, BogusComment, DoctypeSubset, DoctypeSubsetEnd, ProcessingInstruction, ProcessingInstructionMark, CommentStart, CommentStartDash, Comment, CommentEndDash, CommentEnd, CommentEndBang, CdataSection, CdataSectionBracket, CdataSectionEnd, MarkupEnd, Raw, ScriptEscaped, ScriptDoubleEscaped, Plaintext}
-use Rattle.html_pieces.specs.declared.tokenizer.Kind.TheVariants.{StartTag, EmptyTag, EndTag}
+use Rattle.html_pieces.specs.declared.tokenizer.PieceKind.TheVariants.{StartTag, EmptyTag, EndTag}
 use Rattle.html_pieces.specs.declared.tokenizer.RawElement.{RawElement}
 use Rattle.html_pieces.specs.declared.tokenizer.RawElement.TheVariants.{Script, Style, Textarea, Title, Xmp, Iframe, Noembed, Noframes}
 use Rattle.html_pieces.specs.Bytes.{is_white_space, is_alphanumeric, is_name_start, ends_name, is_same_name, is_xml}
@@ -32,7 +32,7 @@ use Rattle.html_pieces.proofs.Comments.{CommentFront, dash_more, other_more, com
 abbrev pub AreQuoted : List ℕ → Type 0
 AreQuoted front = (n : ℕ) → n < length front → get_or front n 0 ≡ 62 → IsInQuotes (take n front)
 
-pub record TagFront (form : Form) (within : State) (front : List ℕ) : Type 0 where
+pub record TagFront (form : PageForm) (within : State) (front : List ℕ) : Type 0 where
   pub begins : BeginsTag form within front
   pub quoted : AreQuoted front
 
@@ -57,12 +57,12 @@ tag_two false y z w e = cc
 absurd_bool : {A : Type 0} → false ≡ true → A
 absurd_bool e = cc
 
-tag_snoc : (form : Form) (b : ℕ) (front : List ℕ) (c : ℕ) → begins_tag form (b ∷ front) ≡ true → begins_tag form (b ∷ front ++ c ∷ []) ≡ true
+tag_snoc : (form : PageForm) (b : ℕ) (front : List ℕ) (c : ℕ) → begins_tag form (b ∷ front) ≡ true → begins_tag form (b ∷ front ++ c ∷ []) ≡ true
 tag_snoc form b [] c e = absurd_bool (and_right (b == 60) false e)
 tag_snoc form b (x ∷ []) c e = tag_two (b == 60) (is_name_start form x) (x == 47) (is_name_start form c) e
 tag_snoc form b (x ∷ y ∷ front) c e = e
 
-tag_more : (form : Form) (front : List ℕ) (c : ℕ) → begins_tag form front ≡ true → begins_tag form (front ++ c ∷ []) ≡ true
+tag_more : (form : PageForm) (front : List ℕ) (c : ℕ) → begins_tag form front ≡ true → begins_tag form (front ++ c ∷ []) ≡ true
 tag_more form [] c e = cc
 tag_more form (b ∷ front) c e = tag_snoc form b front c e
 
@@ -74,23 +74,23 @@ end_tag_more element front c (n, lt, e) = (
       ∙ ap (λ b. ends_tag (raw_end_tag element) (take n front) b) (get_snoc front c n lt) ∙ e,
 )
 
-begins_more : (form : Form) (within : State) (front : List ℕ) (c : ℕ) → BeginsTag form within front → BeginsTag form within (front ++ c ∷ [])
+begins_more : (form : PageForm) (within : State) (front : List ℕ) (c : ℕ) → BeginsTag form within front → BeginsTag form within (front ++ c ∷ [])
 begins_more form Data front c e = tag_more form front c e
 begins_more form (Raw element) front c e = end_tag_more element front c e
 begins_more form within front c e = absurd e
 
-tag_front : {form : Form} {within : State} {front : List ℕ} → TagFront form within front → (b : ℕ) → (b ≡ 62 → IsInQuotes front) → TagFront form within (front ++ b ∷ [])
+tag_front : {form : PageForm} {within : State} {front : List ℕ} → TagFront form within front → (b : ℕ) → (b ≡ 62 → IsInQuotes front) → TagFront form within (front ++ b ∷ [])
 tag_front {form} {within} {front} t b here = record { begins = begins_more form within front b t.begins; quoted = quoted_more front b t.quoted here }
 
 -- a tag that ended
-pub record TagDone (form : Form) (within : State) (bytes : List ℕ) : Type 0 where
+pub record TagDone (form : PageForm) (within : State) (bytes : List ℕ) : Type 0 where
   pub front : List ℕ
   pub whole : bytes ≡ front ++ 62 ∷ []
   pub begins : BeginsTag form within bytes
   pub quoted : AreQuoted front
   pub parts : (parts : List TagPart) × HasParts front parts
 
-tag_is : (form : Form) (within : State) (bytes : List ℕ) → TagDone form within bytes → IsTag form within bytes
+tag_is : (form : PageForm) (within : State) (bytes : List ℕ) → TagDone form within bytes → IsTag form within bytes
 tag_is form within bytes t = record {
   begins = t.begins;
   ends = ap (ends_in (codes ">")) t.whole ∙ snoc_ends 62 [] t.front 62;
@@ -104,7 +104,7 @@ tag_is form within bytes t = record {
 
 -- ---- what the states say
 
-abbrev pub NoTag : Form → List ℕ → Type 0
+abbrev pub NoTag : PageForm → List ℕ → Type 0
 NoTag form front = (more : List ℕ) → begins_tag form (front ++ more) ≡ false
 
 abbrev pub NoComment : List ℕ → Type 0
@@ -120,7 +120,7 @@ section_not true y z w true h e n =
     ]
 
 -- a declaration so far, that has not ended
-pub record Declared (form : Form) (foreign : Bool) (front : List ℕ) : Type 0 where
+pub record Declared (form : PageForm) (foreign : Bool) (front : List ℕ) : Type 0 where
   pub opens : opens_markup front ≡ true
   pub no_tag : NoTag form front
   pub no_comment : NoComment front
@@ -131,7 +131,7 @@ pub record Declared (form : Form) (foreign : Bool) (front : List ℕ) : Type 0 w
   pub none : NoneEnds (ends_markup form foreign) front
 
 -- a document type with a part in brackets, that has not ended
-pub record WithPart (form : Form) (foreign : Bool) (front : List ℕ) (closed : Bool) : Type 0 where
+pub record WithPart (form : PageForm) (foreign : Bool) (front : List ℕ) (closed : Bool) : Type 0 where
   pub opens : opens_markup front ≡ true
   pub no_tag : NoTag form front
   pub no_comment : NoComment front
@@ -143,7 +143,7 @@ pub record WithPart (form : Form) (foreign : Bool) (front : List ℕ) (closed : 
   pub closed_is : closes_part (reverse front) ≡ closed
 
 -- an instruction or a section so far, after this beginning, that has not ended
-pub record Sectioned (form : Form) (foreign : Bool) (start front : List ℕ) (last last_two : Bool) : Type 0 where
+pub record Sectioned (form : PageForm) (foreign : Bool) (start front : List ℕ) (last last_two : Bool) : Type 0 where
   pub body : List ℕ
   pub whole : front ≡ start ++ body
   pub taken : is_xml form || foreign ≡ true
@@ -151,7 +151,7 @@ pub record Sectioned (form : Form) (foreign : Bool) (start front : List ℕ) (la
   pub last_is : begins_with (codes "]") (reverse front) ≡ last
   pub last_two_is : begins_with (codes "]]") (reverse front) ≡ last_two
 
-pub record Instructed (form : Form) (foreign : Bool) (front : List ℕ) (mark : Bool) : Type 0 where
+pub record Instructed (form : PageForm) (foreign : Bool) (front : List ℕ) (mark : Bool) : Type 0 where
   pub body : List ℕ
   pub whole : front ≡ 60 ∷ 63 ∷ body
   pub xml : form ≡ Xml
@@ -159,11 +159,11 @@ pub record Instructed (form : Form) (foreign : Bool) (front : List ℕ) (mark : 
   pub mark_is : begins_with (codes "?") (reverse body) ≡ mark
 
 -- markup that has ended
-pub record MarkupDone (form : Form) (foreign : Bool) (bytes : List ℕ) : Type 0 where
+pub record MarkupDone (form : PageForm) (foreign : Bool) (bytes : List ℕ) : Type 0 where
   pub no_tag : begins_tag form bytes ≡ false
   pub is : (rest : List ℕ) → IsMarkup form foreign bytes rest
 
-abbrev pub InComment : Form → Bool → List ℕ → Type 0
+abbrev pub InComment : PageForm → Bool → List ℕ → Type 0
 InComment form foreign front = (bang : Bool) × CommentFront form foreign front false false false false bang × (not (is_xml form) && bang ≡ false)
 
 -- a part of a raw text
@@ -188,7 +188,7 @@ pub record QuotedFront (front : List ℕ) (quote : ℕ) : Type 0 where
   pub white : list_any (λ b. not (is_white_space b)) spaces ≡ false
   pub unclosed : list_any (λ b. b == quote) value ≡ false
 
-abbrev pub Stands : Form → Bool → List ℕ → State → State → List ℕ → Type 0
+abbrev pub Stands : PageForm → Bool → List ℕ → State → State → List ℕ → Type 0
 Stands form foreign before within Data front = (within ≡ Data) × IsPlain front
 Stands form foreign before within CharacterReference front = (within ≡ Data) × (front ≡ codes "&")
 Stands form foreign before within ReferenceName front = (within ≡ Data) × (b : ℕ) × (name : List ℕ) × (front ≡ 38 ∷ b ∷ name) × (is_reference_name (b ∷ name) ≡ true)
@@ -276,30 +276,30 @@ snoc_is front start b k e h = ap (λ xs. xs ++ b ∷ []) e ∙ ap (λ x. start +
 
 -- ---- one byte more
 
-abbrev pub Starts : Form → Bool → List ℕ → State → State → ℕ → Type 0
+abbrev pub Starts : PageForm → Bool → List ℕ → State → State → ℕ → Type 0
 Starts form foreign before within state b = Stands form foreign before within (begin state b) (b ∷ []) × (is_ascii (begin state b) ≡ true → b < 128)
 
-abbrev pub Goes : Form → Bool → List ℕ → State → State → List ℕ → ℕ → Option State → Type 0
+abbrev pub Goes : PageForm → Bool → List ℕ → State → State → List ℕ → ℕ → Option State → Type 0
 Goes form foreign before within state front b None = ((rest : List ℕ) → IsInGrammar form foreign before within (kind_of state front) front (b ∷ rest))
     × ((next_foreign : Bool) → Starts form next_foreign (since_tag before (kind_of state front) front) (content_by form foreign within (kind_of state front) front) (content_after form foreign state front) b)
 Goes form foreign before within state front b (Some after) = Stands form foreign before within after (front ++ b ∷ []) × (is_ascii after ≡ true → b < 128)
 
-pub record To (form : Form) (foreign : Bool) (before : List ℕ) (within state : State) (front : List ℕ) (b : ℕ) (o : Option State) : Type 0 where
+pub record To (form : PageForm) (foreign : Bool) (before : List ℕ) (within state : State) (front : List ℕ) (b : ℕ) (o : Option State) : Type 0 where
   pub is : Goes form foreign before within state front b o
 
-to_if : {form : Form} {foreign : Bool} {before : List ℕ} {within state : State} {front : List ℕ} {b : ℕ} (c : Bool) (x y : Option State)
+to_if : {form : PageForm} {foreign : Bool} {before : List ℕ} {within state : State} {front : List ℕ} {b : ℕ} (c : Bool) (x y : Option State)
     → (c ≡ true → To form foreign before within state front b x) → (c ≡ false → To form foreign before within state front b y) → To form foreign before within state front b (if c then x else y)
 to_if true x y p q = p refl
 to_if false x y p q = q refl
 
-some_if : {form : Form} {foreign : Bool} {before : List ℕ} {within state : State} {front : List ℕ} {b : ℕ} (c : Bool) (x y : State)
+some_if : {form : PageForm} {foreign : Bool} {before : List ℕ} {within state : State} {front : List ℕ} {b : ℕ} (c : Bool) (x y : State)
     → (c ≡ true → To form foreign before within state front b (Some x)) → (c ≡ false → To form foreign before within state front b (Some y)) → To form foreign before within state front b (Some (if c then x else y))
 some_if true x y p q = p refl
 some_if false x y p q = q refl
 
 -- ---- tags
 
-tag_ended : (form : Form) (within : State) (front : List ℕ) (b : ℕ) → BeginsTag form within (front ++ b ∷ []) → AreQuoted front → (parts : List TagPart) → HasParts front parts → b == 62 ≡ true → TagDone form within (front ++ b ∷ [])
+tag_ended : (form : PageForm) (within : State) (front : List ℕ) (b : ℕ) → BeginsTag form within (front ++ b ∷ []) → AreQuoted front → (parts : List TagPart) → HasParts front parts → b == 62 ≡ true → TagDone form within (front ++ b ∷ [])
 tag_ended form within front b begins quoted parts h e = record {
   front = front;
   whole = ap (λ x. front ++ x ∷ []) (eqb-true b 62 e);
@@ -308,7 +308,7 @@ tag_ended form within front b begins quoted parts h e = record {
   parts = (parts, h);
 }
 
-tag_to : (form : Form) (foreign : Bool) (before : List ℕ) (within state : State) (front : List ℕ) (b : ℕ) (other : State) → BeginsTag form within (front ++ b ∷ []) → AreQuoted front
+tag_to : (form : PageForm) (foreign : Bool) (before : List ℕ) (within state : State) (front : List ℕ) (b : ℕ) (other : State) → BeginsTag form within (front ++ b ∷ []) → AreQuoted front
     → (parts : List TagPart) → HasParts front parts → may_follow (Gap b) parts ≡ true
     → (TagFront form within (front ++ b ∷ []) → ends_name b ≡ false → To form foreign before within state front b (Some other)) → To form foreign before within state front b (Some (in_tag b other))
 tag_to form foreign before within state front b other begins quoted parts h follows goes =
@@ -329,7 +329,7 @@ tag_to form foreign before within state front b other begins quoted parts h foll
     (λ e. record { is = (tag_ended form within front b begins quoted parts h e, λ _. is_byte b 62 e (omega arith)) })
     (λ e. goes (record { begins = begins; quoted = quoted_more front b quoted (no_end b e) }) (no_name_end b w s e))))
 
-attribute_to : (form : Form) (foreign : Bool) (before : List ℕ) (within state : State) (front : List ℕ) (b n : ℕ) (ns spaces : List ℕ) (ps : List TagPart) → TagFront form within front → HasParts front (Name n ns spaces ∷ ps)
+attribute_to : (form : PageForm) (foreign : Bool) (before : List ℕ) (within state : State) (front : List ℕ) (b n : ℕ) (ns spaces : List ℕ) (ps : List TagPart) → TagFront form within front → HasParts front (Name n ns spaces ∷ ps)
     → (is_white_space b ≡ true → PastName (front ++ b ∷ [])) → (ends_name b ≡ false → b == 61 ≡ false → InName (front ++ b ∷ []))
     → To form foreign before within state front b (Some (in_attribute b))
 attribute_to form foreign before within state front b n ns spaces ps t h spaced more =
@@ -358,15 +358,15 @@ attribute_to form foreign before within state front b n ns spaces ps t h spaced 
     })
     (λ q. record { is = ((tag_front t b (no_end b x), more (no_name_end b w s x) q), absurd_bool) }))))
 
-in_name_to : (form : Form) (foreign : Bool) (before : List ℕ) (within state : State) (front : List ℕ) (b : ℕ) → TagFront form within front → InName front → To form foreign before within state front b (Some (in_attribute b))
+in_name_to : (form : PageForm) (foreign : Bool) (before : List ℕ) (within state : State) (front : List ℕ) (b : ℕ) → TagFront form within front → InName front → To form foreign before within state front b (Some (in_attribute b))
 in_name_to form foreign before within state front b t (n, ns, ps, h) =
     attribute_to form foreign before within state front b n ns [] ps t h (in_name_spaced (n, ns, ps, h) b) (in_name_more (n, ns, ps, h) b)
 
-past_name_to : (form : Form) (foreign : Bool) (before : List ℕ) (within state : State) (front : List ℕ) (b : ℕ) → TagFront form within front → PastName front → To form foreign before within state front b (Some (in_attribute b))
+past_name_to : (form : PageForm) (foreign : Bool) (before : List ℕ) (within state : State) (front : List ℕ) (b : ℕ) → TagFront form within front → PastName front → To form foreign before within state front b (Some (in_attribute b))
 past_name_to form foreign before within state front b t (n, ns, s, spaces, ps, h) =
     attribute_to form foreign before within state front b n ns (s ∷ spaces) ps t h (past_name_spaced (n, ns, s, spaces, ps, h) b) (past_name_more (n, ns, s, spaces, ps, h) b)
 
-unquoted_to : (form : Form) (foreign : Bool) (before : List ℕ) (within state : State) (front : List ℕ) (b : ℕ) → TagFront form within front → InValue front → To form foreign before within state front b (Some (in_unquoted_value b))
+unquoted_to : (form : PageForm) (foreign : Bool) (before : List ℕ) (within state : State) (front : List ℕ) (b : ℕ) → TagFront form within front → InValue front → To form foreign before within state front b (Some (in_unquoted_value b))
 unquoted_to form foreign before within state front b t (v, vs, ps, h) =
     some_if (is_white_space b) BeforeAttributeName (if b == 62 then TagEnd else UnquotedValue)
     (λ e. record { is = ((tag_front t b (white_no_end b e), gap_after h b (gap_part b e) refl), λ _. white_below b e) })
@@ -384,7 +384,7 @@ value_opens front v b k e = record {
   unclosed = refl;
 }
 
-value_to : (form : Form) (foreign : Bool) (before : List ℕ) (within state : State) (front : List ℕ) (b : ℕ) → TagFront form within front → ValueFront front → PastEquals front → To form foreign before within state front b (Some (before_value b))
+value_to : (form : PageForm) (foreign : Bool) (before : List ℕ) (within state : State) (front : List ℕ) (b : ℕ) → TagFront form within front → ValueFront front → PastEquals front → To form foreign before within state front b (Some (before_value b))
 value_to form foreign before within state front b t v (spaces, ps, h) =
     some_if (is_white_space b) BeforeAttributeValue (if b == 34 then DoubleQuotedValue else if b == 39 then SingleQuotedValue else if b == 62 then TagEnd else UnquotedValue)
     (λ e. record {
@@ -506,24 +506,24 @@ no_start_of_section : (front : List ℕ) → has_bracket front ≡ true → (c :
 no_start_of_section front e true h = absurd_bool (sym (ap has_bracket (pointwise_same front (codes "<![CDATA") h)) ∙ e)
 no_start_of_section front e false h = refl
 
-ends_declared : (form : Form) (foreign : Bool) (bytes : List ℕ) → is_comment bytes ≡ false → is_section form foreign bytes ≡ false → is_instruction form bytes ≡ false
+ends_declared : (form : PageForm) (foreign : Bool) (bytes : List ℕ) → is_comment bytes ≡ false → is_section form foreign bytes ≡ false → is_instruction form bytes ≡ false
     → ends_markup form foreign bytes ≡ (if has_bracket bytes && is_xml form then ends_after_part (reverse bytes) else ends_in (codes ">") bytes)
 ends_declared form foreign bytes c s i =
     chosen_last (is_comment bytes) (is_section form foreign bytes) (is_instruction form bytes) _ _ _ _ c s i
 
-ends_plain : (form : Form) (foreign : Bool) (bytes : List ℕ) → is_comment bytes ≡ false → is_section form foreign bytes ≡ false → is_instruction form bytes ≡ false → has_bracket bytes && is_xml form ≡ false
+ends_plain : (form : PageForm) (foreign : Bool) (bytes : List ℕ) → is_comment bytes ≡ false → is_section form foreign bytes ≡ false → is_instruction form bytes ≡ false → has_bracket bytes && is_xml form ≡ false
     → ends_markup form foreign bytes ≡ ends_in (codes ">") bytes
 ends_plain form foreign bytes c s i k =
     ends_declared form foreign bytes c s i ∙ ap (λ x. if x then ends_after_part (reverse bytes) else ends_in (codes ">") bytes) k
 
-ends_snoc : (form : Form) (foreign : Bool) (front : List ℕ) (b : ℕ) → NoComment front → is_section form foreign (front ++ b ∷ []) ≡ false
+ends_snoc : (form : PageForm) (foreign : Bool) (front : List ℕ) (b : ℕ) → NoComment front → is_section form foreign (front ++ b ∷ []) ≡ false
     → ((more : List ℕ) → is_instruction form (front ++ more) ≡ false) → has_bracket (front ++ b ∷ []) && is_xml form ≡ false → ends_markup form foreign (front ++ b ∷ []) ≡ (b == 62 && true)
 ends_snoc form foreign front b c s i k = ends_plain form foreign (front ++ b ∷ []) (c (b ∷ [])) s (i (b ∷ [])) k ∙ snoc_ends 62 [] front b
 
 closes_snoc : (front : List ℕ) (b : ℕ) → closes_part (reverse (front ++ b ∷ [])) ≡ (b == 93 || is_white_space b && closes_part (reverse front))
 closes_snoc front b = ap closes_part (reverse-append front (b ∷ []))
 
-part_snoc : (form : Form) (foreign : Bool) (front : List ℕ) (b : ℕ) → NoComment front → is_section form foreign (front ++ b ∷ []) ≡ false
+part_snoc : (form : PageForm) (foreign : Bool) (front : List ℕ) (b : ℕ) → NoComment front → is_section form foreign (front ++ b ∷ []) ≡ false
     → ((more : List ℕ) → is_instruction form (front ++ more) ≡ false) → has_bracket (front ++ b ∷ []) ≡ true → form ≡ Xml → ends_markup form foreign (front ++ b ∷ []) ≡ (b == 62 && closes_part (reverse front))
 part_snoc form foreign front b c s i k x =
     ends_declared form foreign (front ++ b ∷ []) (c (b ∷ [])) s (i (b ∷ []))
@@ -531,13 +531,13 @@ part_snoc form foreign front b c s i k x =
     ∙ ap (λ y. if is_xml y then ends_after_part (reverse (front ++ b ∷ [])) else ends_in (codes ">") (front ++ b ∷ [])) x
     ∙ ap ends_after_part (reverse-append front (b ∷ []))
 
-section_snoc : (form : Form) (foreign : Bool) (front : List ℕ) (b : ℕ) → is_section form foreign front ≡ false → b == 91 && (is_xml form || foreign) && pointwise nat_eq front (codes "<![CDATA") ≡ false
+section_snoc : (form : PageForm) (foreign : Bool) (front : List ℕ) (b : ℕ) → is_section form foreign front ≡ false → b == 91 && (is_xml form || foreign) && pointwise nat_eq front (codes "<![CDATA") ≡ false
     → is_section form foreign (front ++ b ∷ []) ≡ false
 section_snoc form foreign front b e n =
     section_not (begins_with (codes "<![CDATA[") (front ++ b ∷ [])) (begins_with (codes "<![CDATA[") front) (pointwise nat_eq front (codes "<![CDATA")) (b == 91) (is_xml form || foreign)
     (begins_snoc (codes "<![CDATA") front 91 b) e n
 
-declared_more : (form : Form) (foreign : Bool) (front : List ℕ) (b : ℕ) → Declared form foreign front → b == 62 ≡ false → is_section form foreign (front ++ b ∷ []) ≡ false → b == 91 && is_xml form ≡ false
+declared_more : (form : PageForm) (foreign : Bool) (front : List ℕ) (b : ℕ) → Declared form foreign front → b == 62 ≡ false → is_section form foreign (front ++ b ∷ []) ≡ false → b == 91 && is_xml form ≡ false
     → Declared form foreign (front ++ b ∷ [])
 declared_more form foreign front b d e s k = record {
   opens = opens_more front (b ∷ []) d.opens;
@@ -550,7 +550,7 @@ declared_more form foreign front b d e s k = record {
   none = none_more (ends_markup form foreign) front b d.none (ends_snoc form foreign front b d.no_comment s d.no_instruction (bracket_cases (is_xml form) front b d.no_bracket k) ∙ ap (λ x. x && true) e);
 }
 
-declared_done : (form : Form) (foreign : Bool) (front : List ℕ) (b : ℕ) → Declared form foreign front → b == 62 ≡ true → MarkupDone form foreign (front ++ b ∷ [])
+declared_done : (form : PageForm) (foreign : Bool) (front : List ℕ) (b : ℕ) → Declared form foreign front → b == 62 ≡ true → MarkupDone form foreign (front ++ b ∷ [])
 declared_done form foreign front b d e =
     let s = section_snoc form foreign front b d.no_section (ap (λ x. x && (is_xml form || foreign) && pointwise nat_eq front (codes "<![CDATA")) (other_byte b 62 e 91 refl)) in
     let k = bracket_cases (is_xml form) front b d.no_bracket (ap (λ x. x && is_xml form) (other_byte b 62 e 91 refl)) in
@@ -562,7 +562,7 @@ declared_done form foreign front b d e =
       );
     }
 
-with_part : (form : Form) (foreign : Bool) (front : List ℕ) (b : ℕ) → Declared form foreign front → form ≡ Xml → b == 91 ≡ true → is_section form foreign (front ++ b ∷ []) ≡ false → WithPart form foreign (front ++ b ∷ []) false
+with_part : (form : PageForm) (foreign : Bool) (front : List ℕ) (b : ℕ) → Declared form foreign front → form ≡ Xml → b == 91 ≡ true → is_section form foreign (front ++ b ∷ []) ≡ false → WithPart form foreign (front ++ b ∷ []) false
 with_part form foreign front b d x e s =
     let bracket : has_bracket (front ++ b ∷ []) ≡ true = ap (λ k. has_bracket (front ++ k ∷ [])) (eqb-true b 91 e) ∙ d.bracket_next x in
     record {
@@ -578,12 +578,12 @@ with_part form foreign front b d x e s =
       closed_is = closes_snoc front b ∙ ap (λ k. k == 93 || is_white_space k && closes_part (reverse front)) (eqb-true b 91 e);
     }
 
-part_section : (form : Form) (foreign : Bool) (front : List ℕ) (b : ℕ) (closed : Bool) → WithPart form foreign front closed → is_section form foreign (front ++ b ∷ []) ≡ false
+part_section : (form : PageForm) (foreign : Bool) (front : List ℕ) (b : ℕ) (closed : Bool) → WithPart form foreign front closed → is_section form foreign (front ++ b ∷ []) ≡ false
 part_section form foreign front b closed d =
     section_snoc form foreign front b d.no_section
     (and_false (b == 91 && (is_xml form || foreign)) (pointwise nat_eq front (codes "<![CDATA")) (no_start_of_section front d.bracket (pointwise nat_eq front (codes "<![CDATA")) refl))
 
-part_more : (form : Form) (foreign : Bool) (front : List ℕ) (b : ℕ) (closed next : Bool) → WithPart form foreign front closed → b == 62 && closed ≡ false → (b == 93 || is_white_space b && closed) ≡ next
+part_more : (form : PageForm) (foreign : Bool) (front : List ℕ) (b : ℕ) (closed next : Bool) → WithPart form foreign front closed → b == 62 && closed ≡ false → (b == 93 || is_white_space b && closed) ≡ next
     → WithPart form foreign (front ++ b ∷ []) next
 part_more form foreign front b closed next d e n =
     let s = part_section form foreign front b closed d in
@@ -604,7 +604,7 @@ nothing_more : (front : List ℕ) → front ++ [] ≡ front
 nothing_more [] = refl
 nothing_more (x ∷ front) = ap (λ xs. x ∷ xs) (nothing_more front)
 
-part_done : (form : Form) (foreign : Bool) (front : List ℕ) (b : ℕ) → WithPart form foreign front true → b == 62 ≡ true → MarkupDone form foreign (front ++ b ∷ [])
+part_done : (form : PageForm) (foreign : Bool) (front : List ℕ) (b : ℕ) → WithPart form foreign front true → b == 62 ≡ true → MarkupDone form foreign (front ++ b ∷ [])
 part_done form foreign front b d e = record {
   no_tag = d.no_tag (b ∷ []);
   is = λ rest. (
@@ -616,30 +616,30 @@ part_done form foreign front b d e = record {
 }
 
 -- markup that begins so is no tag
-bang_no_tag : (form : Form) (more : List ℕ) → begins_tag form (60 ∷ 33 ∷ more) ≡ false
+bang_no_tag : (form : PageForm) (more : List ℕ) → begins_tag form (60 ∷ 33 ∷ more) ≡ false
 bang_no_tag Html more = refl
 bang_no_tag Xml more = refl
 
-mark_no_tag : (form : Form) (more : List ℕ) → begins_tag form (60 ∷ 63 ∷ more) ≡ false
+mark_no_tag : (form : PageForm) (more : List ℕ) → begins_tag form (60 ∷ 63 ∷ more) ≡ false
 mark_no_tag Html more = refl
 mark_no_tag Xml more = refl
 
-slash_no_tag : (form : Form) (b : ℕ) (more : List ℕ) → is_name_start form b ≡ false → begins_tag form (60 ∷ 47 ∷ b ∷ more) ≡ false
+slash_no_tag : (form : PageForm) (b : ℕ) (more : List ℕ) → is_name_start form b ≡ false → begins_tag form (60 ∷ 47 ∷ b ∷ more) ≡ false
 slash_no_tag Html b more e = ap (λ x. false || x) e
 slash_no_tag Xml b more e = ap (λ x. false || x) e
 
-slash_tag : (form : Form) (b : ℕ) → is_name_start form b ≡ true → begins_tag form (60 ∷ 47 ∷ b ∷ []) ≡ true
+slash_tag : (form : PageForm) (b : ℕ) → is_name_start form b ≡ true → begins_tag form (60 ∷ 47 ∷ b ∷ []) ≡ true
 slash_tag Html b e = ap (λ x. false || x) e
 slash_tag Xml b e = ap (λ x. false || x) e
 
-open_tag : (form : Form) (b : ℕ) → is_name_start form b ≡ true → begins_tag form (60 ∷ b ∷ []) ≡ true
+open_tag : (form : PageForm) (b : ℕ) → is_name_start form b ≡ true → begins_tag form (60 ∷ b ∷ []) ≡ true
 open_tag form b e = ap (λ x. x || (b == 47 && true) && false) e
 
-name_start_stays : (form : Form) (b : ℕ) → is_name_start form b ≡ true → ends_name b ≡ false
+name_start_stays : (form : PageForm) (b : ℕ) → is_name_start form b ≡ true → ends_name b ≡ false
 name_start_stays Html b e = grind (arith, nat_tests)
 name_start_stays Xml b e = grind (arith, nat_tests)
 
-end_no_name : {A : Type 0} (form : Form) (b : ℕ) → is_name_start form b ≡ true → b ≡ 62 → A
+end_no_name : {A : Type 0} (form : PageForm) (b : ℕ) → is_name_start form b ≡ true → b ≡ 62 → A
 end_no_name Html b e is = absurd_bool (subst (λ x. is_name_start Html x ≡ true) is e)
 end_no_name Xml b e is = absurd_bool (subst (λ x. is_name_start Xml x ≡ true) is e)
 
@@ -652,23 +652,23 @@ quoted_one = quoted_more [] 60 none_quoted (λ e. absurd (omega (arith, e)))
 quoted_two : AreQuoted (60 ∷ 47 ∷ [])
 quoted_two = quoted_more (60 ∷ []) 47 quoted_one (λ e. absurd (omega (arith, e)))
 
-none_one : (form : Form) (foreign : Bool) → NoneEnds (ends_markup form foreign) (60 ∷ [])
+none_one : (form : PageForm) (foreign : Bool) → NoneEnds (ends_markup form foreign) (60 ∷ [])
 none_one form foreign = none_more (ends_markup form foreign) [] 60 (none_begun (ends_markup form foreign) refl) refl
 
-none_bang : (form : Form) (foreign : Bool) → NoneEnds (ends_markup form foreign) (60 ∷ 33 ∷ [])
+none_bang : (form : PageForm) (foreign : Bool) → NoneEnds (ends_markup form foreign) (60 ∷ 33 ∷ [])
 none_bang form foreign = none_more (ends_markup form foreign) (60 ∷ []) 33 (none_one form foreign) refl
 
-none_dash : (form : Form) (foreign : Bool) → NoneEnds (ends_markup form foreign) (60 ∷ 33 ∷ 45 ∷ [])
+none_dash : (form : PageForm) (foreign : Bool) → NoneEnds (ends_markup form foreign) (60 ∷ 33 ∷ 45 ∷ [])
 none_dash form foreign = none_more (ends_markup form foreign) (60 ∷ 33 ∷ []) 45 (none_bang form foreign) refl
 
-none_slash : (form : Form) (foreign : Bool) → NoneEnds (ends_markup form foreign) (60 ∷ 47 ∷ [])
+none_slash : (form : PageForm) (foreign : Bool) → NoneEnds (ends_markup form foreign) (60 ∷ 47 ∷ [])
 none_slash form foreign = none_more (ends_markup form foreign) (60 ∷ []) 47 (none_one form foreign) refl
 
-no_comment_end : (form : Form) (foreign : Bool) → ends_markup form foreign (60 ∷ 33 ∷ 45 ∷ 45 ∷ []) ≡ false
+no_comment_end : (form : PageForm) (foreign : Bool) → ends_markup form foreign (60 ∷ 33 ∷ 45 ∷ 45 ∷ []) ≡ false
 no_comment_end Html foreign = refl
 no_comment_end Xml foreign = refl
 
-comment_begun : (form : Form) (foreign : Bool) → CommentFront form foreign (60 ∷ 33 ∷ 45 ∷ 45 ∷ []) true true false false false
+comment_begun : (form : PageForm) (foreign : Bool) → CommentFront form foreign (60 ∷ 33 ∷ 45 ∷ 45 ∷ []) true true false false false
 comment_begun form foreign = record {
   body = [];
   whole = refl;
@@ -676,7 +676,7 @@ comment_begun form foreign = record {
   last = record { dash_is = refl; dashes_is = refl; own_dash_is = refl; own_dashes_is = refl; bang_is = refl };
 }
 
-comment_markup : (form : Form) (foreign : Bool) (front : List ℕ) (dash dashes own_dash own_dashes bang : Bool) (b : ℕ) → CommentFront form foreign front dash dashes own_dash own_dashes bang
+comment_markup : (form : PageForm) (foreign : Bool) (front : List ℕ) (dash dashes own_dash own_dashes bang : Bool) (b : ℕ) → CommentFront form foreign front dash dashes own_dash own_dashes bang
     → comment_ends form dashes own_dashes bang b ≡ true → MarkupDone form foreign (front ++ b ∷ [])
 comment_markup form foreign front dash dashes own_dash own_dashes bang b c e =
     let whole : front ++ b ∷ [] ≡ 60 ∷ 33 ∷ 45 ∷ 45 ∷ (c.body ++ b ∷ []) = ap (λ xs. xs ++ b ∷ []) c.whole in
@@ -685,23 +685,23 @@ comment_markup form foreign front dash dashes own_dash own_dashes bang b c e =
       is = λ rest. (ap opens_markup whole, (comment_done form foreign front dash dashes own_dash own_dashes bang b rest c e));
     }
 
-in_comment_ends : (form : Form) (bang : Bool) (b : ℕ) → not (is_xml form) && bang ≡ false → comment_ends form false false bang b ≡ false
+in_comment_ends : (form : PageForm) (bang : Bool) (b : ℕ) → not (is_xml form) && bang ≡ false → comment_ends form false false bang b ≡ false
 in_comment_ends Html bang b e = ap (λ x. x || b == 62 && bang) (and_false (b == 62) false refl) ∙ and_false (b == 62) bang e
 in_comment_ends Xml bang b e = and_false (b == 62) false refl
 
-start_ends : (form : Form) (b : ℕ) → b == 62 && not (is_xml form) ≡ false → comment_ends form true false false b ≡ false
+start_ends : (form : PageForm) (b : ℕ) → b == 62 && not (is_xml form) ≡ false → comment_ends form true false false b ≡ false
 start_ends Html b e = ap (λ x. x || b == 62 && false) e ∙ and_false (b == 62) false refl
 start_ends Xml b e = and_false (b == 62) false refl
 
-abrupt_end : (form : Form) (b : ℕ) → b == 62 && not (is_xml form) ≡ true → comment_ends form true false false b ≡ true
+abrupt_end : (form : PageForm) (b : ℕ) → b == 62 && not (is_xml form) ≡ true → comment_ends form true false false b ≡ true
 abrupt_end Html b e = ap (λ x. x || b == 62 && false) e
 abrupt_end Xml b e = absurd_bool (sym (and_false (b == 62) false refl) ∙ e)
 
-any_end : (form : Form) (b : ℕ) → b == 62 ≡ true → comment_ends form true true false b ≡ true
+any_end : (form : PageForm) (b : ℕ) → b == 62 ≡ true → comment_ends form true true false b ≡ true
 any_end Html b e = ap (λ x. x && true || b == 62 && false) e
 any_end Xml b e = ap (λ x. x && true) e
 
-no_other_end : (form : Form) (dashes own bang : Bool) (b : ℕ) → b == 62 ≡ false → comment_ends form dashes own bang b ≡ false
+no_other_end : (form : PageForm) (dashes own bang : Bool) (b : ℕ) → b == 62 ≡ false → comment_ends form dashes own bang b ≡ false
 no_other_end Html dashes own bang b e = ap (λ x. x && dashes || x && bang) e
 no_other_end Xml dashes own bang b e = ap (λ x. x && own) e
 
@@ -714,23 +714,23 @@ swapped true true e = e
 swapped true false e = refl
 swapped false y e = refl
 
-html_by : (form : Form) → not (is_xml form) ≡ true → form ≡ Html
+html_by : (form : PageForm) → not (is_xml form) ≡ true → form ≡ Html
 html_by Html e = refl
 html_by Xml e = cc
 
-xml_by : (form : Form) → is_xml form ≡ true → form ≡ Xml
+xml_by : (form : PageForm) → is_xml form ≡ true → form ≡ Xml
 xml_by Html e = cc
 xml_by Xml e = refl
 
 -- ---- sections and instructions
 
-cdata_ends : (form : Form) (foreign : Bool) (bytes body : List ℕ) → bytes ≡ 60 ∷ 33 ∷ 91 ∷ 67 ∷ 68 ∷ 65 ∷ 84 ∷ 65 ∷ 91 ∷ body → is_xml form || foreign ≡ true → ends_markup form foreign bytes ≡ ends_in (codes "]]>") bytes
+cdata_ends : (form : PageForm) (foreign : Bool) (bytes body : List ℕ) → bytes ≡ 60 ∷ 33 ∷ 91 ∷ 67 ∷ 68 ∷ 65 ∷ 84 ∷ 65 ∷ 91 ∷ body → is_xml form || foreign ≡ true → ends_markup form foreign bytes ≡ ends_in (codes "]]>") bytes
 cdata_ends form foreign bytes body whole taken =
     ap (ends_markup form foreign) whole
     ∙ ap (λ c. if c then ends_in (codes "]]>") (60 ∷ 33 ∷ 91 ∷ 67 ∷ 68 ∷ 65 ∷ 84 ∷ 65 ∷ 91 ∷ body) else if is_xml form then ends_after_part (reverse (60 ∷ 33 ∷ 91 ∷ 67 ∷ 68 ∷ 65 ∷ 84 ∷ 65 ∷ 91 ∷ body)) else ends_in (codes ">") (60 ∷ 33 ∷ 91 ∷ 67 ∷ 68 ∷ 65 ∷ 84 ∷ 65 ∷ 91 ∷ body)) taken
     ∙ ap (ends_in (codes "]]>")) (sym whole)
 
-section_more : (form : Form) (foreign : Bool) (front : List ℕ) (last two : Bool) (b : ℕ) → Sectioned form foreign (codes "<![CDATA[") front last two → b == 62 && two ≡ false
+section_more : (form : PageForm) (foreign : Bool) (front : List ℕ) (last two : Bool) (b : ℕ) → Sectioned form foreign (codes "<![CDATA[") front last two → b == 62 && two ≡ false
     → Sectioned form foreign (codes "<![CDATA[") (front ++ b ∷ []) (b == 93 && true) (b == 93 && last)
 section_more form foreign front last two b s e =
     let whole : front ++ b ∷ [] ≡ codes "<![CDATA[" ++ (s.body ++ b ∷ []) = ap (λ xs. xs ++ b ∷ []) s.whole in
@@ -744,7 +744,7 @@ section_more form foreign front last two b s e =
       last_two_is = snoc_ends 93 (93 ∷ []) front b ∙ ap (λ x. b == 93 && x) s.last_is;
     }
 
-section_at : (form : Form) (foreign : Bool) (front : List ℕ) (last two last' two' : Bool) → Sectioned form foreign (codes "<![CDATA[") front last two → last ≡ last' → two ≡ two' → Sectioned form foreign (codes "<![CDATA[") front last' two'
+section_at : (form : PageForm) (foreign : Bool) (front : List ℕ) (last two last' two' : Bool) → Sectioned form foreign (codes "<![CDATA[") front last two → last ≡ last' → two ≡ two' → Sectioned form foreign (codes "<![CDATA[") front last' two'
 section_at form foreign front last two last' two' s e f = record {
   body = s.body;
   whole = s.whole;
@@ -754,7 +754,7 @@ section_at form foreign front last two last' two' s e f = record {
   last_two_is = s.last_two_is ∙ f;
 }
 
-section_done : (form : Form) (foreign : Bool) (front : List ℕ) (last : Bool) (b : ℕ) → Sectioned form foreign (codes "<![CDATA[") front last true → b == 62 ≡ true → MarkupDone form foreign (front ++ b ∷ [])
+section_done : (form : PageForm) (foreign : Bool) (front : List ℕ) (last : Bool) (b : ℕ) → Sectioned form foreign (codes "<![CDATA[") front last true → b == 62 ≡ true → MarkupDone form foreign (front ++ b ∷ [])
 section_done form foreign front last b s e =
     let whole : front ++ b ∷ [] ≡ codes "<![CDATA[" ++ (s.body ++ b ∷ []) = ap (λ xs. xs ++ b ∷ []) s.whole in
     record {
@@ -766,7 +766,7 @@ section_done form foreign front last b s e =
       );
     }
 
-section_begun : (form : Form) (foreign : Bool) (front : List ℕ) (b : ℕ) → Declared form foreign front → front ≡ codes "<![CDATA" → b == 91 ≡ true → is_xml form || foreign ≡ true
+section_begun : (form : PageForm) (foreign : Bool) (front : List ℕ) (b : ℕ) → Declared form foreign front → front ≡ codes "<![CDATA" → b == 91 ≡ true → is_xml form || foreign ≡ true
     → Sectioned form foreign (codes "<![CDATA[") (front ++ b ∷ []) false false
 section_begun form foreign front b d is e taken =
     let whole : front ++ b ∷ [] ≡ codes "<![CDATA[" = snoc_is front (codes "<![CDATA") b 91 is e in
@@ -779,10 +779,10 @@ section_begun form foreign front b d is e taken =
       last_two_is = ap (λ xs. begins_with (codes "]]") (reverse xs)) whole;
     }
 
-instruction_ends : (form : Form) (foreign : Bool) (bytes body : List ℕ) → bytes ≡ 60 ∷ 63 ∷ body → form ≡ Xml → ends_markup form foreign bytes ≡ ends_in (codes "?>") body
+instruction_ends : (form : PageForm) (foreign : Bool) (bytes body : List ℕ) → bytes ≡ 60 ∷ 63 ∷ body → form ≡ Xml → ends_markup form foreign bytes ≡ ends_in (codes "?>") body
 instruction_ends form foreign bytes body whole xml = ap (ends_markup form foreign) whole ∙ ap (λ f. ends_markup f foreign (60 ∷ 63 ∷ body)) xml
 
-instruction_more : (form : Form) (foreign : Bool) (front : List ℕ) (mark : Bool) (b : ℕ) → Instructed form foreign front mark → b == 62 && mark ≡ false → Instructed form foreign (front ++ b ∷ []) (b == 63 && true)
+instruction_more : (form : PageForm) (foreign : Bool) (front : List ℕ) (mark : Bool) (b : ℕ) → Instructed form foreign front mark → b == 62 && mark ≡ false → Instructed form foreign (front ++ b ∷ []) (b == 63 && true)
 instruction_more form foreign front mark b s e =
     let whole : front ++ b ∷ [] ≡ 60 ∷ 63 ∷ (s.body ++ b ∷ []) = ap (λ xs. xs ++ b ∷ []) s.whole in
     record {
@@ -794,10 +794,10 @@ instruction_more form foreign front mark b s e =
       mark_is = snoc_ends 63 [] s.body b;
     }
 
-instruction_at : (form : Form) (foreign : Bool) (front : List ℕ) (mark mark' : Bool) → Instructed form foreign front mark → mark ≡ mark' → Instructed form foreign front mark'
+instruction_at : (form : PageForm) (foreign : Bool) (front : List ℕ) (mark mark' : Bool) → Instructed form foreign front mark → mark ≡ mark' → Instructed form foreign front mark'
 instruction_at form foreign front mark mark' s e = record { body = s.body; whole = s.whole; xml = s.xml; none = s.none; mark_is = s.mark_is ∙ e }
 
-instruction_done : (form : Form) (foreign : Bool) (front : List ℕ) (b : ℕ) → Instructed form foreign front true → b == 62 ≡ true → MarkupDone form foreign (front ++ b ∷ [])
+instruction_done : (form : PageForm) (foreign : Bool) (front : List ℕ) (b : ℕ) → Instructed form foreign front true → b == 62 ≡ true → MarkupDone form foreign (front ++ b ∷ [])
 instruction_done form foreign front b s e =
     let whole : front ++ b ∷ [] ≡ 60 ∷ 63 ∷ (s.body ++ b ∷ []) = ap (λ xs. xs ++ b ∷ []) s.whole in
     record {
@@ -809,14 +809,14 @@ instruction_done form foreign front b s e =
       );
     }
 
-none_mark : (form : Form) (foreign : Bool) → NoneEnds (ends_markup form foreign) (60 ∷ 63 ∷ [])
+none_mark : (form : PageForm) (foreign : Bool) → NoneEnds (ends_markup form foreign) (60 ∷ 63 ∷ [])
 none_mark Html foreign = none_more (ends_markup Html foreign) (60 ∷ []) 63 (none_one Html foreign) refl
 none_mark Xml foreign = none_more (ends_markup Xml foreign) (60 ∷ []) 63 (none_one Xml foreign) refl
 
-instruction_begun : (form : Form) (foreign : Bool) → form ≡ Xml → Instructed form foreign (60 ∷ 63 ∷ []) false
+instruction_begun : (form : PageForm) (foreign : Bool) → form ≡ Xml → Instructed form foreign (60 ∷ 63 ∷ []) false
 instruction_begun form foreign x = record { body = []; whole = refl; xml = x; none = none_mark form foreign; mark_is = refl }
 
-question_declared : (form : Form) (foreign : Bool) → is_xml form ≡ false → Declared form foreign (60 ∷ 63 ∷ [])
+question_declared : (form : PageForm) (foreign : Bool) → is_xml form ≡ false → Declared form foreign (60 ∷ 63 ∷ [])
 question_declared form foreign x = record {
   opens = refl;
   no_tag = λ more. mark_no_tag form more;
@@ -828,7 +828,7 @@ question_declared form foreign x = record {
   none = none_mark form foreign;
 }
 
-bang_declared : (form : Form) (foreign : Bool) (b : ℕ) → b == 45 ≡ false → b == 62 ≡ false → Declared form foreign (60 ∷ 33 ∷ b ∷ [])
+bang_declared : (form : PageForm) (foreign : Bool) (b : ℕ) → b == 45 ≡ false → b == 62 ≡ false → Declared form foreign (60 ∷ 33 ∷ b ∷ [])
 bang_declared form foreign b d e =
     let c : NoComment (60 ∷ 33 ∷ b ∷ []) = λ more. ap (λ x. x && begins_with (codes "-") more) d in
     let s : is_section form foreign (60 ∷ 33 ∷ b ∷ []) ≡ false = ap (λ x. x && (is_xml form || foreign)) (and_false (b == 91) false refl) in
@@ -843,7 +843,7 @@ bang_declared form foreign b d e =
       none = none_more (ends_markup form foreign) (60 ∷ 33 ∷ []) b (none_bang form foreign) (ends_plain form foreign (60 ∷ 33 ∷ b ∷ []) (c []) s refl (ap (λ x. x && is_xml form) (bracket_three 60 33 b)) ∙ snoc_ends 62 [] (60 ∷ 33 ∷ []) b ∙ ap (λ x. x && true) e);
     }
 
-dash_declared : (form : Form) (foreign : Bool) (b : ℕ) → b == 45 ≡ false → b == 62 ≡ false → Declared form foreign (60 ∷ 33 ∷ 45 ∷ b ∷ [])
+dash_declared : (form : PageForm) (foreign : Bool) (b : ℕ) → b == 45 ≡ false → b == 62 ≡ false → Declared form foreign (60 ∷ 33 ∷ 45 ∷ b ∷ [])
 dash_declared form foreign b d e =
     let c : NoComment (60 ∷ 33 ∷ 45 ∷ b ∷ []) = λ more. ap (λ x. x && true) d in
     record {
@@ -857,7 +857,7 @@ dash_declared form foreign b d e =
       none = none_more (ends_markup form foreign) (60 ∷ 33 ∷ 45 ∷ []) b (none_dash form foreign) (ends_plain form foreign (60 ∷ 33 ∷ 45 ∷ b ∷ []) (c []) refl refl refl ∙ snoc_ends 62 [] (60 ∷ 33 ∷ 45 ∷ []) b ∙ ap (λ x. x && true) e);
     }
 
-slash_declared : (form : Form) (foreign : Bool) (b : ℕ) → is_name_start form b ≡ false → b == 62 ≡ false → Declared form foreign (60 ∷ 47 ∷ b ∷ [])
+slash_declared : (form : PageForm) (foreign : Bool) (b : ℕ) → is_name_start form b ≡ false → b == 62 ≡ false → Declared form foreign (60 ∷ 47 ∷ b ∷ [])
 slash_declared form foreign b d e = record {
   opens = refl;
   no_tag = λ more. slash_no_tag form b more d;
@@ -870,23 +870,23 @@ slash_declared form foreign b d e = record {
 }
 
 -- "<!>", "<!->" and "</>"
-bang_done : (form : Form) (foreign : Bool) → MarkupDone form foreign (60 ∷ 33 ∷ 62 ∷ [])
+bang_done : (form : PageForm) (foreign : Bool) → MarkupDone form foreign (60 ∷ 33 ∷ 62 ∷ [])
 bang_done form foreign = record {
   no_tag = bang_no_tag form (62 ∷ []);
   is = λ rest. (refl, (ends_here (ends_markup form foreign) (60 ∷ 33 ∷ []) 62 rest (none_bang form foreign) refl));
 }
 
-dash_done : (form : Form) (foreign : Bool) → MarkupDone form foreign (60 ∷ 33 ∷ 45 ∷ 62 ∷ [])
+dash_done : (form : PageForm) (foreign : Bool) → MarkupDone form foreign (60 ∷ 33 ∷ 45 ∷ 62 ∷ [])
 dash_done form foreign = record {
   no_tag = bang_no_tag form (45 ∷ 62 ∷ []);
   is = λ rest. (refl, (ends_here (ends_markup form foreign) (60 ∷ 33 ∷ 45 ∷ []) 62 rest (none_dash form foreign) refl));
 }
 
-no_name : (form : Form) → is_name_start form 62 ≡ false
+no_name : (form : PageForm) → is_name_start form 62 ≡ false
 no_name Html = refl
 no_name Xml = refl
 
-slash_done : (form : Form) (foreign : Bool) → MarkupDone form foreign (60 ∷ 47 ∷ 62 ∷ [])
+slash_done : (form : PageForm) (foreign : Bool) → MarkupDone form foreign (60 ∷ 47 ∷ 62 ∷ [])
 slash_done form foreign = record {
   no_tag = slash_no_tag form 62 [] (no_name form);
   is = λ rest. (refl, (ends_here (ends_markup form foreign) (60 ∷ 47 ∷ []) 62 rest (none_slash form foreign) refl));
@@ -940,18 +940,18 @@ closes element front b e = (length front, omega (arith, length_snoc front b), la
 
 -- ---- one byte more, by each state
 
-ascii : {form : Form} {foreign : Bool} {before : List ℕ} {within state : State} {front : List ℕ} {b : ℕ} (after : State) → Stands form foreign before within after (front ++ b ∷ []) → b < 128
+ascii : {form : PageForm} {foreign : Bool} {before : List ℕ} {within state : State} {front : List ℕ} {b : ℕ} (after : State) → Stands form foreign before within after (front ++ b ∷ []) → b < 128
     → To form foreign before within state front b (Some after)
 ascii after s lt = record { is = (s, λ _. lt) }
 
-any : {form : Form} {foreign : Bool} {before : List ℕ} {within state : State} {front : List ℕ} {b : ℕ} (after : State) → Stands form foreign before within after (front ++ b ∷ []) → is_ascii after ≡ false
+any : {form : PageForm} {foreign : Bool} {before : List ℕ} {within state : State} {front : List ℕ} {b : ℕ} (after : State) → Stands form foreign before within after (front ++ b ∷ []) → is_ascii after ≡ false
     → To form foreign before within state front b (Some after)
 any after s e = record { is = (s, λ h. absurd_bool (sym e ∙ h)) }
 
-name_start_parts : (form : Form) (front start : List ℕ) (b : ℕ) → (start ≡ codes "<") ⊎ (start ≡ codes "</") → front ≡ start → is_name_start form b ≡ true → HasParts (front ++ b ∷ []) []
+name_start_parts : (form : PageForm) (front start : List ℕ) (b : ℕ) → (start ≡ codes "<") ⊎ (start ≡ codes "</") → front ≡ start → is_name_start form b ≡ true → HasParts (front ++ b ∷ []) []
 name_start_parts form front start b starts e name = tag_begun front start b starts e (name_start_stays form b name)
 
-name_begun : (form : Form) (within : State) (front start : List ℕ) (b : ℕ) → within ≡ Data → front ≡ start → AreQuoted start → begins_tag form (start ++ b ∷ []) ≡ true → is_name_start form b ≡ true
+name_begun : (form : PageForm) (within : State) (front start : List ℕ) (b : ℕ) → within ≡ Data → front ≡ start → AreQuoted start → begins_tag form (start ++ b ∷ []) ≡ true → is_name_start form b ≡ true
     → TagFront form within (front ++ b ∷ [])
 name_begun form within front start b c e quoted begins name =
     subst (λ k. TagFront form k (front ++ b ∷ [])) (sym c)
@@ -965,25 +965,25 @@ name_more b c name e h =
 one_name : (b : ℕ) → is_alphanumeric b || b == 35 ≡ true → is_reference_name (b ∷ []) ≡ true
 one_name b e = ap (λ x. x && true) e
 
-comment_on : {form : Form} {foreign : Bool} {front : List ℕ} (bang : Bool) → CommentFront form foreign front false false false false bang → not (is_xml form) && bang ≡ false → InComment form foreign front
+comment_on : {form : PageForm} {foreign : Bool} {front : List ℕ} (bang : Bool) → CommentFront form foreign front false false false false bang → not (is_xml form) && bang ≡ false → InComment form foreign front
 comment_on bang c e = (bang, c, e)
 
-stray : (form : Form) (foreign : Bool) (before : List ℕ) (within : State) (front rest : List ℕ) → within ≡ Data → front ≡ codes "<" → IsOther form foreign before within front rest
+stray : (form : PageForm) (foreign : Bool) (before : List ℕ) (within : State) (front rest : List ℕ) → within ≡ Data → front ≡ codes "<" → IsOther form foreign before within front rest
 stray form foreign before within front rest c e =
     subst (λ k. IsOther form foreign before k front rest) (sym c)
     ((λ t. absurd_bool (sym (ap (begins_tag form) e) ∙ t)), (λ _. inl e))
 
-markup_other : (form : Form) (foreign : Bool) (before : List ℕ) (within : State) (front rest : List ℕ) → within ≡ Data → begins_tag form front ≡ false → IsMarkup form foreign front rest → IsOther form foreign before within front rest
+markup_other : (form : PageForm) (foreign : Bool) (before : List ℕ) (within : State) (front rest : List ℕ) → within ≡ Data → begins_tag form front ≡ false → IsMarkup form foreign front rest → IsOther form foreign before within front rest
 markup_other form foreign before within front rest c n m = subst (λ k. IsOther form foreign before k front rest) (sym c) ((λ t. absurd_bool (sym n ∙ t)), (λ _. inr m))
 
-raw_other : (form : Form) (foreign : Bool) (before : List ℕ) (within : State) (element : RawElement) (front rest : List ℕ) → within ≡ Raw element → RawFront element before front → StopsAt (λ b. b == 60) rest → IsOther form foreign before within front rest
+raw_other : (form : PageForm) (foreign : Bool) (before : List ℕ) (within : State) (element : RawElement) (front rest : List ℕ) → within ≡ Raw element → RawFront element before front → StopsAt (λ b. b == 60) rest → IsOther form foreign before within front rest
 raw_other form foreign before within element front rest c r s = subst (λ k. IsOther form foreign before k front rest) (sym c) (inl (raw_is element before front rest r s))
 
-tag_kind : (form : Form) (foreign : Bool) (before : List ℕ) (within : State) (front rest : List ℕ) (c : Bool) → is_end_tag front ≡ c → TagDone form within front → IsInGrammar form foreign before within (if c then EndTag else StartTag) front rest
+tag_kind : (form : PageForm) (foreign : Bool) (before : List ℕ) (within : State) (front rest : List ℕ) (c : Bool) → is_end_tag front ≡ c → TagDone form within front → IsInGrammar form foreign before within (if c then EndTag else StartTag) front rest
 tag_kind form foreign before within front rest true e t = (tag_is form within front t, e)
 tag_kind form foreign before within front rest false e t = (tag_is form within front t, e)
 
-empty_kind : (form : Form) (foreign : Bool) (before : List ℕ) (within : State) (front rest : List ℕ) (c : Bool) → is_end_tag front ≡ c → TagDone form within front → ends_in (codes "/>") front ≡ true
+empty_kind : (form : PageForm) (foreign : Bool) (before : List ℕ) (within : State) (front rest : List ℕ) (c : Bool) → is_end_tag front ≡ c → TagDone form within front → ends_in (codes "/>") front ≡ true
     → IsInGrammar form foreign before within (if c then EndTag else EmptyTag) front rest
 empty_kind form foreign before within front rest true e t s = (tag_is form within front t, e)
 empty_kind form foreign before within front rest false e t s = (tag_is form within front t, e, s)
@@ -1022,7 +1022,7 @@ script_by Noframes e = cc
 raw_quoted : (element : RawElement) (front : List ℕ) (b : ℕ) → ends_tag (raw_end_tag element) front b ≡ true → AreQuoted front
 raw_quoted element front b e = λ n lt is. absurd (name_quoted front (raw_end_tag element) (and_right (ends_name b) (is_same_name front (raw_end_tag element)) e) (raw_tag_plain element) n lt is)
 
-raw_ended : (form : Form) (foreign : Bool) (before : List ℕ) (within state : State) (element : RawElement) (front : List ℕ) (b : ℕ) → within ≡ Raw element → ends_tag (raw_end_tag element) front b ≡ true
+raw_ended : (form : PageForm) (foreign : Bool) (before : List ℕ) (within state : State) (element : RawElement) (front : List ℕ) (b : ℕ) → within ≡ Raw element → ends_tag (raw_end_tag element) front b ≡ true
     → To form foreign before within state front b (Some (in_tag b TagName))
 raw_ended form foreign before within state element front b c e =
     let h = raw_end_parts element front (and_right (ends_name b) (is_same_name front (raw_end_tag element)) e) in
@@ -1043,21 +1043,21 @@ and_true false = refl
 part_below : (b : ℕ) → b == 93 || is_white_space b ≡ true → b < 128
 part_below b e = grind (arith, nat_tests)
 
-bang_end : (form : Form) (b : ℕ) → form ≡ Html → b == 62 ≡ true → comment_ends form false false true b ≡ true
+bang_end : (form : PageForm) (b : ℕ) → form ≡ Html → b == 62 ≡ true → comment_ends form false false true b ≡ true
 bang_end form b html e = subst (λ f. comment_ends f false false true b ≡ true) (sym html) (ap (λ x. x && false || x && true) e)
 
-section_on : (form : Form) (foreign : Bool) (front : List ℕ) (last two : Bool) (b : ℕ) (last' two' : Bool) → Sectioned form foreign (codes "<![CDATA[") front last two → b == 62 && two ≡ false
+section_on : (form : PageForm) (foreign : Bool) (front : List ℕ) (last two : Bool) (b : ℕ) (last' two' : Bool) → Sectioned form foreign (codes "<![CDATA[") front last two → b == 62 && two ≡ false
     → (b == 93 && true) ≡ last' → (b == 93 && last) ≡ two' → Sectioned form foreign (codes "<![CDATA[") (front ++ b ∷ []) last' two'
 section_on form foreign front last two b last' two' s e f g =
     section_at form foreign (front ++ b ∷ []) (b == 93 && true) (b == 93 && last) last' two' (section_more form foreign front last two b s e) f g
 
-start_cases : (form : Form) (foreign : Bool) (before : List ℕ) (within : State) (b : ℕ) (x y : Bool) → b == 60 ≡ x → b == 38 ≡ y → within ≡ Data
+start_cases : (form : PageForm) (foreign : Bool) (before : List ℕ) (within : State) (b : ℕ) (x y : Bool) → b == 60 ≡ x → b == 38 ≡ y → within ≡ Data
     → Stands form foreign before within (if x then TagOpen else if y then CharacterReference else Data) (b ∷ []) × (is_ascii (if x then TagOpen else if y then CharacterReference else Data) ≡ true → b < 128)
 start_cases form foreign before within b true y e f c = ((c, ap (λ k. k ∷ []) (eqb-true b 60 e)), λ _. is_byte b 60 e (omega arith))
 start_cases form foreign before within b false true e f c = ((c, ap (λ k. k ∷ []) (eqb-true b 38 f)), λ _. is_byte b 38 f (omega arith))
 start_cases form foreign before within b false false e f c = ((c, (ap (λ k. k || b == 38) e ∙ f, tt)), absurd_bool)
 
-pub data_starts : (form : Form) (foreign : Bool) (before : List ℕ) (within : State) (b : ℕ) → within ≡ Data → Starts form foreign before within Data b
+pub data_starts : (form : PageForm) (foreign : Bool) (before : List ℕ) (within : State) (b : ℕ) → within ≡ Data → Starts form foreign before within Data b
 unfolding begin
 data_starts form foreign before within b c = start_cases form foreign before within b (b == 60) (b == 38) refl refl c
 
@@ -1086,11 +1086,11 @@ raw_starts element before b begins = record {
 part_opens : (before : List ℕ) (b : ℕ) → b == 60 ≡ true → BeginsPart before (b ∷ [])
 part_opens before b e = inr ([], ap (λ x. x ∷ []) (eqb-true b 60 e))
 
-by_kind : (form : Form) (foreign : Bool) (within : State) (front : List ℕ) (c : Bool) → content_by form foreign within (if c then EndTag else StartTag) front ≡ (if c then Data else if is_xml form || foreign then Data else content_of (name_of front))
+by_kind : (form : PageForm) (foreign : Bool) (within : State) (front : List ℕ) (c : Bool) → content_by form foreign within (if c then EndTag else StartTag) front ≡ (if c then Data else if is_xml form || foreign then Data else content_of (name_of front))
 by_kind form foreign within front true = refl
 by_kind form foreign within front false = refl
 
-by_empty_kind : (form : Form) (foreign : Bool) (within : State) (front : List ℕ) (c : Bool) → content_by form foreign within (if c then EndTag else EmptyTag) front ≡ (if c then Data else if is_xml form || foreign then Data else content_of (name_of front))
+by_empty_kind : (form : PageForm) (foreign : Bool) (within : State) (front : List ℕ) (c : Bool) → content_by form foreign within (if c then EndTag else EmptyTag) front ≡ (if c then Data else if is_xml form || foreign then Data else content_of (name_of front))
 by_empty_kind form foreign within front true = refl
 by_empty_kind form foreign within front false = refl
 
@@ -1100,7 +1100,7 @@ IsContent (Raw element) = Unit {0}
 IsContent Plaintext = Unit {0}
 IsContent _ = ⊥
 
-content_starts : (form : Form) (foreign : Bool) (before : List ℕ) (within : State) (b : ℕ) → before ≡ [] → IsContent within → Starts form foreign before within within b
+content_starts : (form : PageForm) (foreign : Bool) (before : List ℕ) (within : State) (b : ℕ) → before ≡ [] → IsContent within → Starts form foreign before within within b
 unfolding begin
 content_starts form foreign before Data b e i = data_starts form foreign before Data b refl
 content_starts form foreign before (Raw element) b e i = ((refl, raw_starts element before b (inl e)), absurd_bool)
@@ -1119,7 +1119,7 @@ name_content : (name : List ℕ) → IsContent (content_of name)
 name_content name = if_content (is_same_name name (codes "plaintext")) Plaintext (option_map_or Raw (raw_element name) Data) tt (raw_content (raw_element name))
 
 -- the content after a tag, by its kind and by its state
-same_content : (form : Form) (foreign : Bool) (within : State) (front : List ℕ) (x y c : Bool) → (if x || y || c then Data else content_of (name_of front))
+same_content : (form : PageForm) (foreign : Bool) (within : State) (front : List ℕ) (x y c : Bool) → (if x || y || c then Data else content_of (name_of front))
     ≡ (if c then Data else if x || y then Data else content_of (name_of front))
 same_content form foreign within front true y true = refl
 same_content form foreign within front true y false = refl
@@ -1136,14 +1136,14 @@ since_empty_by : (before front : List ℕ) (c : Bool) → since_tag before (if c
 since_empty_by before front true = refl
 since_empty_by before front false = refl
 
-after_tag : (form : Form) (foreign next_foreign : Bool) (front : List ℕ) (b : ℕ) (before : List ℕ) (within : State) → before ≡ [] → within ≡ (if is_end_tag front then Data else if is_xml form || foreign then Data else content_of (name_of front))
+after_tag : (form : PageForm) (foreign next_foreign : Bool) (front : List ℕ) (b : ℕ) (before : List ℕ) (within : State) → before ≡ [] → within ≡ (if is_end_tag front then Data else if is_xml form || foreign then Data else content_of (name_of front))
     → Starts form next_foreign before within (content_after_tag form foreign front) b
 after_tag form foreign next_foreign front b before within none e =
     let same : within ≡ content_after_tag form foreign front = e ∙ sym (same_content form foreign within front (is_xml form) foreign (is_end_tag front)) in
     subst (λ k. Starts form next_foreign before k (content_after_tag form foreign front) b) (sym same)
     (content_starts form next_foreign before (content_after_tag form foreign front) b none (if_content (is_xml form || foreign || is_end_tag front) Data (content_of (name_of front)) tt (name_content (name_of front))))
 
-pub step_next : (form : Form) (foreign : Bool) (before : List ℕ) (within state : State) (front : List ℕ) (b : ℕ) → Stands form foreign before within state front → To form foreign before within state front b (next form foreign state front b)
+pub step_next : (form : PageForm) (foreign : Bool) (before : List ℕ) (within state : State) (front : List ℕ) (b : ℕ) → Stands form foreign before within state front → To form foreign before within state front b (next form foreign state front b)
 unfolding next in_raw in_escaped in_double_escaped kind_of content_after begin
 step_next form foreign before within Data front b s =
     to_if (b == 60 || b == 38) None (Some Data) (λ e. record { is = ((λ rest. (s.0, (s.1, e))), λ next_foreign. data_starts form next_foreign _ within b s.0) }) (λ e. any Data (s.0, plain_more front b s.1 e) refl)
@@ -1336,47 +1336,47 @@ step_next form foreign before within MarkupEnd front b (c, d) = record { is = ((
 
 -- ---- the end of the page
 
-tag_cut_by : (form : Form) (foreign : Bool) (before : List ℕ) (within : State) (front : List ℕ) → BeginsTag form within front → IsOther form foreign before within front []
+tag_cut_by : (form : PageForm) (foreign : Bool) (before : List ℕ) (within : State) (front : List ℕ) → BeginsTag form within front → IsOther form foreign before within front []
 tag_cut_by form foreign before Data front e = ((λ _. refl), (λ n. absurd_bool (sym n ∙ e)))
 tag_cut_by form foreign before (Raw element) front e = inr (e, refl)
 tag_cut_by form foreign before _ front e = absurd e
 
-tag_cut : (form : Form) (foreign : Bool) (before : List ℕ) (within : State) (front : List ℕ) → TagFront form within front → IsOther form foreign before within front []
+tag_cut : (form : PageForm) (foreign : Bool) (before : List ℕ) (within : State) (front : List ℕ) → TagFront form within front → IsOther form foreign before within front []
 tag_cut form foreign before within front t = tag_cut_by form foreign before within front t.begins
 
-comment_cut : (form : Form) (foreign : Bool) (before : List ℕ) (within : State) (front : List ℕ) (dash dashes own_dash own_dashes bang : Bool) → within ≡ Data → CommentFront form foreign front dash dashes own_dash own_dashes bang
+comment_cut : (form : PageForm) (foreign : Bool) (before : List ℕ) (within : State) (front : List ℕ) (dash dashes own_dash own_dashes bang : Bool) → within ≡ Data → CommentFront form foreign front dash dashes own_dash own_dashes bang
     → IsOther form foreign before within front []
 comment_cut form foreign before within front dash dashes own_dash own_dashes bang e c =
     markup_other form foreign before within front [] e (ap (begins_tag form) c.whole ∙ bang_no_tag form (45 ∷ 45 ∷ c.body)) (ap opens_markup c.whole, (cut_here (ends_markup form foreign) front c.none))
 
-section_cut : (form : Form) (foreign : Bool) (before : List ℕ) (within : State) (front : List ℕ) (last two : Bool) → within ≡ Data → Sectioned form foreign (codes "<![CDATA[") front last two → IsOther form foreign before within front []
+section_cut : (form : PageForm) (foreign : Bool) (before : List ℕ) (within : State) (front : List ℕ) (last two : Bool) → within ≡ Data → Sectioned form foreign (codes "<![CDATA[") front last two → IsOther form foreign before within front []
 section_cut form foreign before within front last two e c =
     markup_other form foreign before within front [] e (ap (begins_tag form) c.whole ∙ bang_no_tag form (91 ∷ 67 ∷ 68 ∷ 65 ∷ 84 ∷ 65 ∷ 91 ∷ c.body)) (ap opens_markup c.whole, (cut_here (ends_markup form foreign) front c.none))
 
-instruction_cut : (form : Form) (foreign : Bool) (before : List ℕ) (within : State) (front : List ℕ) (mark : Bool) → within ≡ Data → Instructed form foreign front mark → IsOther form foreign before within front []
+instruction_cut : (form : PageForm) (foreign : Bool) (before : List ℕ) (within : State) (front : List ℕ) (mark : Bool) → within ≡ Data → Instructed form foreign front mark → IsOther form foreign before within front []
 instruction_cut form foreign before within front mark e c =
     markup_other form foreign before within front [] e (ap (begins_tag form) c.whole ∙ mark_no_tag form c.body) (ap opens_markup c.whole, (cut_here (ends_markup form foreign) front c.none))
 
-declared_cut : (form : Form) (foreign : Bool) (before : List ℕ) (within : State) (front : List ℕ) → within ≡ Data → Declared form foreign front → IsOther form foreign before within front []
+declared_cut : (form : PageForm) (foreign : Bool) (before : List ℕ) (within : State) (front : List ℕ) → within ≡ Data → Declared form foreign front → IsOther form foreign before within front []
 declared_cut form foreign before within front e c =
     markup_other form foreign before within front [] e (ap (begins_tag form) (sym (nothing_more front)) ∙ c.no_tag []) (c.opens, (cut_here (ends_markup form foreign) front c.none))
 
-part_cut : (form : Form) (foreign : Bool) (before : List ℕ) (within : State) (front : List ℕ) (closed : Bool) → within ≡ Data → WithPart form foreign front closed → IsOther form foreign before within front []
+part_cut : (form : PageForm) (foreign : Bool) (before : List ℕ) (within : State) (front : List ℕ) (closed : Bool) → within ≡ Data → WithPart form foreign front closed → IsOther form foreign before within front []
 part_cut form foreign before within front closed e c =
     markup_other form foreign before within front [] e (ap (begins_tag form) (sym (nothing_more front)) ∙ c.no_tag []) (c.opens, cut_here (ends_markup form foreign) front c.none)
 
-open_cut : (form : Form) (foreign : Bool) (before : List ℕ) (within : State) (front start : List ℕ) → within ≡ Data → front ≡ start → begins_tag form start ≡ false → opens_markup start ≡ true → NoneEnds (ends_markup form foreign) start → IsOther form foreign before within front []
+open_cut : (form : PageForm) (foreign : Bool) (before : List ℕ) (within : State) (front start : List ℕ) → within ≡ Data → front ≡ start → begins_tag form start ≡ false → opens_markup start ≡ true → NoneEnds (ends_markup form foreign) start → IsOther form foreign before within front []
 open_cut form foreign before within front start e is tag opens none =
     subst (λ xs. IsOther form foreign before within xs []) (sym is) (markup_other form foreign before within start [] e tag (opens, (cut_here (ends_markup form foreign) start none)))
 
-slash_only : (form : Form) → begins_tag form (60 ∷ 47 ∷ []) ≡ false
+slash_only : (form : PageForm) → begins_tag form (60 ∷ 47 ∷ []) ≡ false
 slash_only Html = refl
 slash_only Xml = refl
 
-plain_cut : (form : Form) (foreign : Bool) (before : List ℕ) (within : State) (front : List ℕ) → within ≡ Plaintext → IsOther form foreign before within front []
+plain_cut : (form : PageForm) (foreign : Bool) (before : List ℕ) (within : State) (front : List ℕ) → within ≡ Plaintext → IsOther form foreign before within front []
 plain_cut form foreign before within front e = subst (λ k. IsOther form foreign before k front []) (sym e) refl
 
-pub cut : (form : Form) (foreign : Bool) (before : List ℕ) (within state : State) (front : List ℕ) → Stands form foreign before within state front → IsInGrammar form foreign before within (kind_of state front) front []
+pub cut : (form : PageForm) (foreign : Bool) (before : List ℕ) (within state : State) (front : List ℕ) → Stands form foreign before within state front → IsInGrammar form foreign before within (kind_of state front) front []
 unfolding kind_of
 cut form foreign before within Data front s = (s.0, (s.1, tt))
 cut form foreign before within CharacterReference front s = (s.0, record { name = []; whole = inl s.1; is_name = refl })

@@ -4,7 +4,7 @@ use Rattle.std.specs.Option.{unwrap_or}
 use Rattle.std.proofs.lemmas.List.{length-reverse, length-map}
 use Rattle.html_pieces.specs.Groups.{is_root}
 use Rattle.html_pieces.specs.Elements.{Element, kept_open, around_nearest_in_scope, closed_as, depth_limit, as_element, as_elements}
-use Rattle.html_pieces.specs.declared.bytes.Form.{Form}
+use Rattle.html_pieces.specs.declared.bytes.PageForm.{PageForm}
 use Rattle.html_pieces.specs.declared.groups.ElementGroup.{ElementGroup}
 use Rattle.html_pieces.specs.declared.elements.Element as declared
 use Rattle.html_pieces.specs.Readings.{closes_alike_from, ends_alike_from}
@@ -13,11 +13,11 @@ pub kept_at_limit : (new : ElementGroup) (left : ℕ) (kept es : List Element) �
 kept_at_limit new left kept [] h = refl
 kept_at_limit new left kept (e ∷ es) h = rw h
 
-pub none_at_limit : (form : Form) (name : List ℕ) (tag : ElementGroup) (left : ℕ) (es : List Element) → left ≡ 0 → around_nearest_in_scope form name tag left es ≡ None
+pub none_at_limit : (form : PageForm) (name : List ℕ) (tag : ElementGroup) (left : ℕ) (es : List Element) → left ≡ 0 → around_nearest_in_scope form name tag left es ≡ None
 none_at_limit form name tag left [] h = refl
 none_at_limit form name tag left (e ∷ es) h = rw h
 
-pub closed_passes : (form : Form) (name : List ℕ) (tag : ElementGroup) (es : List Element) → is_root tag ≡ false → around_nearest_in_scope form name tag depth_limit es ≡ None
+pub closed_passes : (form : PageForm) (name : List ℕ) (tag : ElementGroup) (es : List Element) → is_root tag ≡ false → around_nearest_in_scope form name tag depth_limit es ≡ None
     → closed_as form name tag es ≡ es
 closed_passes form name tag es r none =
     ap (λ b. if b then es else unwrap_or (around_nearest_in_scope form name tag depth_limit es) es) r ∙ ap (λ o. unwrap_or o es) none

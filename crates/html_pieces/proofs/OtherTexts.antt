@@ -2,12 +2,12 @@
 use Rattle.std.proofs.Common.{◌≡◌, ℕ, ◌==◌, ◌||◌, ◌&&◌, List, [], ◌∷◌, ◌++◌, refl, ap, sym, ◌∙◌, append_assoc, append-nil, subst, Option, Some, None, Bool, true, false, not, nat_lt, if◌then◌else◌, eqb-true, arith, nat_eq, codes}
 use Rattle.std.proofs.lemmas.Bool.Decides.{nat_tests}
 use Rattle.std.specs.Option.{option_map_or}
-use Rattle.html_pieces.specs.declared.bytes.Form.{Form}
-use Rattle.html_pieces.specs.declared.bytes.Form.TheVariants.{Html, Xml}
+use Rattle.html_pieces.specs.declared.bytes.PageForm.{PageForm}
+use Rattle.html_pieces.specs.declared.bytes.PageForm.TheVariants.{Html, Xml}
 use Rattle.html_pieces.specs.declared.tokenizer.State.{State}
 use Rattle.html_pieces.specs.declared.tokenizer.State.TheVariants.{Data, CharacterReference, ReferenceName, ReferenceEnd, TagOpen, EndTagOpen, TagName, BeforeAttributeName, AttributeName, AfterAttributeName, BeforeAttributeValue, DoubleQuotedValue, SingleQuotedValue, UnquotedValue, AfterQuotedValue, SelfClosingTag, TagEnd, EmptyTagEnd, MarkupDeclarationOpen, MarkupDeclarationDash, BogusComment, DoctypeSubset, DoctypeSubsetEnd, ProcessingInstruction, ProcessingInstructionMark, CommentStart, CommentStartDash, Comment, CommentEndDash, CommentEnd, CommentEndBang, CdataSection, CdataSectionBracket, CdataSectionEnd, MarkupEnd, Raw, ScriptEscaped, ScriptDoubleEscaped, Plaintext}
-use Rattle.html_pieces.specs.declared.tokenizer.Kind.{Kind}
-use Rattle.html_pieces.specs.declared.tokenizer.Kind.TheVariants.{StartTag, EmptyTag, EndTag}
+use Rattle.html_pieces.specs.declared.tokenizer.PieceKind.{PieceKind}
+use Rattle.html_pieces.specs.declared.tokenizer.PieceKind.TheVariants.{StartTag, EmptyTag, EndTag}
 use Rattle.html_pieces.specs.Bytes.{is_continuation, is_white_space, is_alphanumeric, is_name_start, is_same_name, is_xml}
 use Rattle.html_pieces.specs.Names.{is_end_tag, raw_end_tag}
 use Rattle.html_pieces.specs.declared.tokenizer.RawElement.TheVariants.{Script}
@@ -71,7 +71,7 @@ before_value_leads b = one_of (is_white_space b) (BeforeAttributeValue) (if b ==
 unquoted_leads : (b : ℕ) → NotData (in_unquoted_value b)
 unquoted_leads b = one_of (is_white_space b) (BeforeAttributeName) (if b == 62 then TagEnd else UnquotedValue) (record { is = refl }) (one_of (b == 62) (TagEnd) (UnquotedValue) (record { is = refl }) (record { is = refl }))
 
-next_leads : (form : Form) (foreign : Bool) (state : State) (front : List ℕ) (b : ℕ) → is_data state ≡ false → Leads state (next form foreign state front b)
+next_leads : (form : PageForm) (foreign : Bool) (state : State) (front : List ℕ) (b : ℕ) → is_data state ≡ false → Leads state (next form foreign state front b)
 unfolding next in_raw in_escaped in_double_escaped
 next_leads form foreign Data front b h = absurd (cc h)
 next_leads form foreign CharacterReference front b h =
@@ -141,12 +141,12 @@ next_leads form foreign TagEnd front b h = record { is = refl }
 next_leads form foreign EmptyTagEnd front b h = record { is = refl }
 next_leads form foreign MarkupEnd front b h = record { is = refl }
 
-after_leads : (form : Form) (foreign : Bool) (state : State) (front : List ℕ) (b : ℕ) → is_data state ≡ false → Leads state (state_after form foreign state front b)
+after_leads : (form : PageForm) (foreign : Bool) (state : State) (front : List ℕ) (b : ℕ) → is_data state ≡ false → Leads state (state_after form foreign state front b)
 after_leads form foreign state front b h =
     leads_if (is_continuation b) (Some state) (next form foreign state front b) (leads_on (record { is = h })) (next_leads form foreign state front b h)
 
 -- where a text begins at a byte, one does at the byte c2 too
-begins_text_too : (form : Form) (foreign : Bool) (state : State) (front : List ℕ) (b : ℕ) → may_end state ≡ true
+begins_text_too : (form : PageForm) (foreign : Bool) (state : State) (front : List ℕ) (b : ℕ) → may_end state ≡ true
     → is_data (begin (content_after form foreign state front) b) ≡ true → state_after form foreign state front 0xC2 ≡ None
 unfolding next begin content_after
 begins_text_too Html foreign TagOpen front b m d = refl
@@ -193,7 +193,7 @@ goes_if : (c e : Bool) → e ≡ false → (if c then Some Data else if e then N
 goes_if true e h = refl
 goes_if false e h = ap (λ x. if x then None else Some Data) h
 
-in_text : (form : Form) (foreign : Bool) (front : List ℕ) (b : ℕ) → ends_text b ≡ false → state_after form foreign Data front b ≡ Some Data
+in_text : (form : PageForm) (foreign : Bool) (front : List ℕ) (b : ℕ) → ends_text b ≡ false → state_after form foreign Data front b ≡ Some Data
 unfolding next
 in_text form foreign front b e = goes_if (is_continuation b) (ends_text b) e
 
@@ -205,7 +205,7 @@ went_if true e after f h = (cc, f refl)
 went_if false true after f h = cc
 went_if false false after f h = (cc, refl)
 
-still_text : (form : Form) (foreign : Bool) (front : List ℕ) (b : ℕ) (after : State) → state_after form foreign Data front b ≡ Some after → (after ≡ Data) × (ends_text b ≡ false)
+still_text : (form : PageForm) (foreign : Bool) (front : List ℕ) (b : ℕ) (after : State) → state_after form foreign Data front b ≡ Some after → (after ≡ Data) × (ends_text b ≡ false)
 unfolding next
 still_text form foreign front b after e = went_if (is_continuation b) (ends_text b) after (no_continuation b) e
 
@@ -214,13 +214,13 @@ ended_if true e h = cc
 ended_if false true h = refl
 ended_if false false h = cc
 
-text_ended : (form : Form) (foreign : Bool) (front : List ℕ) (b : ℕ) → state_after form foreign Data front b ≡ None → ends_text b ≡ true
+text_ended : (form : PageForm) (foreign : Bool) (front : List ℕ) (b : ℕ) → state_after form foreign Data front b ≡ None → ends_text b ≡ true
 unfolding next
 text_ended form foreign front b e = ended_if (is_continuation b) (ends_text b) e
 
 -- ---- texts
 
-text_run : (form : Form) (depth : ℕ) (front text rest : List ℕ) → IsPlain text → pieces_from form depth Data front (text ++ rest) ≡ pieces_from form depth Data (front ++ text) rest
+text_run : (form : PageForm) (depth : ℕ) (front text rest : List ℕ) → IsPlain text → pieces_from form depth Data front (text ++ rest) ≡ pieces_from form depth Data (front ++ text) rest
 text_run form depth front [] rest p = ap (λ f. pieces_from form depth Data f rest) (sym (append-nil front))
 text_run form depth front (b ∷ text) rest p =
     pieces_on form depth Data Data front b (text ++ rest) (in_text form (nat_lt 0 depth) front b p.0)
@@ -228,7 +228,7 @@ text_run form depth front (b ∷ text) rest p =
     ∙ ap (λ f. pieces_from form depth Data f rest) (append_assoc front (b ∷ []) text)
 
 -- the bytes of a text, from the first one on
-text_pieces : (form : Form) (depth b : ℕ) (text rest : List ℕ) (others : List Piece) → IsPlain (b ∷ text)
+text_pieces : (form : PageForm) (depth b : ℕ) (text rest : List ℕ) (others : List Piece) → IsPlain (b ∷ text)
     → ((front : List ℕ) → pieces_from form depth Data front rest ≡ piece Data front ∷ others)
     → pieces_from form depth (begin Data b) (b ∷ []) (text ++ rest) ≡ piece Data (b ∷ text) ∷ others
 text_pieces form depth b text rest others p goes =
@@ -254,13 +254,13 @@ begins_more (x ∷ front) more (o ∷ os) s = refl
 -- ---- the pieces from a state on, and others with other texts
 
 -- the first piece stays, as far as it has come
-record OtherWalk (form : Form) (depth : ℕ) (state : State) (front : List ℕ) (others : List Piece) : Type 0 where
+record OtherWalk (form : PageForm) (depth : ℕ) (state : State) (front : List ℕ) (others : List Piece) : Type 0 where
   rest : List ℕ
   joins : joined_pieces others ≡ front ++ rest
   goes : pieces_from form depth state front rest ≡ others
 
 -- the first piece is another text
-record TextWalk (form : Form) (depth : ℕ) (front : List ℕ) (others : List Piece) : Type 0 where
+record TextWalk (form : PageForm) (depth : ℕ) (front : List ℕ) (others : List Piece) : Type 0 where
   text : List ℕ
   more : List Piece
   rest : List ℕ
@@ -270,7 +270,7 @@ record TextWalk (form : Form) (depth : ℕ) (front : List ℕ) (others : List Pi
   goes : (any : List ℕ) → pieces_from form depth Data any rest ≡ piece Data any ∷ more
   is : others ≡ piece Data text ∷ more
 
-abbrev Walked : Form → ℕ → State → List ℕ → List Piece → Type 0
+abbrev Walked : PageForm → ℕ → State → List ℕ → List Piece → Type 0
 Walked form depth Data front others = TextWalk form depth front others
 Walked form depth state front others = OtherWalk form depth state front others
 
@@ -278,11 +278,11 @@ abbrev Ready : State → List ℕ → Type 0
 Ready Data front = IsPlain front × IsSome front
 Ready _ front = Unit {0}
 
-as_other : (form : Form) (depth : ℕ) (state : State) (front : List ℕ) (others : List Piece) → is_data state ≡ false → Walked form depth state front others → OtherWalk form depth state front others
+as_other : (form : PageForm) (depth : ℕ) (state : State) (front : List ℕ) (others : List Piece) → is_data state ≡ false → Walked form depth state front others → OtherWalk form depth state front others
 as_other form depth Data front others d w = absurd (cc d)
 as_other form depth state front others d w = w
 
-as_text : (form : Form) (depth : ℕ) (state : State) (front : List ℕ) (others : List Piece) → is_data state ≡ true → Walked form depth state front others → TextWalk form depth front others
+as_text : (form : PageForm) (depth : ℕ) (state : State) (front : List ℕ) (others : List Piece) → is_data state ≡ true → Walked form depth state front others → TextWalk form depth front others
 as_text form depth Data front others d w = w
 as_text form depth state front others d w = absurd (cc d)
 
@@ -295,7 +295,7 @@ ready_text Data b d e = ((e, tt), tt)
 ready_text state b d e = absurd (cc d)
 
 -- a piece that is no text stays
-tag_stays : (c : Bool) (x : Kind) (front other : List ℕ) → IsOtherText x front other ≡ (other ≡ front) → IsOtherText (if c then EndTag else x) front other → other ≡ front
+tag_stays : (c : Bool) (x : PieceKind) (front other : List ℕ) → IsOtherText x front other ≡ (other ≡ front) → IsOtherText (if c then EndTag else x) front other → other ≡ front
 tag_stays true x front other e u = u
 tag_stays false x front other e u = subst (λ T. T) e u
 
@@ -315,7 +315,7 @@ unfolding kind_of
 same_text front other a = ap (λ k. record { kind = k; bytes = other.bytes }) a.kind
 
 -- the page ends
-at_end : (form : Form) (depth : ℕ) (state : State) (front : List ℕ) (others : List Piece) → Ready state front → HaveOtherTexts (piece state front ∷ []) others → Walked form depth state front others
+at_end : (form : PageForm) (depth : ℕ) (state : State) (front : List ℕ) (others : List Piece) → Ready state front → HaveOtherTexts (piece state front ∷ []) others → Walked form depth state front others
 unfolding kind_of
 at_end form depth state front [] r m = absurd m
 at_end form depth state front (q ∷ q' ∷ qs) r m = absurd m.1
@@ -334,7 +334,7 @@ at_end form depth state front (q ∷ []) r m =
     record { rest = []; joins = ap (λ p. p.bytes ++ []) same; goes = ap (λ p. p ∷ []) (sym same) }
 
 -- a text goes on
-text_on : (form : Form) (depth : ℕ) (front : List ℕ) (b : ℕ) (bs : List ℕ) (others : List Piece) (after : State) → state_after form (nat_lt 0 depth) Data front b ≡ Some after → Ready Data front
+text_on : (form : PageForm) (depth : ℕ) (front : List ℕ) (b : ℕ) (bs : List ℕ) (others : List Piece) (after : State) → state_after form (nat_lt 0 depth) Data front b ≡ Some after → Ready Data front
     → (Ready after (front ++ b ∷ []) → Walked form depth after (front ++ b ∷ []) others) → TextWalk form depth front others
 text_on form depth front b bs others after e r on =
     let still = still_text form (nat_lt 0 depth) front b after e in
@@ -352,7 +352,7 @@ text_on form depth front b bs others after e r on =
     }
 
 -- a text ends
-text_done : (form : Form) (depth : ℕ) (front : List ℕ) (b : ℕ) (bs : List ℕ) (q : Piece) (qs : List Piece) → state_after form (nat_lt 0 depth) Data front b ≡ None → Ready Data front
+text_done : (form : PageForm) (depth : ℕ) (front : List ℕ) (b : ℕ) (bs : List ℕ) (q : Piece) (qs : List Piece) → state_after form (nat_lt 0 depth) Data front b ≡ None → Ready Data front
     → IsAlike (piece Data front) q → OtherWalk form depth (begin Data b) (b ∷ []) qs → TextWalk form depth front (q ∷ qs)
 unfolding next kind_of content_after depth_after
 text_done form depth front b bs q qs e r a w = record {
@@ -367,7 +367,7 @@ text_done form depth front b bs q qs e r a w = record {
 }
 
 -- a piece ends before one that is no text, or before a text
-other_done : (form : Form) (depth : ℕ) (state : State) (front : List ℕ) (b : ℕ) (q : Piece) (qs : List Piece) → state_after form (nat_lt 0 depth) state front b ≡ None → q ≡ piece state front
+other_done : (form : PageForm) (depth : ℕ) (state : State) (front : List ℕ) (b : ℕ) (q : Piece) (qs : List Piece) → state_after form (nat_lt 0 depth) state front b ≡ None → q ≡ piece state front
     → OtherWalk form (depth_after depth state front) (begin (content_after form (nat_lt 0 depth) state front) b) (b ∷ []) qs → OtherWalk form depth state front (q ∷ qs)
 other_done form depth state front b q qs e same w = record {
   rest = b ∷ w.rest;
@@ -380,7 +380,7 @@ alike_byte true y b o P f g p q e = subst P (sym (f refl)) p
 alike_byte false true b o P f g p q e = subst P (sym (g refl)) q
 alike_byte false false b o P f g p q e = cc
 
-text_follows : (form : Form) (depth : ℕ) (state : State) (front : List ℕ) (b : ℕ) (q : Piece) (qs : List Piece) (text rest : List ℕ) (more : List Piece) → state_after form (nat_lt 0 depth) state front b ≡ None
+text_follows : (form : PageForm) (depth : ℕ) (state : State) (front : List ℕ) (b : ℕ) (q : Piece) (qs : List Piece) (text rest : List ℕ) (more : List Piece) → state_after form (nat_lt 0 depth) state front b ≡ None
     → q ≡ piece state front → may_end state ≡ true → is_data (begin (content_after form (nat_lt 0 depth) state front) b) ≡ true
     → IsPlain text → begins_alike (b ∷ []) text ≡ true → joined_pieces qs ≡ text ++ rest
     → ((any : List ℕ) → pieces_from form (depth_after depth state front) Data any rest ≡ piece Data any ∷ more) → qs ≡ piece Data text ∷ more
@@ -400,7 +400,7 @@ text_follows form depth state front b q qs (o ∷ text) rest more e same may d p
           ∙ ap (λ p. p ∷ qs) (sym same);
     }
 
-new_piece : (form : Form) (depth : ℕ) (state : State) (front : List ℕ) (b : ℕ) (q : Piece) (qs : List Piece) (c : Bool) → is_data (begin (content_after form (nat_lt 0 depth) state front) b) ≡ c
+new_piece : (form : PageForm) (depth : ℕ) (state : State) (front : List ℕ) (b : ℕ) (q : Piece) (qs : List Piece) (c : Bool) → is_data (begin (content_after form (nat_lt 0 depth) state front) b) ≡ c
     → state_after form (nat_lt 0 depth) state front b ≡ None → q ≡ piece state front → may_end state ≡ true
     → (Ready (begin (content_after form (nat_lt 0 depth) state front) b) (b ∷ [])
     → Walked form (depth_after depth state front) (begin (content_after form (nat_lt 0 depth) state front) b) (b ∷ []) qs)
@@ -416,7 +416,7 @@ new_piece form depth state front b q qs true d e same may anew =
     text_follows form depth state front b q qs w.text w.rest w.more e same may d w.plain w.begins w.joins w.goes w.is
 
 -- one byte more in a piece that is no text
-other_step : (form : Form) (depth : ℕ) (state : State) (front : List ℕ) (b : ℕ) (bs : List ℕ) (others : List Piece) (o : Option State) → is_data state ≡ false
+other_step : (form : PageForm) (depth : ℕ) (state : State) (front : List ℕ) (b : ℕ) (bs : List ℕ) (others : List Piece) (o : Option State) → is_data state ≡ false
     → state_after form (nat_lt 0 depth) state front b ≡ o
     → ((after : State) → Ready after (front ++ b ∷ []) → HaveOtherTexts (pieces_from form depth after (front ++ b ∷ []) bs) others → Walked form depth after (front ++ b ∷ []) others)
     → ((qs : List Piece) → Ready (begin (content_after form (nat_lt 0 depth) state front) b) (b ∷ []) → HaveOtherTexts (after_piece form depth state front b bs) qs
@@ -435,7 +435,7 @@ other_step form depth state front b bs (q ∷ qs) None d e on anew m =
     new_piece form depth state front b q qs (is_data (begin (content_after form (nat_lt 0 depth) state front) b)) refl e (same_piece state front q d m.0) may (λ r. anew qs r m.1)
 
 -- one byte more in a text
-text_step : (form : Form) (depth : ℕ) (front : List ℕ) (b : ℕ) (bs : List ℕ) (others : List Piece) (o : Option State) → state_after form (nat_lt 0 depth) Data front b ≡ o → Ready Data front
+text_step : (form : PageForm) (depth : ℕ) (front : List ℕ) (b : ℕ) (bs : List ℕ) (others : List Piece) (o : Option State) → state_after form (nat_lt 0 depth) Data front b ≡ o → Ready Data front
     → ((after : State) → Ready after (front ++ b ∷ []) → HaveOtherTexts (pieces_from form depth after (front ++ b ∷ []) bs) others → Walked form depth after (front ++ b ∷ []) others)
     → ((qs : List Piece) → Ready (begin Data b) (b ∷ []) → HaveOtherTexts (after_piece form depth Data front b bs) qs → Walked form depth (begin Data b) (b ∷ []) qs)
     → HaveOtherTexts (option_map_or (λ after. pieces_from form depth after (front ++ b ∷ []) bs) o (piece Data front ∷ after_piece form depth Data front b bs)) others
@@ -446,7 +446,7 @@ text_step form depth front b bs (q ∷ qs) None e r on anew m =
     let markup = markup_begins b (text_ended form (nat_lt 0 depth) front b e) in
     text_done form depth front b bs q qs e r m.0 (as_other form depth (begin Data b) (b ∷ []) qs markup (anew qs (ready_other (begin Data b) (b ∷ []) markup) m.1))
 
-step : (form : Form) (depth : ℕ) (state : State) (front : List ℕ) (b : ℕ) (bs : List ℕ) (others : List Piece) → Ready state front
+step : (form : PageForm) (depth : ℕ) (state : State) (front : List ℕ) (b : ℕ) (bs : List ℕ) (others : List Piece) → Ready state front
     → ((after : State) → Ready after (front ++ b ∷ []) → HaveOtherTexts (pieces_from form depth after (front ++ b ∷ []) bs) others → Walked form depth after (front ++ b ∷ []) others)
     → ((qs : List Piece) → Ready (begin (content_after form (nat_lt 0 depth) state front) b) (b ∷ []) → HaveOtherTexts (after_piece form depth state front b bs) qs
     → Walked form (depth_after depth state front) (begin (content_after form (nat_lt 0 depth) state front) b) (b ∷ []) qs)
@@ -456,20 +456,20 @@ unfolding content_after depth_after
 step form depth Data front b bs others r on anew m = text_step form depth front b bs others (state_after form (nat_lt 0 depth) Data front b) refl r on anew m
 step form depth state front b bs others r on anew m = other_step form depth state front b bs others (state_after form (nat_lt 0 depth) state front b) refl refl on anew m
 
-walk : (form : Form) (depth : ℕ) (state : State) (front bs : List ℕ) (others : List Piece) → Ready state front → HaveOtherTexts (pieces_from form depth state front bs) others → Walked form depth state front others
+walk : (form : PageForm) (depth : ℕ) (state : State) (front bs : List ℕ) (others : List Piece) → Ready state front → HaveOtherTexts (pieces_from form depth state front bs) others → Walked form depth state front others
 walk form depth state front [] others r m = at_end form depth state front others r m
 walk form depth state front (b ∷ bs) others r m =
     step form depth state front b bs others r
     (λ after ready more. walk form depth after (front ++ b ∷ []) bs others ready more)
     (λ qs ready more. walk form (depth_after depth state front) (begin (content_after form (nat_lt 0 depth) state front) b) (b ∷ []) bs qs ready more) m
 
-text_first : (form : Form) (b : ℕ) (others : List Piece) (text rest : List ℕ) (more : List Piece) → IsPlain text → begins_alike (b ∷ []) text ≡ true → joined_pieces others ≡ text ++ rest
+text_first : (form : PageForm) (b : ℕ) (others : List Piece) (text rest : List ℕ) (more : List Piece) → IsPlain text → begins_alike (b ∷ []) text ≡ true → joined_pieces others ≡ text ++ rest
     → ((any : List ℕ) → pieces_from form 0 Data any rest ≡ piece Data any ∷ more) → others ≡ piece Data text ∷ more → pieces_of form (joined_pieces others) ≡ others
 text_first form b others [] rest more plain begins joins goes is = absurd (cc begins)
 text_first form b others (o ∷ text) rest more plain begins joins goes is =
     ap (pieces_of form) joins ∙ text_pieces form 0 o text rest more plain goes ∙ sym is
 
-first_piece : (form : Form) (b : ℕ) (others : List Piece) (c : Bool) → is_data (begin Data b) ≡ c
+first_piece : (form : PageForm) (b : ℕ) (others : List Piece) (c : Bool) → is_data (begin Data b) ≡ c
     → (Ready (begin Data b) (b ∷ []) → Walked form 0 (begin Data b) (b ∷ []) others) → pieces_of form (joined_pieces others) ≡ others
 first_piece form b others false d walked =
     let w = as_other form 0 (begin Data b) (b ∷ []) others d (walked (ready_other (begin Data b) (b ∷ []) d)) in
@@ -479,7 +479,7 @@ first_piece form b others true d walked =
     let w = as_text form 0 (begin Data b) (b ∷ []) others d (walked (ready_text (begin Data b) b d plain.1)) in
     text_first form b others w.text w.rest w.more w.plain w.begins w.joins w.goes w.is
 
-pub other_texts : (form : Form) (page : List ℕ) (others : List Piece) → HaveOtherTexts (pieces_of form page) others → pieces_of form (joined_pieces others) ≡ others
+pub other_texts : (form : PageForm) (page : List ℕ) (others : List Piece) → HaveOtherTexts (pieces_of form page) others → pieces_of form (joined_pieces others) ≡ others
 other_texts form [] [] m = refl
 other_texts form [] (q ∷ qs) m = absurd m
 other_texts form (b ∷ bs) others m = first_piece form b others (is_data (begin Data b)) refl (λ r. walk form 0 (begin Data b) (b ∷ []) bs others r m)

@@ -1,7 +1,7 @@
 -- Bytes that leave a state as it is.
 use Rattle.std.proofs.Common.{◌≡◌, ℕ, ◌==◌, ◌||◌, ◌&&◌, List, Option, Some, None, Bool, true, false, not, refl, ap, if◌then◌else◌, arith, codes}
 use Rattle.std.proofs.lemmas.Bool.Decides.{nat_tests}
-use Rattle.html_pieces.specs.declared.bytes.Form.{Form}
+use Rattle.html_pieces.specs.declared.bytes.PageForm.{PageForm}
 use Rattle.html_pieces.specs.declared.tokenizer.State.{State}
 use Rattle.html_pieces.specs.declared.tokenizer.State.TheVariants.{Data, TagName, AttributeName, DoubleQuotedValue, SingleQuotedValue, AfterQuotedValue, Comment, CommentEndDash, Raw, BeforeAttributeName, AfterAttributeName, SelfClosingTag, TagEnd, BeforeAttributeValue, ScriptEscaped}
 use Rattle.html_pieces.specs.Bytes.{is_white_space, is_alphanumeric, is_continuation, ends_name, is_same_name}
@@ -56,7 +56,7 @@ pub no_dash : (dash c d : Bool) → dash ≡ false → dash && c && d ≡ false
 no_dash true c d e = cc
 no_dash false c d e = refl
 
-pub next_stays : (form : Form) (foreign : Bool) (state : State) (front : List ℕ) (b : ℕ) → is_quiet state b ≡ true → next form foreign state front b ≡ Some state
+pub next_stays : (form : PageForm) (foreign : Bool) (state : State) (front : List ℕ) (b : ℕ) → is_quiet state b ≡ true → next form foreign state front b ≡ Some state
 unfolding next in_raw
 next_stays form foreign Data front b e = past_if (b == 60 || b == 38) None (Some Data) (Some Data) (not_true (ends_text b) e) refl
 next_stays form foreign TagName front b e = ap (λ s. Some s) (in_tag_stays b TagName (plain_byte b e))
@@ -75,5 +75,5 @@ either_stays : (c : Bool) (state : State) (o : Option State) → o ≡ Some stat
 either_stays true state o e = refl
 either_stays false state o e = e
 
-pub quiet_stays : (form : Form) (foreign : Bool) (state : State) (front : List ℕ) (b : ℕ) → is_quiet state b ≡ true → state_after form foreign state front b ≡ Some state
+pub quiet_stays : (form : PageForm) (foreign : Bool) (state : State) (front : List ℕ) (b : ℕ) → is_quiet state b ≡ true → state_after form foreign state front b ≡ Some state
 quiet_stays form foreign state front b e = either_stays (is_continuation b) state (next form foreign state front b) (next_stays form foreign state front b e)

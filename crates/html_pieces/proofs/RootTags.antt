@@ -7,12 +7,12 @@ use Rattle.std.specs.Str.{IsUtf8}
 use Rattle.std.specs.List.{take_while, starts_with, ends_with}
 use Rattle.std.proofs.lemmas.List.Sums.{take_while-cons}
 use Rattle.std.specs.Cmp.Lexicographic.{pointwise}
-use Rattle.html_pieces.specs.declared.bytes.Form.{Form}
-use Rattle.html_pieces.specs.declared.bytes.Form.TheVariants.{Html, Xml}
+use Rattle.html_pieces.specs.declared.bytes.PageForm.{PageForm}
+use Rattle.html_pieces.specs.declared.bytes.PageForm.TheVariants.{Html, Xml}
 use Rattle.html_pieces.specs.declared.tokenizer.State.{State}
 use Rattle.html_pieces.specs.declared.tokenizer.State.TheVariants.{Data, CharacterReference, ReferenceName, ReferenceEnd, TagOpen, EndTagOpen, TagName, BeforeAttributeName, AttributeName, AfterAttributeName, BeforeAttributeValue, DoubleQuotedValue, SingleQuotedValue, UnquotedValue, AfterQuotedValue, SelfClosingTag, TagEnd, EmptyTagEnd, MarkupDeclarationOpen, MarkupDeclarationDash, BogusComment, DoctypeSubset, DoctypeSubsetEnd, ProcessingInstruction, ProcessingInstructionMark, CommentStart, CommentStartDash, Comment, CommentEndDash, CommentEnd, CommentEndBang, CdataSection, CdataSectionBracket, CdataSectionEnd, MarkupEnd, Raw, ScriptEscaped, ScriptDoubleEscaped, Plaintext}
-use Rattle.html_pieces.specs.declared.tokenizer.Kind.{Kind}
-use Rattle.html_pieces.specs.declared.tokenizer.Kind.TheVariants.{StartTag, EmptyTag, EndTag, Other}
+use Rattle.html_pieces.specs.declared.tokenizer.PieceKind.{PieceKind}
+use Rattle.html_pieces.specs.declared.tokenizer.PieceKind.TheVariants.{StartTag, EmptyTag, EndTag, Other}
 use Rattle.html_pieces.specs.Bytes.{is_continuation, is_white_space, is_alpha, is_alphanumeric, is_name_start, is_same_name, is_xml, ends_name}
 use Rattle.html_pieces.specs.Names.{is_end_tag, name_of, raw_element, is_foreign_root}
 use Rattle.html_pieces.specs.Pieces.{Piece, piece, pieces_from, pieces_of, state_after, next, in_tag, in_attribute, before_value, in_unquoted_value, begin, content_after, content_of, depth_after, kind_of}
@@ -60,7 +60,7 @@ markup_if false x y p q = q
 on_markup : (after : State) → is_markup after ≡ true → Markup (Some after)
 on_markup after m = record { on = m }
 
-markup_next : (form : Form) (state : State) (front : List ℕ) (b : ℕ) → is_markup state ≡ true → Markup (next form false state front b)
+markup_next : (form : PageForm) (state : State) (front : List ℕ) (b : ℕ) → is_markup state ≡ true → Markup (next form false state front b)
 unfolding next
 markup_next form MarkupDeclarationOpen front b m = markup_if (b == 45) _ _ (on_markup _ refl) (markup_if (b == 62) _ _ (on_markup _ refl) (on_markup _ refl))
 markup_next form MarkupDeclarationDash front b m = markup_if (b == 45) _ _ (on_markup _ refl) (markup_if (b == 62) _ _ (on_markup _ refl) (on_markup _ refl))
@@ -83,7 +83,7 @@ markup_next form CdataSectionEnd front b m = markup_if (b == 93) _ _ (on_markup 
 markup_next form MarkupEnd front b m = record { on = tt }
 markup_next form state front b m = absurd (cc m)
 
-markup_after : (form : Form) (state : State) (front : List ℕ) (b : ℕ) → is_markup state ≡ true → Markup (state_after form false state front b)
+markup_after : (form : PageForm) (state : State) (front : List ℕ) (b : ℕ) → is_markup state ≡ true → Markup (state_after form false state front b)
 markup_after form state front b m = markup_if (is_continuation b) (Some state) (next form false state front b) (on_markup state m) (markup_next form state front b m)
 
 markup_kind : (state : State) (front : List ℕ) → is_markup state ≡ true → kind_of state front ≡ Other
@@ -105,14 +105,14 @@ pub record FirstOther (front : List ℕ) (ps : List Piece) : Type 0 where
   pub rest : List Piece
   pub is : ps ≡ other_piece (front ++ more) ∷ rest
 
-other_of : (kind : Kind) (front : List ℕ) (rest : List Piece) → kind ≡ Other → FirstOther front (record { kind = kind; bytes = front } ∷ rest)
+other_of : (kind : PieceKind) (front : List ℕ) (rest : List Piece) → kind ≡ Other → FirstOther front (record { kind = kind; bytes = front } ∷ rest)
 other_of kind front rest e = record {
   more = [];
   rest = rest;
   is = ap (λ k. record { kind = k; bytes = front } ∷ rest) e ∙ ap (λ xs. other_piece xs ∷ rest) (sym (append-nil front));
 }
 
-other_cases : (form : Form) (state : State) (front : List ℕ) (b : ℕ) (bs : List ℕ) (o : Option State) → state_after form false state front b ≡ o → Markup o → is_markup state ≡ true
+other_cases : (form : PageForm) (state : State) (front : List ℕ) (b : ℕ) (bs : List ℕ) (o : Option State) → state_after form false state front b ≡ o → Markup o → is_markup state ≡ true
     → ((after : State) → is_markup after ≡ true → FirstOther (front ++ b ∷ []) (pieces_from form 0 after (front ++ b ∷ []) bs))
     → FirstOther front (pieces_from form 0 state front (b ∷ bs))
 other_cases form state front b bs (Some after) e m here on =
@@ -125,7 +125,7 @@ other_cases form state front b bs (Some after) e m here on =
 other_cases form state front b bs None e m here on =
     subst (FirstOther front) (sym (pieces_anew form 0 state front b bs e)) (other_of (kind_of state front) front (after_piece form 0 state front b bs) (markup_kind state front here))
 
-pub first_other : (form : Form) (state : State) (front bs : List ℕ) → is_markup state ≡ true → FirstOther front (pieces_from form 0 state front bs)
+pub first_other : (form : PageForm) (state : State) (front bs : List ℕ) → is_markup state ≡ true → FirstOther front (pieces_from form 0 state front bs)
 first_other form state front [] m = other_of (kind_of state front) front [] (markup_kind state front m)
 first_other form state front (b ∷ bs) m =
     other_cases form state front b bs (state_after form false state front b) refl (markup_after form state front b m) m
@@ -153,7 +153,7 @@ is_tag_end TagEnd = true
 is_tag_end EmptyTagEnd = true
 is_tag_end _ = false
 
-abbrev is_tag : Kind → Bool
+abbrev is_tag : PieceKind → Bool
 is_tag StartTag = true
 is_tag EmptyTag = true
 is_tag EndTag = true
@@ -224,12 +224,12 @@ is_none _ = false
 -- The first piece is a tag, or the last piece. It begins with these bytes.
 record FirstTag (front : List ℕ) (ps : List Piece) : Type 0 where
   more : List ℕ
-  kind : Kind
+  kind : PieceKind
   rest : List Piece
   is : ps ≡ record { kind = kind; bytes = front ++ more } ∷ rest
   ends : is_tag kind || is_none rest ≡ true
 
-either_tag : (c : Bool) (x : Kind) → is_tag x ≡ true → is_tag (if c then EndTag else x) ≡ true
+either_tag : (c : Bool) (x : PieceKind) → is_tag x ≡ true → is_tag (if c then EndTag else x) ≡ true
 either_tag true x e = refl
 either_tag false x e = e
 
@@ -277,7 +277,7 @@ first_tag state front (b ∷ bs) t =
 abbrev Alike : List ℕ → List Piece → Type 0
 Alike language ps = have_alike_front (page_element language) ps ≡ true
 
-not_last : (language : List ℕ) (kind : Kind) (bytes : List ℕ) → is_start kind ≡ false → have_alike_front (page_element language) (record { kind = kind; bytes = bytes } ∷ []) ≡ false
+not_last : (language : List ℕ) (kind : PieceKind) (bytes : List ℕ) → is_start kind ≡ false → have_alike_front (page_element language) (record { kind = kind; bytes = bytes } ∷ []) ≡ false
 not_last language kind bytes e =
     ap (λ c. is_xml_alike (page_element language) kind bytes && (c || false)) e ∙ and_false (is_xml_alike (page_element language) kind bytes) false refl
 
@@ -302,14 +302,14 @@ and_first false b e = refl
 odd_start : (language : List ℕ) (b : ℕ) (more : List ℕ) → is_alpha b ≡ false → is_xml_start_alike (page_element language) (b ∷ more) ≡ false
 odd_start language b more a = and_first _ _ (and_first _ _ (and_first _ _ (and_first (is_alpha b) _ a)))
 
-odd_name : (language bytes : List ℕ) (kind : Kind) (b : ℕ) (more : List ℕ) → name_of bytes ≡ b ∷ more → is_alpha b ≡ false → is_tag kind ≡ true → is_xml_alike (page_element language) kind bytes ≡ false
+odd_name : (language bytes : List ℕ) (kind : PieceKind) (b : ℕ) (more : List ℕ) → name_of bytes ≡ b ∷ more → is_alpha b ≡ false → is_tag kind ≡ true → is_xml_alike (page_element language) kind bytes ≡ false
 odd_name language bytes StartTag b more n a t = ap (is_xml_start_alike (page_element language)) n ∙ odd_start language b more a
 odd_name language bytes EmptyTag b more n a t =
     ap (is_xml_empty_alike (page_element language)) n ∙ and_first (is_xml_start_alike (page_element language) (b ∷ more)) _ (odd_start language b more a)
 odd_name language bytes EndTag b more n a t = ap (pointwise nat_eq []) n
 odd_name language bytes kind b more n a t = absurd (cc t)
 
-odd_cases : (language bytes : List ℕ) (kind : Kind) (rest : List Piece) (b : ℕ) (more : List ℕ) → name_of bytes ≡ b ∷ more → is_alpha b ≡ false → is_tag kind || is_none rest ≡ true
+odd_cases : (language bytes : List ℕ) (kind : PieceKind) (rest : List Piece) (b : ℕ) (more : List ℕ) → name_of bytes ≡ b ∷ more → is_alpha b ≡ false → is_tag kind || is_none rest ≡ true
     → have_alike_front (page_element language) (record { kind = kind; bytes = bytes } ∷ rest) ≡ false
 odd_cases language bytes StartTag rest b more n a t = and_first (is_xml_alike (page_element language) StartTag bytes) _ (odd_name language bytes StartTag b more n a refl)
 odd_cases language bytes EmptyTag rest b more n a t = and_first (is_xml_alike (page_element language) EmptyTag bytes) _ (odd_name language bytes EmptyTag b more n a refl)
@@ -670,7 +670,7 @@ less_depth : (c : Bool) → (if c then 0 - 1 else 0) ≡ 0
 less_depth true = refl
 less_depth false = refl
 
-no_start : (c : Bool) (x : Kind) → is_start x ≡ true → is_start (if c then EndTag else x) ≡ false → c ≡ true
+no_start : (c : Bool) (x : PieceKind) → is_start x ≡ true → is_start (if c then EndTag else x) ≡ false → c ≡ true
 no_start true x s e = refl
 no_start false x s e = absurd (true≢false (sym s ∙ e))
 
@@ -690,7 +690,7 @@ after_end true c x y e = refl
 after_end false true x y e = refl
 after_end false false x y e = absurd (cc e)
 
-content_stays : (form : Form) (state : State) (front : List ℕ) → may_follow state ≡ true → is_start (kind_of state front) ≡ false → content_after form false state front ≡ Data
+content_stays : (form : PageForm) (state : State) (front : List ℕ) → may_follow state ≡ true → is_start (kind_of state front) ≡ false → content_after form false state front ≡ Data
 unfolding content_after kind_of
 content_stays form TagEnd front f e = after_end (is_xml form || false) (is_end_tag front) Data (content_of (name_of front)) (no_start (is_end_tag front) StartTag refl e)
 content_stays form EmptyTagEnd front f e = after_end (is_xml form || false) (is_end_tag front) Data (content_of (name_of front)) (no_start (is_end_tag front) EmptyTag refl e)
@@ -722,7 +722,7 @@ anew_cases : (language : List ℕ) (state : State) (front : List ℕ) (b : ℕ) 
 anew_cases language state front b bs true e f k l a =
     ap (λ c. if c then front else root_tag (after_piece Html 0 state front b bs)) e ∙ sym (ap (λ c. if c then front else root_tag (after_piece Xml 0 state front b bs)) e)
 anew_cases language state front b bs false e f k l a =
-    let after : (form : Form) → after_piece form 0 state front b bs ≡ pieces_from form 0 (begin Data b) (b ∷ []) bs =
+    let after : (form : PageForm) → after_piece form 0 state front b bs ≡ pieces_from form 0 (begin Data b) (b ∷ []) bs =
     λ form. ap (λ d. pieces_from form d (begin (content_after form false state front) b) (b ∷ []) bs) (depth_stays state front f e)
     ∙ ap (λ s. pieces_from form 0 (begin s b) (b ∷ []) bs) (content_stays form state front f e) in
     let rest = rest_alike language state front (after_piece Xml 0 state front b bs) false e refl a in
@@ -775,7 +775,7 @@ after_ascii xs a b bs front e low u =
     let lead = lead_after_ascii whole (length xs) (subst IsUtf8 is u) (subst (λ x. x < 128) (sym here) low) (omega (arith, long)) in
     lead_only b (λ high. subst (λ x. 192 ≤ x) there (lead (subst (λ x. 128 ≤ x) (sym there) high)))
 
-no_continuation : (form : Form) (state : State) (front : List ℕ) (b : ℕ) → is_continuation b ≡ false → state_after form false state front b ≡ next form false state front b
+no_continuation : (form : PageForm) (state : State) (front : List ℕ) (b : ℕ) → is_continuation b ≡ false → state_after form false state front b ≡ next form false state front b
 no_continuation form state front b e = ap (λ k. if k then Some state else next form false state front b) e
 
 -- ---- a tag or declaration begins

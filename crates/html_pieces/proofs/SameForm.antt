@@ -1,10 +1,10 @@
 -- A page with other texts in the places of its texts has the form of the page.
 use Rattle.std.proofs.Common.{◌≡◌, ℕ, ◌||◌, ◌&&◌, List, [], ◌∷◌, refl, ap, sym, ◌∙◌, subst, Bool, true, false, if◌then◌else◌}
 use Rattle.std.specs.Str.{IsUtf8}
-use Rattle.html_pieces.specs.declared.bytes.Form.{Form}
-use Rattle.html_pieces.specs.declared.bytes.Form.TheVariants.{Html, Xml}
-use Rattle.html_pieces.specs.declared.tokenizer.Kind.{Kind}
-use Rattle.html_pieces.specs.declared.tokenizer.Kind.TheVariants.{Text, Reference, StartTag, EmptyTag, EndTag, Other}
+use Rattle.html_pieces.specs.declared.bytes.PageForm.{PageForm}
+use Rattle.html_pieces.specs.declared.bytes.PageForm.TheVariants.{Html, Xml}
+use Rattle.html_pieces.specs.declared.tokenizer.PieceKind.{PieceKind}
+use Rattle.html_pieces.specs.declared.tokenizer.PieceKind.TheVariants.{Text, Reference, StartTag, EmptyTag, EndTag, Other}
 use Rattle.html_pieces.specs.Forms.{is_start, root_tag, has_declaration, has_namespace, form_of}
 use Rattle.html_pieces.specs.Pieces.{Piece, pieces_of}
 use Rattle.html_pieces.specs.Elements.{page_element}
@@ -17,12 +17,12 @@ use Rattle.html_pieces.proofs.Declarations.{Declares, declares_of, declares_join
 
 -- ---- other texts leave the start tags
 
-start_stays : (kind : Kind) (bytes other : List ℕ) → IsOtherText kind bytes other → is_start kind ≡ true → other ≡ bytes
+start_stays : (kind : PieceKind) (bytes other : List ℕ) → IsOtherText kind bytes other → is_start kind ≡ true → other ≡ bytes
 start_stays StartTag bytes other u e = u
 start_stays EmptyTag bytes other u e = u
 start_stays kind bytes other u e = absurd (cc e)
 
-root_cases : (kind : Kind) (bytes other : List ℕ) (c : Bool) (x y : List ℕ) → is_start kind ≡ c → IsOtherText kind bytes other → x ≡ y → (if c then other else x) ≡ (if c then bytes else y)
+root_cases : (kind : PieceKind) (bytes other : List ℕ) (c : Bool) (x y : List ℕ) → is_start kind ≡ c → IsOtherText kind bytes other → x ≡ y → (if c then other else x) ≡ (if c then bytes else y)
 root_cases kind bytes other true x y e u r = start_stays kind bytes other u e
 root_cases kind bytes other false x y e u r = r
 
@@ -34,7 +34,7 @@ root_stays (p ∷ ps) (q ∷ qs) m =
     ap (λ k. if is_start k then q.bytes else root_tag qs) m.0.kind
     ∙ root_cases p.kind p.bytes q.bytes (is_start p.kind) (root_tag qs) (root_tag ps) refl m.0.bytes (root_stays ps qs m.1)
 
-alike_stays : (language : List ℕ) (kind : Kind) (bytes other : List ℕ) → IsOtherText kind bytes other → is_xml_alike (page_element language) kind other ≡ is_xml_alike (page_element language) kind bytes
+alike_stays : (language : List ℕ) (kind : PieceKind) (bytes other : List ℕ) → IsOtherText kind bytes other → is_xml_alike (page_element language) kind other ≡ is_xml_alike (page_element language) kind bytes
 alike_stays language Text bytes other u = refl
 alike_stays language Reference bytes other u = refl
 alike_stays language StartTag bytes other u = ap (is_xml_alike (page_element language) StartTag) u
@@ -68,12 +68,12 @@ html_by page d n =
     ap (λ c. if c then Xml else if has_namespace (root_tag (pieces_of Html page)) then Xml else Html) d ∙ ap (λ c. if c then Xml else Html) n
 
 -- a page with a declaration keeps it
-declared_too : (form : Form) (page : List ℕ) (others : List Piece) → HaveOtherTexts (pieces_of form page) others → KeepsOrderMark (pieces_of form page) others → has_declaration page ≡ true
+declared_too : (form : PageForm) (page : List ℕ) (others : List Piece) → HaveOtherTexts (pieces_of form page) others → KeepsOrderMark (pieces_of form page) others → has_declaration page ≡ true
     → has_declaration (joined_pieces others) ≡ true
 declared_too form page others m k d = declares_joined others (declares_on (pieces_of form page) others m k (declares_of form page d))
 
 -- a page without one gets none
-undeclared_cases : (form : Form) (page : List ℕ) (others : List Piece) (c : Bool) → has_declaration (joined_pieces others) ≡ c → HaveOtherTexts (pieces_of form page) others
+undeclared_cases : (form : PageForm) (page : List ℕ) (others : List Piece) (c : Bool) → has_declaration (joined_pieces others) ≡ c → HaveOtherTexts (pieces_of form page) others
     → KeepsOrderMark (pieces_of form page) others → has_declaration page ≡ false → c ≡ false
 undeclared_cases form page others false e m k d = refl
 undeclared_cases form page others true e m k d =
@@ -89,7 +89,7 @@ named_too language page others u v m a =
     same_root language (joined_pieces others) v (ap (have_alike_front (page_element language)) cut ∙ front_stays language (pieces_of Xml page) others m ∙ a)
     ∙ ap root_tag cut ∙ root_stays (pieces_of Xml page) others m ∙ sym (same_root language page u a)
 
-form_cases : (language page : List ℕ) (others : List Piece) (form : Form) (d n : Bool) → form_of page ≡ form → has_declaration page ≡ d → has_namespace (root_tag (pieces_of Html page)) ≡ n
+form_cases : (language page : List ℕ) (others : List Piece) (form : PageForm) (d n : Bool) → form_of page ≡ form → has_declaration page ≡ d → has_namespace (root_tag (pieces_of Html page)) ≡ n
     → IsUtf8 page → IsUtf8 (joined_pieces others) → HaveOtherTexts (pieces_of form page) others → KeepsOrderMark (pieces_of form page) others
     → (form ≡ Xml → have_alike_front (page_element language) (pieces_of Xml page) ≡ true) → form_of (joined_pieces others) ≡ form
 form_cases language page others form true n f d e u v m k a = xml_by (joined_pieces others) (declared_too form page others m k d) ∙ sym (xml_by page d) ∙ f

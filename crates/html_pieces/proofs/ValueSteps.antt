@@ -1,7 +1,7 @@
 -- Bytes of a value that are passed at once.
 use Rattle.std.proofs.Common.{◌≡◌, ℕ, ◌+◌, ◌-◌, ◌<◌, ◌≤◌, zero, suc, Bool, true, false, not, ◌&&◌, List, [], ◌∷◌, ◌++◌, length, slice_range, get_or, refl, ap, sym, subst, ◌∙◌, arith, append_assoc, append-nil, if◌then◌else◌}
 use Rattle.std.specs.Option.{unwrap_or}
-use Rattle.html_pieces.specs.declared.bytes.Form.{Form}
+use Rattle.html_pieces.specs.declared.bytes.PageForm.{PageForm}
 use Rattle.html_pieces.specs.Private.Parts.{EndsAt}
 use Rattle.html_pieces.specs.Private.Quiet.{AreQuiet}
 use Rattle.html_pieces.specs.Tags.{Attribute, is_name, is_value, is_unquoted, read}
@@ -36,7 +36,7 @@ value_is_no_name : (state : State) → is_value state ≡ true → is_name state
 value_is_no_name AttributeName e = cc
 value_is_no_name _ e = refl
 
-read_past : (n : ℕ) (form : Form) (tag : List ℕ) (found : List Attribute) (state : State) (name value : List ℕ) (i : ℕ) → is_name state ≡ false → is_value state ≡ true
+read_past : (n : ℕ) (form : PageForm) (tag : List ℕ) (found : List Attribute) (state : State) (name value : List ℕ) (i : ℕ) → is_name state ≡ false → is_value state ≡ true
     → Read form tag found state name value i → i + n ≤ length tag → AreQuiet state tag i (i + n) → Read form tag found state name (value ++ slice_range tag i (i + n)) (i + n)
 read_past zero form tag found state name value i named valued r w q =
     let here : i + zero ≡ i = omega arith in
@@ -58,7 +58,7 @@ read_past (suc n) form tag found state name value i named valued r w q =
     let same : v ++ b ∷ [] ≡ value ++ slice_range tag i (i + n + 1) = append_assoc value (slice_range tag i (i + n)) (b ∷ []) ∙ ap (λ ys. value ++ ys) (sym (slice_more tag i (i + n) (omega arith) inside)) in
     subst (λ k. Read form tag found state name (value ++ slice_range tag i k) k) (sym there) (subst (λ u. Read form tag found state name u (i + n + 1)) same one)
 
-up_to_cases : (c : Bool) (form : Form) (tag : List ℕ) (found : List Attribute) (state : State) (name value value' : List ℕ) (i to : ℕ) → is_value state ≡ c
+up_to_cases : (c : Bool) (form : PageForm) (tag : List ℕ) (found : List Attribute) (state : State) (name value value' : List ℕ) (i to : ℕ) → is_value state ≡ c
     → Read form tag found state name value i → i ≤ to → to ≤ length tag → AreQuiet state tag i to → (is_value state ≡ false → to ≡ i)
     → value' ≡ (if c then value ++ slice_range tag i to else value) → Read form tag found state name value' to
 up_to_cases true form tag found state name value value' i to e r le w q kept v =
@@ -68,7 +68,7 @@ up_to_cases true form tag found state name value value' i to e r le w q kept v =
 up_to_cases false form tag found state name value value' i to e r le w q kept v =
     subst (λ u. Read form tag found state name u to) (sym v) (subst (λ k. Read form tag found state name value k) (sym (kept e)) r)
 
-pub read_up_to : (form : Form) (tag : List ℕ) (found : List Attribute) (state : State) (name value value' : List ℕ) (i to : ℕ)
+pub read_up_to : (form : PageForm) (tag : List ℕ) (found : List Attribute) (state : State) (name value value' : List ℕ) (i to : ℕ)
     → Read form tag found state name value i → i ≤ to → to ≤ length tag → AreQuiet state tag i to → (is_value state ≡ false → to ≡ i)
     → value' ≡ (if is_value state then value ++ slice_range tag i to else value) → Read form tag found state name value' to
 read_up_to form tag found state name value value' i to r le w q kept v = up_to_cases (is_value state) form tag found state name value value' i to refl r le w q kept v

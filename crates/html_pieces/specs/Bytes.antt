@@ -3,11 +3,11 @@ use Rattle.std.specs.Prelude.{ℕ, ◌==◌, ◌||◌, ◌&&◌, Bool, true, fal
 use Rattle.std.specs.List.{list_any}
 use Rattle.std.specs.Char.{to_ascii_lowercase}
 use Rattle.std.specs.Cmp.Lexicographic.{pointwise}
-use Rattle.html_pieces.specs.declared.bytes.Form.{Form}
-use Rattle.html_pieces.specs.declared.bytes.Form.TheVariants.{Html, Xml}
+use Rattle.html_pieces.specs.declared.bytes.PageForm.{PageForm}
+use Rattle.html_pieces.specs.declared.bytes.PageForm.TheVariants.{Html, Xml}
 
 -- The page is XML.
-abbrev pub is_xml : Form → Bool
+abbrev pub is_xml : PageForm → Bool
 is_xml Html = false
 is_xml Xml = true
 
@@ -41,11 +41,11 @@ is_one_of names name = list_any (λ other. is_same_name name other) names
 
 -- The name of a tag begins with a letter. In XML (1.0, 2.3, NameStartChar) it may also begin with ':', '_', or a character
 -- past U+00BF.
-abbrev pub is_name_start : Form → ℕ → Bool
+abbrev pub is_name_start : PageForm → ℕ → Bool
 is_name_start Html b = is_alpha b
 is_name_start Xml b = is_alpha b || b == 58 || b == 95 || nat_le 195 b
 
 -- Two names are one in a form: HTML takes ASCII capitals and small letters for alike, XML does not.
-unfoldable pub is_same_in : Form → List ℕ → List ℕ → Bool
+unfoldable pub is_same_in : PageForm → List ℕ → List ℕ → Bool
 is_same_in Html a b = is_same_name a b
 is_same_in Xml a b = pointwise nat_eq a b

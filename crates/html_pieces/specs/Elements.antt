@@ -11,12 +11,12 @@ use Rattle.html_pieces.specs.Pieces.{Piece}
 use Rattle.html_pieces.specs.Groups.{group_of, is_void, ends, stops, bounds, is_root, is_heading}
 use Rattle.html_pieces.specs.References.{read_value}
 use Rattle.html_pieces.specs.Tags.{Attribute, attributes_of, value_of}
-use Rattle.html_pieces.specs.declared.bytes.Form.{Form}
+use Rattle.html_pieces.specs.declared.bytes.PageForm.{PageForm}
 use Rattle.html_pieces.specs.declared.groups.ElementGroup.{ElementGroup}
 use Rattle.html_pieces.specs.declared.groups.ElementGroup.TheVariants.{Ordinary, Formatting, Root}
 use Rattle.html_pieces.specs.declared.elements.Element as declared
-use Rattle.html_pieces.specs.declared.tokenizer.Kind.TheVariants.{StartTag, EmptyTag, EndTag}
-use Rattle.html_pieces.specs.declared.tokenizer.Kind.{Kind}
+use Rattle.html_pieces.specs.declared.tokenizer.PieceKind.TheVariants.{StartTag, EmptyTag, EndTag}
+use Rattle.html_pieces.specs.declared.tokenizer.PieceKind.{PieceKind}
 
 -- An open element: its name and group, the language of its text, and whether its text is left alone. It is apart by its
 -- name or class or those of an element around, and translated by the attribute `translate`. Its content may be foreign,
@@ -92,7 +92,7 @@ abbrev pub has_word : List ℕ → List ℕ → Bool
 has_word word text = has_word_from word [] text
 
 -- A class of this name is given.
-abbrev pub has_class : Form → List ℕ → List Attribute → Bool
+abbrev pub has_class : PageForm → List ℕ → List Attribute → Bool
 has_class form class attributes =
     option_map_or (λ value. has_word class (read_value value)) (value_of form (codes "class") attributes) false
 
@@ -104,7 +104,7 @@ translated_by around value =
     else around
 
 -- The text may be translated, by the attribute `translate`; where that is not there, as around.
-abbrev pub is_translated : Form → List Attribute → Bool → Bool
+abbrev pub is_translated : PageForm → List Attribute → Bool → Bool
 is_translated form attributes around =
     option_map_or (λ value. translated_by around (read_value value)) (value_of form (codes "translate") attributes) around
 
@@ -114,21 +114,21 @@ or_else None other = other
 or_else (Some value) other = Some value
 
 -- The value of the first of two names that an attribute has.
-abbrev pub value_of_either : Form → List ℕ → List ℕ → List Attribute → Option (List ℕ)
+abbrev pub value_of_either : PageForm → List ℕ → List ℕ → List Attribute → Option (List ℕ)
 value_of_either form name other attributes = or_else (value_of form name attributes) (value_of form other attributes)
 
 -- The value that names the language: of xml:lang in XML, of lang in HTML. Where that is not there, the other one serves.
-abbrev pub language_value : Form → List Attribute → Option (List ℕ)
+abbrev pub language_value : PageForm → List Attribute → Option (List ℕ)
 language_value form attributes =
     if is_xml form then value_of_either form (codes "xml:lang") (codes "lang") attributes
     else value_of_either form (codes "lang") (codes "xml:lang") attributes
 
 -- The language by the attributes of an element; where none names it, the one around.
-abbrev pub language_of : Form → List Attribute → List ℕ → List ℕ
+abbrev pub language_of : PageForm → List Attribute → List ℕ → List ℕ
 language_of form attributes around = option_map_or language_by (language_value form attributes) around
 
 -- The group of an element that begins. Only HTML has groups.
-abbrev pub group_in : Form → Bool → List ℕ → ElementGroup
+abbrev pub group_in : PageForm → Bool → List ℕ → ElementGroup
 group_in form foreign name = if is_xml form || foreign then Ordinary else group_of name
 
 -- A formatting element, which may be opened anew in others (13.2.4.3).
@@ -137,7 +137,7 @@ is_formatting Formatting = true
 is_formatting _ = false
 
 -- Attributes name a language, or whether the text may be translated.
-abbrev pub names_other : Form → List Attribute → Bool
+abbrev pub names_other : PageForm → List Attribute → Bool
 names_other form attributes =
     is_some (language_value form attributes) || is_some (value_of form (codes "translate") attributes)
 
@@ -146,7 +146,7 @@ abbrev pub holds_foreign : Bool → List ℕ → Bool
 holds_foreign foreign name = (foreign || is_foreign_root name) && not (is_one_of integration_names name)
 
 -- The element that a start tag opens within another one.
-unfoldable pub opened : Form → List ℕ → Element → List ℕ → Element
+unfoldable pub opened : PageForm → List ℕ → Element → List ℕ → Element
 opened form class around tag =
     record {
       name = name_of tag;
@@ -194,7 +194,7 @@ before_new new elements = kept_open new depth_limit elements elements
 
 -- The elements around the first one of this name, among the `left` next ones and within its scope; none where there is no
 -- element of that name. The end tag of a heading closes any heading.
-abbrev pub around_nearest_in_scope : Form → List ℕ → ElementGroup → ℕ → List Element → Option (List Element)
+abbrev pub around_nearest_in_scope : PageForm → List ℕ → ElementGroup → ℕ → List Element → Option (List Element)
 around_nearest_in_scope form name tag left [] = None
 around_nearest_in_scope form name tag left (e ∷ es) =
     if left == 0 then None
@@ -204,22 +204,22 @@ around_nearest_in_scope form name tag left (e ∷ es) =
 
 -- The open elements after an end tag: it closes the nearest one of its name with those in it; where none is open, it is
 -- passed by.
-abbrev pub closed_as : Form → List ℕ → ElementGroup → List Element → List Element
+abbrev pub closed_as : PageForm → List ℕ → ElementGroup → List Element → List Element
 closed_as form name tag elements =
     if is_root tag then elements else unwrap_or (around_nearest_in_scope form name tag depth_limit elements) elements
 
 -- The open elements after a start tag whose element is of a group.
-abbrev pub begun_as : Form → List ℕ → Element → ElementGroup → List ℕ → List Element → List Element
+abbrev pub begun_as : PageForm → List ℕ → Element → ElementGroup → List ℕ → List Element → List Element
 begun_as form class page new tag elements =
     if is_void new then before_new new elements
     else opened form class (innermost page (before_new new elements)) tag ∷ before_new new elements
 
 -- A tag with "/>" opens no element in XML, nor of SVG and MathML. HTML ignores the slash of its own elements.
-abbrev pub is_closed_by_slash : Form → Bool → List ℕ → Bool
+abbrev pub is_closed_by_slash : PageForm → Bool → List ℕ → Bool
 is_closed_by_slash form foreign name = is_xml form || foreign || is_foreign_root name
 
 -- The open elements after a piece of a kind, whose element is of a group. `class` is the class whose elements are left alone.
-abbrev pub elements_by : Form → List ℕ → ElementGroup → Kind → List ℕ → Element → List Element → List Element
+abbrev pub elements_by : PageForm → List ℕ → ElementGroup → PieceKind → List ℕ → Element → List Element → List Element
 elements_by form class group StartTag tag page elements = begun_as form class page group tag elements
 elements_by form class group EmptyTag tag page elements =
     if is_closed_by_slash form (innermost page elements).is_foreign (name_of tag) then elements
@@ -228,7 +228,7 @@ elements_by form class group EndTag tag page elements = closed_as form (name_of 
 elements_by form class group _ tag page elements = elements
 
 -- The group of the element that a tag begins or ends, within another one.
-abbrev pub group_by : Form → Element → Kind → List ℕ → ElementGroup
+abbrev pub group_by : PageForm → Element → PieceKind → List ℕ → ElementGroup
 group_by form around StartTag tag = group_in form around.is_foreign (name_of tag)
 group_by form around EmptyTag tag = group_in form around.is_foreign (name_of tag)
 group_by form around EndTag tag = group_in form around.is_foreign (name_of tag)
@@ -239,7 +239,7 @@ abbrev pub as_elements : List declared.Element → List Element
 as_elements held = reverse (map as_element held)
 
 -- Open elements, as the code holds them, became those after a piece, whose element is of a group.
-abbrev pub Passes : Form → List ℕ → ElementGroup → Piece → Element → List declared.Element → List declared.Element → Type 0
+abbrev pub Passes : PageForm → List ℕ → ElementGroup → Piece → Element → List declared.Element → List declared.Element → Type 0
 Passes form class group p page old new = as_elements new ≡ elements_by form class group p.kind p.bytes page (as_elements old)
 
 -- The page as what is around all its elements.

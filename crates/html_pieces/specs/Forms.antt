@@ -7,10 +7,10 @@ use Rattle.std.specs.List.{starts_with}
 use Rattle.html_pieces.specs.Bytes.{is_white_space}
 use Rattle.html_pieces.specs.Pieces.{Piece, pieces_of}
 use Rattle.html_pieces.specs.Tags.{attributes_of, value_of}
-use Rattle.html_pieces.specs.declared.bytes.Form.{Form}
-use Rattle.html_pieces.specs.declared.bytes.Form.TheVariants.{Html, Xml}
-use Rattle.html_pieces.specs.declared.tokenizer.Kind.{Kind}
-use Rattle.html_pieces.specs.declared.tokenizer.Kind.TheVariants.{StartTag, EmptyTag}
+use Rattle.html_pieces.specs.declared.bytes.PageForm.{PageForm}
+use Rattle.html_pieces.specs.declared.bytes.PageForm.TheVariants.{Html, Xml}
+use Rattle.html_pieces.specs.declared.tokenizer.PieceKind.{PieceKind}
+use Rattle.html_pieces.specs.declared.tokenizer.PieceKind.TheVariants.{StartTag, EmptyTag}
 
 -- Bytes begin with U+FEFF, which is the byte order mark at the beginning of a page.
 abbrev pub begins_with_order_mark : List ℕ → Bool
@@ -29,7 +29,7 @@ abbrev pub has_declaration : List ℕ → Bool
 has_declaration page = begins_with_declaration (after_order_mark page)
 
 -- A piece of this kind is a start tag.
-abbrev pub is_start : Kind → Bool
+abbrev pub is_start : PieceKind → Bool
 is_start StartTag = true
 is_start EmptyTag = true
 is_start _ = false
@@ -44,5 +44,5 @@ abbrev pub has_namespace : List ℕ → Bool
 has_namespace tag = is_some (value_of Xml (codes "xmlns") (attributes_of Xml tag))
 
 -- A page is XML where it begins with an XML declaration, or its first start tag has the attribute "xmlns".
-abbrev pub form_of : List ℕ → Form
+abbrev pub form_of : List ℕ → PageForm
 form_of page = if has_declaration page then Xml else if has_namespace (root_tag (pieces_of Html page)) then Xml else Html

@@ -7,13 +7,13 @@ use Rattle.html_pieces.specs.Bytes.{is_alphanumeric, is_white_space, ends_name, 
 use Rattle.html_pieces.specs.Names.{is_end_tag, name_of, raw_end_tag, is_foreign_root}
 use Rattle.html_pieces.specs.Laws.{joined_pieces, ends_text, IsPlain}
 use Rattle.html_pieces.specs.Pieces.{Piece, content_of, ends_tag, is_script}
-use Rattle.html_pieces.specs.declared.bytes.Form.{Form}
-use Rattle.html_pieces.specs.declared.bytes.Form.TheVariants.{Html, Xml}
+use Rattle.html_pieces.specs.declared.bytes.PageForm.{PageForm}
+use Rattle.html_pieces.specs.declared.bytes.PageForm.TheVariants.{Html, Xml}
 use Rattle.html_pieces.specs.declared.tokenizer.RawElement.{RawElement}
 use Rattle.html_pieces.specs.declared.tokenizer.State.{State}
 use Rattle.html_pieces.specs.declared.tokenizer.State.TheVariants.{Data, Raw, Plaintext}
-use Rattle.html_pieces.specs.declared.tokenizer.Kind.{Kind}
-use Rattle.html_pieces.specs.declared.tokenizer.Kind.TheVariants.{Text, Reference, StartTag, EmptyTag, EndTag, Other}
+use Rattle.html_pieces.specs.declared.tokenizer.PieceKind.{PieceKind}
+use Rattle.html_pieces.specs.declared.tokenizer.PieceKind.TheVariants.{Text, Reference, StartTag, EmptyTag, EndTag, Other}
 
 -- ---- beginnings and ends
 
@@ -61,15 +61,15 @@ abbrev pub is_comment : List ℕ → Bool
 is_comment bytes = begins_with (codes "<!--") bytes
 
 -- A CDATA section, which HTML has in SVG and MathML alone.
-abbrev pub is_section : Form → Bool → List ℕ → Bool
+abbrev pub is_section : PageForm → Bool → List ℕ → Bool
 is_section form foreign bytes = begins_with (codes "<![CDATA[") bytes && (is_xml form || foreign)
 
 -- A processing instruction of XML.
-abbrev pub is_instruction : Form → List ℕ → Bool
+abbrev pub is_instruction : PageForm → List ℕ → Bool
 is_instruction form bytes = begins_with (codes "<?") bytes && is_xml form
 
 -- A comment may end so: by "-->", or in HTML by "--!>". In HTML the dashes of "<!--" may be those of "-->".
-abbrev pub ends_comment : Form → List ℕ → Bool
+abbrev pub ends_comment : PageForm → List ℕ → Bool
 ends_comment Html bytes = ends_in (codes "-->") (drop 2 bytes) || ends_in (codes "--!>") (drop 4 bytes)
 ends_comment Xml bytes = ends_in (codes "-->") (drop 4 bytes)
 
@@ -90,7 +90,7 @@ ends_after_part (b ∷ bs) = b == 62 && closes_part bs
 
 -- Markup that is no tag may end so. All but comments, sections, instructions, and document types of XML with a part in brackets
 -- ends with '>': another document type, and what the standard calls a bogus comment.
-abbrev pub ends_markup : Form → Bool → List ℕ → Bool
+abbrev pub ends_markup : PageForm → Bool → List ℕ → Bool
 ends_markup form foreign bytes =
     if is_comment bytes then ends_comment form bytes
     else if is_section form foreign bytes then ends_in (codes "]]>") bytes
@@ -103,17 +103,17 @@ abbrev pub opens_markup : List ℕ → Bool
 opens_markup bytes = begins_with (codes "<!") bytes || begins_with (codes "</") bytes || begins_with (codes "<?") bytes
 
 -- Markup that is no tag goes from there to its first end, or to that of the page.
-abbrev pub IsMarkup : Form → Bool → List ℕ → List ℕ → Type 0
+abbrev pub IsMarkup : PageForm → Bool → List ℕ → List ℕ → Type 0
 IsMarkup form foreign bytes rest = (opens_markup bytes ≡ true) × EndsFirst (ends_markup form foreign) bytes rest
 
 -- ---- tags
 
 -- A tag begins with '<' or "</" and a byte that begins a name.
-abbrev pub begins_name : Form → List ℕ → Bool
+abbrev pub begins_name : PageForm → List ℕ → Bool
 begins_name form [] = false
 begins_name form (b ∷ bs) = is_name_start form b
 
-abbrev pub begins_tag : Form → List ℕ → Bool
+abbrev pub begins_tag : PageForm → List ℕ → Bool
 begins_tag form [] = false
 begins_tag form (b ∷ bs) = b == 60 && (begins_name form bs || begins_with (codes "/") bs && begins_name form (drop 1 bs))
 
@@ -133,7 +133,7 @@ abbrev pub IsEndTagOf : RawElement → List ℕ → Type 0
 IsEndTagOf element bytes = (n : ℕ) × (n < length bytes) × (ends_tag (raw_end_tag element) (take n bytes) (slice_index bytes n) ≡ true)
 
 -- A tag begins so, in the content of an element: in raw text only its end tag is a tag.
-abbrev pub BeginsTag : Form → State → List ℕ → Type 0
+abbrev pub BeginsTag : PageForm → State → List ℕ → Type 0
 BeginsTag form Data bytes = begins_tag form bytes ≡ true
 BeginsTag form (Raw element) bytes = IsEndTagOf element bytes
 BeginsTag form _ bytes = ⊥
@@ -205,7 +205,7 @@ pub record HasParts (bytes : List ℕ) (parts : List TagPart) : Type 0 where
   pub are_parts : AreParts parts
 
 -- A tag ends with the first '>' that is outside of quotes: parts are before it, and each '>' of these is in a quoted value.
-pub record IsTag (form : Form) (within : State) (bytes : List ℕ) : Type 0 where
+pub record IsTag (form : PageForm) (within : State) (bytes : List ℕ) : Type 0 where
   pub begins : BeginsTag form within bytes
   pub ends : ends_in (codes ">") bytes ≡ true
   pub first : (n : ℕ) → n + 1 < length bytes → slice_index bytes n ≡ 62 → IsInQuotes (take n bytes)
@@ -253,7 +253,7 @@ pub record IsRawText (element : RawElement) (before bytes rest : List ℕ) : Typ
 
 -- A piece that is neither text, reference nor tag: markup, a '<' that begins nothing, or a tag that the end of the page cuts off. In
 -- an element whose content is raw text it is a part of that. After `plaintext` it is all that is left.
-abbrev pub IsOther : Form → Bool → List ℕ → State → List ℕ → List ℕ → Type 0
+abbrev pub IsOther : PageForm → Bool → List ℕ → State → List ℕ → List ℕ → Type 0
 IsOther form foreign before Data bytes rest =
     (begins_tag form bytes ≡ true → rest ≡ []) × (begins_tag form bytes ≡ false → (bytes ≡ codes "<") ⊎ IsMarkup form foreign bytes rest)
 IsOther form foreign before (Raw element) bytes rest = IsRawText element before bytes rest ⊎ (IsEndTagOf element bytes × (rest ≡ []))
@@ -261,7 +261,7 @@ IsOther form foreign before Plaintext bytes rest = rest ≡ []
 IsOther form foreign before _ bytes rest = ⊥
 
 -- A piece is what the grammar says of its kind, where the page has some bytes between the last tag and the piece.
-abbrev pub IsInGrammar : Form → Bool → List ℕ → State → Kind → List ℕ → List ℕ → Type 0
+abbrev pub IsInGrammar : PageForm → Bool → List ℕ → State → PieceKind → List ℕ → List ℕ → Type 0
 IsInGrammar form foreign before within Text bytes rest = (within ≡ Data) × IsText bytes rest
 IsInGrammar form foreign before within Reference bytes rest = (within ≡ Data) × IsReference bytes
 IsInGrammar form foreign before within StartTag bytes rest = IsTag form within bytes × (is_end_tag bytes ≡ false)
@@ -270,28 +270,28 @@ IsInGrammar form foreign before within EndTag bytes rest = IsTag form within byt
 IsInGrammar form foreign before within Other bytes rest = IsOther form foreign before within bytes rest
 
 -- The content after a piece: a start tag of HTML gives that of its element, after an end tag it is markup again.
-abbrev pub content_by : Form → Bool → State → Kind → List ℕ → State
+abbrev pub content_by : PageForm → Bool → State → PieceKind → List ℕ → State
 content_by form foreign _ StartTag bytes = if is_xml form || foreign then Data else content_of (name_of bytes)
 content_by form foreign _ EmptyTag bytes = if is_xml form || foreign then Data else content_of (name_of bytes)
 content_by form foreign _ EndTag bytes = Data
 content_by form foreign within _ bytes = within
 
 -- The bytes since the last tag, after a piece.
-abbrev pub since_tag : List ℕ → Kind → List ℕ → List ℕ
+abbrev pub since_tag : List ℕ → PieceKind → List ℕ → List ℕ
 since_tag before StartTag bytes = []
 since_tag before EmptyTag bytes = []
 since_tag before EndTag bytes = []
 since_tag before _ bytes = before ++ bytes
 
 -- How many elements `svg` and `math` are open after a piece, where `n` are before it.
-abbrev pub depth_by : ℕ → Kind → List ℕ → ℕ
+abbrev pub depth_by : ℕ → PieceKind → List ℕ → ℕ
 depth_by n StartTag bytes = if is_foreign_root (name_of bytes) then n + 1 else n
 depth_by n EndTag bytes = if is_foreign_root (name_of bytes) then n - 1 else n
 depth_by n _ bytes = n
 
 -- All pieces are in the grammar, where the first is in this content, `before` is what the page has between the last tag and it, and
 -- `n` elements `svg` and `math` are open.
-abbrev pub AreInGrammar : Form → ℕ → List ℕ → State → List Piece → Type 0
+abbrev pub AreInGrammar : PageForm → ℕ → List ℕ → State → List Piece → Type 0
 AreInGrammar form n before _ [] = Unit {0}
 AreInGrammar form n before within (p ∷ ps) =
     IsInGrammar form (nat_lt 0 n) before within p.kind p.bytes (joined_pieces ps)

@@ -4,18 +4,18 @@ use Rattle.std.specs.Prelude.{ℕ, ◌&&◌, Bool, not, List, [], ◌∷◌, ◌
 use Rattle.std.specs.List.{list_any}
 use Rattle.std.specs.Option.{option_map}
 use Rattle.std.specs.Str.{bytes_eq, is_utf8}
-use Rattle.html_pieces.specs.declared.bytes.Form.{Form}
+use Rattle.html_pieces.specs.declared.bytes.PageForm.{PageForm}
 use Rattle.html_pieces.specs.Elements.{language_by, language_value}
 use Rattle.html_pieces.specs.Forms.{is_start, form_of}
 use Rattle.html_pieces.specs.Pieces.{Piece, pieces_of}
 use Rattle.html_pieces.specs.Tags.{attributes_of}
 
 -- The language that the attributes of a tag name, if they name one.
-abbrev pub language_in : Form → List ℕ → Option (List ℕ)
+abbrev pub language_in : PageForm → List ℕ → Option (List ℕ)
 language_in form tag = option_map language_by (language_value form (attributes_of form tag))
 
 -- The language that a piece names: that of a start tag.
-abbrev pub language_named : Form → Piece → Option (List ℕ)
+abbrev pub language_named : PageForm → Piece → Option (List ℕ)
 language_named form p = if is_start p.kind then language_in form p.bytes else None
 
 -- A language is one of some languages.
@@ -33,7 +33,7 @@ with_named languages None = languages
 with_named languages (Some language) = with_language languages language
 
 -- Some languages with those that pieces name.
-abbrev pub with_those_of : Form → List (List ℕ) → List Piece → List (List ℕ)
+abbrev pub with_those_of : PageForm → List (List ℕ) → List Piece → List (List ℕ)
 with_those_of form languages [] = languages
 with_those_of form languages (p ∷ ps) = with_those_of form (with_named languages (language_named form p)) ps
 

@@ -1,14 +1,14 @@
 -- Statements that are true of all pages.
 use Rattle.std.specs.Prelude.{◌≡◌, ℕ, ◌==◌, ◌||◌, ◌&&◌, Bool, true, false, List, [], ◌∷◌, map, IsUtf8}
 use Rattle.std.specs.List.{concat}
-use Rattle.html_pieces.specs.declared.bytes.Form.{Form}
-use Rattle.html_pieces.specs.declared.bytes.Form.TheVariants.{Xml}
+use Rattle.html_pieces.specs.declared.bytes.PageForm.{PageForm}
+use Rattle.html_pieces.specs.declared.bytes.PageForm.TheVariants.{Xml}
 use Rattle.html_pieces.specs.Elements.{Element, page_element}
 use Rattle.html_pieces.specs.Forms.{begins_with_order_mark, is_start, form_of}
 use Rattle.html_pieces.specs.Pieces.{Piece, pieces_of}
 use Rattle.html_pieces.specs.Readings.{is_xml_alike}
-use Rattle.html_pieces.specs.declared.tokenizer.Kind.{Kind}
-use Rattle.html_pieces.specs.declared.tokenizer.Kind.TheVariants.{Text}
+use Rattle.html_pieces.specs.declared.tokenizer.PieceKind.{PieceKind}
+use Rattle.html_pieces.specs.declared.tokenizer.PieceKind.TheVariants.{Text}
 
 -- The bytes of pieces, joined.
 abbrev pub joined_pieces : List Piece → List ℕ
@@ -36,7 +36,7 @@ begins_alike (b ∷ bs) [] = false
 begins_alike (b ∷ bs) (o ∷ os) = o == b || o == 0xC2
 
 -- Another text in the place of a text. All but a text stays.
-abbrev pub IsOtherText : Kind → List ℕ → List ℕ → Type 0
+abbrev pub IsOtherText : PieceKind → List ℕ → List ℕ → Type 0
 IsOtherText Text text other = (IsPlain text → IsPlain other) × (begins_alike text other ≡ true)
 IsOtherText _ bytes other = other ≡ bytes
 
@@ -53,7 +53,7 @@ HaveOtherTexts _ _ = ⊥
 
 -- Other texts in the place of those of a page are cut alike: into these pieces.
 abbrev pub AreCutAlike : Type 0
-AreCutAlike = (form : Form) (page : List ℕ) (others : List Piece) → HaveOtherTexts (pieces_of form page) others
+AreCutAlike = (form : PageForm) (page : List ℕ) (others : List Piece) → HaveOtherTexts (pieces_of form page) others
     → pieces_of form (joined_pieces others) ≡ others
 
 -- The pieces of a page of XML, up to its first start tag, are read alike by all parsers. `page` is what is around all elements.

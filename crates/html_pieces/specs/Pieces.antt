@@ -8,14 +8,14 @@ use Rattle.std.specs.List.{ends_with}
 use Rattle.std.specs.Cmp.Lexicographic.{pointwise}
 use Rattle.html_pieces.specs.Bytes.{is_white_space, is_alphanumeric, is_continuation, ends_name, is_same_name, is_xml, is_name_start}
 use Rattle.html_pieces.specs.Names.{is_end_tag, name_of, raw_end_tag, raw_element, is_foreign_root}
-use Rattle.html_pieces.specs.declared.bytes.Form.{Form}
+use Rattle.html_pieces.specs.declared.bytes.PageForm.{PageForm}
 use Rattle.html_pieces.specs.declared.tokenizer.RawElement.{RawElement}
 use Rattle.html_pieces.specs.declared.tokenizer.RawElement.TheVariants.{Script}
 use Rattle.html_pieces.specs.declared.tokenizer.State.{State}
 use Rattle.html_pieces.specs.declared.tokenizer.State.TheVariants.{Data, CharacterReference, ReferenceName, ReferenceEnd, TagOpen, EndTagOpen, TagName, BeforeAttributeName, AttributeName, AfterAttributeName, BeforeAttributeValue, DoubleQuotedValue, SingleQuotedValue, UnquotedValue, AfterQuotedValue, SelfClosingTag, TagEnd, EmptyTagEnd, MarkupDeclarationOpen, MarkupDeclarationDash, BogusComment, DoctypeSubset, DoctypeSubsetEnd, ProcessingInstruction, ProcessingInstructionMark, CommentStart, CommentStartDash, Comment, CommentEndDash, CommentEnd, CommentEndBang, CdataSection, CdataSectionBracket, CdataSectionEnd, MarkupEnd, Raw, ScriptEscaped, ScriptDoubleEscaped, Plaintext}
-use Rattle.html_pieces.specs.declared.tokenizer.Kind.{Kind}
+use Rattle.html_pieces.specs.declared.tokenizer.PieceKind.{PieceKind}
 use Rattle.html_pieces.specs.declared.tokenizer.Piece as declared
-use Rattle.html_pieces.specs.declared.tokenizer.Kind.TheVariants.{Text, Reference, StartTag, EmptyTag, EndTag, Other}
+use Rattle.html_pieces.specs.declared.tokenizer.PieceKind.TheVariants.{Text, Reference, StartTag, EmptyTag, EndTag, Other}
 
 -- ---- the states of a tag
 
@@ -92,7 +92,7 @@ in_double_escaped front b =
 
 -- The state after a byte, where `front` is what the piece has before it; none where the piece ended before the byte. `foreign`
 -- says that the piece is in SVG or MathML.
-unfoldable pub next : Form → Bool → State → List ℕ → ℕ → Option State
+unfoldable pub next : PageForm → Bool → State → List ℕ → ℕ → Option State
 next form foreign Data front b = if b == 60 || b == 38 then None else Some Data
 -- 13.2.5.72: '&' with what follows, and a ';' if there is one. Which names there are is not asked.
 next form foreign CharacterReference front b = if is_alphanumeric b || b == 35 then Some ReferenceName else None
@@ -188,14 +188,14 @@ next form foreign EmptyTagEnd front b = None
 next form foreign MarkupEnd front b = None
 
 -- The same, where a byte that is not the first of its character goes with it: no rule looks at one.
-abbrev pub state_after : Form → Bool → State → List ℕ → ℕ → Option State
+abbrev pub state_after : PageForm → Bool → State → List ℕ → ℕ → Option State
 state_after form foreign state front b = if is_continuation b then Some state else next form foreign state front b
 
 -- ---- pieces
 
 -- A piece of a page.
 pub record Piece : Type 0 where
-  pub kind : Kind
+  pub kind : PieceKind
   pub bytes : List ℕ
 
 -- The same of a piece as the code holds it.
@@ -203,7 +203,7 @@ abbrev pub as_piece : declared.Piece → Piece
 as_piece held = record { kind = held.kind; bytes = held.text.now }
 
 -- The kind of a piece, by the state at its end and its bytes. One that the end of the page cuts off is no tag.
-unfoldable pub kind_of : State → List ℕ → Kind
+unfoldable pub kind_of : State → List ℕ → PieceKind
 kind_of Data front = Text
 kind_of CharacterReference front = Reference
 kind_of ReferenceName front = Reference
@@ -221,11 +221,11 @@ abbrev pub content_of : List ℕ → State
 content_of name = if is_same_name name (codes "plaintext") then Plaintext else option_map_or Raw (raw_element name) Data
 
 -- The state after a tag: in HTML, outside of SVG and MathML, that of its element's content. HTML ignores the slash of "/>".
-abbrev pub content_after_tag : Form → Bool → List ℕ → State
+abbrev pub content_after_tag : PageForm → Bool → List ℕ → State
 content_after_tag form foreign tag = if is_xml form || foreign || is_end_tag tag then Data else content_of (name_of tag)
 
 -- Where a piece ended, the state in which the next one begins: within a script or the like it stays.
-unfoldable pub content_after : Form → Bool → State → List ℕ → State
+unfoldable pub content_after : PageForm → Bool → State → List ℕ → State
 content_after form foreign TagEnd front = content_after_tag form foreign front
 content_after form foreign EmptyTagEnd front = content_after_tag form foreign front
 content_after form foreign (Raw element) front = Raw element
@@ -250,7 +250,7 @@ begin content b = content
 
 -- The pieces from a state on, where `depth` elements `svg` and `math` are open, and the bytes of the first piece so far
 -- are `front`.
-abbrev pub pieces_from : Form → ℕ → State → List ℕ → List ℕ → List Piece
+abbrev pub pieces_from : PageForm → ℕ → State → List ℕ → List ℕ → List Piece
 pieces_from form depth state front [] = piece state front ∷ []
 pieces_from form depth state front (b ∷ bs) =
     option_map_or (λ after. pieces_from form depth after (front ++ b ∷ []) bs) (state_after form (nat_lt 0 depth) state front b)
@@ -258,6 +258,6 @@ pieces_from form depth state front (b ∷ bs) =
     ∷ pieces_from form (depth_after depth state front) (begin (content_after form (nat_lt 0 depth) state front) b) (b ∷ []) bs)
 
 -- The pieces of a page, in order.
-abbrev pub pieces_of : Form → List ℕ → List Piece
+abbrev pub pieces_of : PageForm → List ℕ → List Piece
 pieces_of form [] = []
 pieces_of form (b ∷ bs) = pieces_from form 0 (begin Data b) (b ∷ []) bs

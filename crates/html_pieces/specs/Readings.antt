@@ -12,14 +12,14 @@ use Rattle.html_pieces.specs.Pieces.{Piece, is_script}
 use Rattle.html_pieces.specs.References.{has_ampersand}
 use Rattle.html_pieces.specs.Groups.{heading_names, ends, stops, bounds, is_table_part, is_heading, is_root, is_special, is_void}
 use Rattle.html_pieces.specs.Elements.{Element, as_elements, innermost, before_new, elements_by, group_by, depth_limit}
-use Rattle.html_pieces.specs.declared.bytes.Form.{Form}
+use Rattle.html_pieces.specs.declared.bytes.PageForm.{PageForm}
 use Rattle.html_pieces.specs.declared.groups.ElementGroup.{ElementGroup}
 use Rattle.html_pieces.specs.declared.groups.ElementGroup.TheVariants.{Ordinary, Formatting, Paragraph, Heading, Block, Item, Term, Choice, Choices, Ruby, Cell, Row, Rows, Caption, Columns, Column, Table, Scope, Root, Head, HeadContent, HeadVoid, Template}
 use Rattle.html_pieces.specs.declared.readings.Phase.{Phase}
 use Rattle.html_pieces.specs.declared.readings.Phase.TheVariants as reached
 use Rattle.html_pieces.specs.declared.readings.Reading as declared
-use Rattle.html_pieces.specs.declared.tokenizer.Kind.{Kind}
-use Rattle.html_pieces.specs.declared.tokenizer.Kind.TheVariants.{Text, Reference, StartTag, EmptyTag, EndTag, Other}
+use Rattle.html_pieces.specs.declared.tokenizer.PieceKind.{PieceKind}
+use Rattle.html_pieces.specs.declared.tokenizer.PieceKind.TheVariants.{Text, Reference, StartTag, EmptyTag, EndTag, Other}
 use Rattle.html_pieces.specs.declared.tokenizer.RawElement.{RawElement}
 
 -- The facts known of a page at a place: the open elements, how far its parts have come, and whether its document type is
@@ -473,7 +473,7 @@ is_html_other_alike around phase bytes =
     else not (is_odd_section around bytes)
 
 -- A piece of a page in HTML is read alike by all parsers.
-abbrev pub is_html_alike : Element → Reading → ElementGroup → Kind → List ℕ → Bool
+abbrev pub is_html_alike : Element → Reading → ElementGroup → PieceKind → List ℕ → Bool
 is_html_alike page reading group Text bytes = not (has_text bytes) || is_content_here (innermost page reading.elements)
 is_html_alike page reading group Reference bytes = is_content_here (innermost page reading.elements)
 is_html_alike page reading group StartTag bytes = is_start_alike page reading group bytes
@@ -504,7 +504,7 @@ is_xml_other_alike around bytes =
     option_map_or (λ element. stays_raw element bytes) (raw_element around.name) (is_other_alike bytes)
 
 -- A piece of XML is read alike by all parsers. Each end tag is that of the innermost element.
-abbrev pub is_xml_alike : Element → Kind → List ℕ → Bool
+abbrev pub is_xml_alike : Element → PieceKind → List ℕ → Bool
 is_xml_alike around Text bytes = true
 is_xml_alike around Reference bytes = true
 is_xml_alike around StartTag bytes = is_xml_start_alike around (name_of bytes)
@@ -519,7 +519,7 @@ abbrev pub is_in_raw_noscript : Element → List ℕ → Bool
 is_in_raw_noscript around bytes = not (around.is_in_noscript && mentions (codes "</noscript") bytes)
 
 -- With scripting on, the text of a `noscript` goes on over a piece, or ends with its end tag.
-abbrev pub stays_in_noscript : Element → Kind → List ℕ → Bool
+abbrev pub stays_in_noscript : Element → PieceKind → List ℕ → Bool
 stays_in_noscript around Text bytes = true
 stays_in_noscript around Reference bytes = true
 stays_in_noscript around EndTag bytes =
@@ -527,7 +527,7 @@ stays_in_noscript around EndTag bytes =
 stays_in_noscript around _ bytes = is_in_raw_noscript around bytes
 
 -- A piece is read alike by all parsers.
-abbrev pub is_alike_by : Form → Element → Reading → ElementGroup → Kind → List ℕ → Bool
+abbrev pub is_alike_by : PageForm → Element → Reading → ElementGroup → PieceKind → List ℕ → Bool
 is_alike_by form page reading group kind bytes =
     nat_lt (length reading.elements) depth_limit
     && stays_in_noscript (innermost page reading.elements) kind bytes
@@ -561,7 +561,7 @@ phase_after_other around phase bytes =
     body_unless (is_hidden around || is_some (raw_element around.name) || not (is_sign bytes)) phase
 
 -- After a piece.
-abbrev pub phase_after : Element → Phase → ElementGroup → Kind → List ℕ → Phase
+abbrev pub phase_after : Element → Phase → ElementGroup → PieceKind → List ℕ → Phase
 phase_after around phase group Text bytes = body_unless (is_hidden around || not (has_text bytes)) phase
 phase_after around phase group Reference bytes = body_unless (is_hidden around) phase
 phase_after around phase group StartTag bytes = phase_after_start (is_hidden around) phase group (name_of bytes)
@@ -575,12 +575,12 @@ standard_after_other standard reached.Start bytes = is_html_doctype bytes
 standard_after_other standard _ bytes = standard
 
 -- The document type of HTML has come, before all else.
-abbrev pub standard_after : Bool → Phase → Kind → List ℕ → Bool
+abbrev pub standard_after : Bool → Phase → PieceKind → List ℕ → Bool
 standard_after standard phase Other bytes = standard_after_other standard phase bytes
 standard_after standard phase _ bytes = standard
 
 -- The reading after a piece of one kind, whose element is of a group.
-abbrev pub read_by : Form → List ℕ → Element → Reading → ElementGroup → Piece → Reading
+abbrev pub read_by : PageForm → List ℕ → Element → Reading → ElementGroup → Piece → Reading
 read_by form class page reading group p = record {
   elements = elements_by form class group p.kind p.bytes page reading.elements;
   phase = phase_after (innermost page reading.elements) reading.phase group p.kind p.bytes;
@@ -589,20 +589,20 @@ read_by form class page reading group p = record {
 }
 
 -- The reading after a piece. Once it is uncertain, it stays as it is.
-abbrev pub reading_after : Form → List ℕ → Element → Reading → Piece → Reading
+abbrev pub reading_after : PageForm → List ℕ → Element → Reading → Piece → Reading
 reading_after form class page reading p =
     if reading.is_certain
     then read_by form class page reading (group_by form (innermost page reading.elements) p.kind p.bytes) p
     else reading
 
 -- A piece is text of the body, whatever is around it.
-abbrev pub is_read_text : Kind → List ℕ → Bool
+abbrev pub is_read_text : PieceKind → List ℕ → Bool
 is_read_text Text bytes = has_text bytes
 is_read_text Reference bytes = true
 is_read_text _ bytes = false
 
 -- A start tag of the element of the page, or of its body.
-abbrev pub is_root_start : Kind → List ℕ → Bool
+abbrev pub is_root_start : PieceKind → List ℕ → Bool
 is_root_start kind bytes =
     is_start kind && (is_same_name (name_of bytes) (codes "html") || is_same_name (name_of bytes) (codes "body"))
 
@@ -612,16 +612,16 @@ has_late_root seen [] = false
 has_late_root seen (p ∷ ps) = seen && is_root_start p.kind p.bytes || has_late_root (seen || is_read_text p.kind p.bytes) ps
 
 -- Before the first of the pieces of a page.
-abbrev pub at_start : Form → List Piece → Reading
+abbrev pub at_start : PageForm → List Piece → Reading
 at_start form pieces = started (is_xml form || not (has_late_root false pieces))
 
 -- A text is left alone where the reading is uncertain, where it is elsewhere in the tree, and in XML outside of the root.
-abbrev pub is_unread : Form → Reading → Element → Bool
+abbrev pub is_unread : PageForm → Reading → Element → Bool
 is_unread form reading around =
     not reading.is_certain || holds_no_text around.group || is_xml form && length reading.elements == 0
 
 -- The element that a text is in, by a reading.
-abbrev pub standing_in : Form → Reading → Element → Element
+abbrev pub standing_in : PageForm → Reading → Element → Element
 standing_in form reading around = record {
   name = around.name;
   group = around.group;
@@ -638,5 +638,5 @@ standing_in form reading around = record {
 }
 
 -- The element that a text is in.
-abbrev pub standing : Form → Element → Reading → Element
+abbrev pub standing : PageForm → Element → Reading → Element
 standing form page reading = standing_in form reading (innermost page reading.elements)

@@ -3,7 +3,7 @@
 use Rattle.std.specs.Prelude.{◌≡◌, ℕ, Bool, true, false, not, ◌&&◌, ◌++◌, List, [], ◌∷◌, map, drop, Option, Some, None, if◌then◌else◌}
 use Rattle.std.specs.Option.{unwrap_or}
 use Rattle.html_pieces.specs.Bytes.{is_same_in}
-use Rattle.html_pieces.specs.declared.bytes.Form.{Form}
+use Rattle.html_pieces.specs.declared.bytes.PageForm.{PageForm}
 use Rattle.html_pieces.specs.Pieces.{next}
 use Rattle.html_pieces.specs.declared.tokenizer.State.{State}
 use Rattle.html_pieces.specs.declared.tokenizer.State.TheVariants.{TagOpen, AttributeName, DoubleQuotedValue, SingleQuotedValue, UnquotedValue, TagEnd}
@@ -61,7 +61,7 @@ abbrev pub ended : State → State → List ℕ → List ℕ → List Attribute
 ended state after name value = if is_name after && not (is_name state) then read name value else []
 
 -- The attributes from a state on, where `name` and `value` are those of the one that has begun.
-abbrev pub attributes_from : Form → State → List ℕ → List ℕ → List ℕ → List Attribute
+abbrev pub attributes_from : PageForm → State → List ℕ → List ℕ → List ℕ → List Attribute
 attributes_from form state name value [] = read name value
 attributes_from form state name value (b ∷ bs) =
     let after = unwrap_or (next form false state [] b) TagEnd in
@@ -69,10 +69,10 @@ attributes_from form state name value (b ∷ bs) =
     ++ attributes_from form after (attribute_name_after state after name b) (attribute_value_after state after value b) bs
 
 -- The attributes of a tag, in order.
-abbrev pub attributes_of : Form → List ℕ → List Attribute
+abbrev pub attributes_of : PageForm → List ℕ → List Attribute
 attributes_of form tag = attributes_from form TagOpen [] [] (drop 1 tag)
 
 -- The value of the first attribute of a name; the standard lets later ones of that name go (13.2.5.33).
-abbrev pub value_of : Form → List ℕ → List Attribute → Option (List ℕ)
+abbrev pub value_of : PageForm → List ℕ → List Attribute → Option (List ℕ)
 value_of form name [] = None
 value_of form name (a ∷ attributes) = if is_same_in form a.name name then Some a.value else value_of form name attributes

@@ -6,19 +6,19 @@ ghost use Rattle.html_pieces.specs.Bytes.{is_same_name, is_xml, is_name_start, i
 
 /// The form of a page.
 #[derive(Clone, Copy, Debug, PartialEq, Eq)]
-pub enum Form {
+pub enum PageForm {
     /// HTML, as browsers read it: names of elements say how they are read, and end tags may be left out.
     Html,
     /// XML, as in XHTML and e-books: each element has an end tag or ends with `/>`, and case tells names apart.
     Xml,
 }
 
-impl Form {
+impl PageForm {
     /// Reports whether the page is XML.
     pub const fn is_xml(self) -> bool
         ensures { result ≡ is_xml self }
     {
-        matches!(self, Form::Xml)
+        matches!(self, PageForm::Xml)
     }
 }
 
@@ -90,22 +90,22 @@ pub fn is_one_of(name: &[u8], table: &[&[u8]]) -> bool
 }
 
 /// Reports whether a byte begins the name of a tag.
-pub const fn is_name_start(form: Form, byte: u8) -> bool
+pub const fn is_name_start(form: PageForm, byte: u8) -> bool
     ensures { result ≡ is_name_start form byte }
 {
     match form {
-        Form::Html => is_alpha(byte),
-        Form::Xml => is_alpha(byte) || byte == b':' || byte == b'_' || 195 <= byte,
+        PageForm::Html => is_alpha(byte),
+        PageForm::Xml => is_alpha(byte) || byte == b':' || byte == b'_' || 195 <= byte,
     }
 }
 
 /// Reports whether two names are one in a form of pages.
 #[tactic(auto, unfolding(crate::specs::Bytes::is_same_in))]
-pub fn is_same_in(form: Form, a: &[u8], b: &[u8]) -> bool
+pub fn is_same_in(form: PageForm, a: &[u8], b: &[u8]) -> bool
     ensures { result ≡ is_same_in form a.now b.now }
 {
     match form {
-        Form::Html => is_same_name(a, b),
-        Form::Xml => a == b,
+        PageForm::Html => is_same_name(a, b),
+        PageForm::Xml => a == b,
     }
 }

@@ -13,11 +13,11 @@ ghost use Rattle.html_pieces.specs.Elements.{begun_as, is_closed_by_slash, group
 ghost use Rattle.html_pieces.specs.Pieces.{as_piece};
 ghost use Rattle.html_pieces.specs.Elements.{page_element};
 
-use crate::bytes::{Form, is_one_of, is_same_in, is_same_name, is_white_space};
+use crate::bytes::{PageForm, is_one_of, is_same_in, is_same_name, is_white_space};
 use crate::groups::{ElementGroup, bounds, ends, group_of, is_heading, is_root, is_void, stops};
 use crate::references::{has_ampersand, read, read_plain};
 use crate::tags::{Attribute, attributes, value_of};
-use crate::tokenizer::{Kind, Piece, is_foreign_root, name_of};
+use crate::tokenizer::{Piece, PieceKind, is_foreign_root, name_of};
 use std::alloc::{AllocError, Global};
 
 /// An open element.
@@ -86,7 +86,7 @@ fn has_class_in(alloc: Global, class: &[u8], value: &[u8]) -> Result<bool, Alloc
 // Whether attributes give a class of this name.
 fn has_class(
     alloc: Global,
-    form: Form,
+    form: PageForm,
     class: &[u8],
     attributes: &[Attribute<'_>],
 ) -> Result<bool, AllocError>
@@ -126,7 +126,7 @@ fn translated_in(alloc: Global, around: bool, value: &[u8]) -> Result<bool, Allo
 // Whether text may be translated by attributes, or else by those around.
 fn is_translated(
     alloc: Global,
-    form: Form,
+    form: PageForm,
     attributes: &[Attribute<'_>],
     around: bool,
 ) -> Result<bool, AllocError>
@@ -140,7 +140,7 @@ fn is_translated(
 
 // The value of the first of two names that an attribute has.
 fn value_of_either<'t>(
-    form: Form,
+    form: PageForm,
     name: &[u8],
     other: &[u8],
     attributes: &[Attribute<'t>],
@@ -154,7 +154,7 @@ fn value_of_either<'t>(
 }
 
 // The value that names the language.
-pub(crate) fn language_value<'t>(form: Form, attributes: &[Attribute<'t>]) -> Option<&'t [u8]>
+pub(crate) fn language_value<'t>(form: PageForm, attributes: &[Attribute<'t>]) -> Option<&'t [u8]>
     ensures { option_map (λ value. value.now) result ≡ language_value form (map as_attribute attributes.now) }
 {
     if form.is_xml() {
@@ -196,7 +196,11 @@ pub(crate) fn language_by(value: &[u8]) -> Language<'_>
 }
 
 // The language that attributes name, or else the one around.
-fn language_of<'t>(form: Form, attributes: &[Attribute<'t>], around: Element<'t>) -> Language<'t>
+fn language_of<'t>(
+    form: PageForm,
+    attributes: &[Attribute<'t>],
+    around: Element<'t>,
+) -> Language<'t>
     ensures { held_language result.has_references result.written.now
         ≡ language_of form (map as_attribute attributes.now) (as_element around.entry).language }
 {
@@ -210,7 +214,7 @@ fn language_of<'t>(form: Form, attributes: &[Attribute<'t>], around: Element<'t>
 }
 
 // The group of an element that begins or ends.
-fn group_in(form: Form, foreign: bool, name: &[u8]) -> ElementGroup
+fn group_in(form: PageForm, foreign: bool, name: &[u8]) -> ElementGroup
     ensures { result ≡ group_in form foreign name.now }
 {
     if form.is_xml() || foreign {
@@ -227,7 +231,7 @@ const fn is_formatting(group: ElementGroup) -> bool
 }
 
 // Whether attributes name a language, or whether the text may be translated.
-fn names_other(form: Form, attributes: &[Attribute<'_>]) -> bool
+fn names_other(form: PageForm, attributes: &[Attribute<'_>]) -> bool
     ensures { result ≡ names_other form (map as_attribute attributes.now) }
 {
     language_value(form, attributes).is_some() || value_of(form, attributes, b"translate").is_some()
@@ -241,7 +245,12 @@ fn is_in_formatting(around: bool, group: ElementGroup) -> bool
 }
 
 // Whether a language or `translate` is named from a formatting element on, by an element or one around it.
-fn is_altered(form: Form, in_formatting: bool, around: bool, attributes: &[Attribute<'_>]) -> bool
+fn is_altered(
+    form: PageForm,
+    in_formatting: bool,
+    around: bool,
+    attributes: &[Attribute<'_>],
+) -> bool
     ensures { result ≡ (in_formatting && (around || names_other form (map as_attribute attributes.now))) }
 {
     in_formatting && (around || names_other(form, attributes))
@@ -302,7 +311,7 @@ fn is_left_alone_name(name: &[u8]) -> bool
 #[tactic(auto, unfolding(crate::specs::Elements::opened))]
 fn opened<'t>(
     alloc: Global,
-    form: Form,
+    form: PageForm,
     class: &[u8],
     around: Element<'t>,
     tag: &'t [u8],
@@ -359,7 +368,12 @@ pub(crate) fn before_new(elements: &[Element<'_>], new: ElementGroup) -> usize
 }
 
 // The number of elements that stay open after an end tag.
-fn kept_by_end_tag(form: Form, elements: &[Element<'_>], name: &[u8], tag: ElementGroup) -> usize
+fn kept_by_end_tag(
+    form: PageForm,
+    elements: &[Element<'_>],
+    name: &[u8],
+    tag: ElementGroup,
+) -> usize
     ensures kept { as_elements (take result elements.now) ≡ closed_as form name.now tag (as_elements elements.now) }
     ensures within { result ≤ length elements.now }
 {
@@ -418,7 +432,7 @@ fn put_after<'t>(
 fn begin<'t>(
     nest: &mut Vec<Element<'t>>,
     alloc: Global,
-    form: Form,
+    form: PageForm,
     class: &[u8],
     page: Element<'t>,
     new: ElementGroup,
@@ -438,18 +452,18 @@ fn begin<'t>(
 }
 
 // Whether a tag with `/>` opens no element.
-fn is_closed_by_slash(form: Form, foreign: bool, name: &[u8]) -> bool
+fn is_closed_by_slash(form: PageForm, foreign: bool, name: &[u8]) -> bool
     ensures { result ≡ is_closed_by_slash form foreign name.now }
 {
     form.is_xml() || foreign || is_foreign_root(name)
 }
 
 // The group of the element that a tag begins or ends, within another one.
-pub(crate) fn group_by(form: Form, around: Element<'_>, piece: Piece<'_>) -> ElementGroup
+pub(crate) fn group_by(form: PageForm, around: Element<'_>, piece: Piece<'_>) -> ElementGroup
     ensures { result ≡ group_by form (as_element around.entry) piece.entry.kind piece.entry.text.now }
 {
     match piece.kind {
-        Kind::StartTag | Kind::EmptyTag | Kind::EndTag => {
+        PieceKind::StartTag | PieceKind::EmptyTag | PieceKind::EndTag => {
             group_in(form, around.is_foreign, name_of(piece.text.as_bytes()))
         }
         _ => ElementGroup::Ordinary,
@@ -463,7 +477,7 @@ pub(crate) fn group_by(form: Form, around: Element<'_>, piece: Piece<'_>) -> Ele
 pub(crate) fn pass<'t>(
     nest: &mut Vec<Element<'t>>,
     alloc: Global,
-    form: Form,
+    form: PageForm,
     class: &[u8],
     page: Element<'t>,
     group: ElementGroup,
@@ -475,8 +489,8 @@ pub(crate) fn pass<'t>(
 {
     let tag = piece.text.as_bytes();
     match piece.kind {
-        Kind::StartTag => begin(nest, alloc, form, class, page, group, tag),
-        Kind::EmptyTag => {
+        PieceKind::StartTag => begin(nest, alloc, form, class, page, group, tag),
+        PieceKind::EmptyTag => {
             let foreign = innermost(page, nest).is_foreign;
             if is_closed_by_slash(form, foreign, name_of(tag)) {
                 Ok(())
@@ -484,7 +498,7 @@ pub(crate) fn pass<'t>(
                 begin(nest, alloc, form, class, page, group, tag)
             }
         }
-        Kind::EndTag => {
+        PieceKind::EndTag => {
             let kept = kept_by_end_tag(form, nest, name_of(tag), group);
             nest.truncate(kept);
             Ok(())

@@ -5,15 +5,15 @@ ghost use Rattle.html_pieces.specs.Pieces.{as_piece, pieces_of};
 ghost use Rattle.html_pieces.specs.Forms.{begins_with_order_mark, after_order_mark, begins_with_declaration, has_declaration, is_start};
 ghost use Rattle.html_pieces.specs.Forms.{root_tag, has_namespace, form_of};
 
-use crate::bytes::{Form, is_white_space};
+use crate::bytes::{PageForm, is_white_space};
 use crate::tags::{attributes, value_of};
-use crate::tokenizer::{Kind, Piece, pieces};
+use crate::tokenizer::{Piece, PieceKind, pieces};
 use std::alloc::{AllocError, Global};
 
 /// A page that is cut into pieces, and its form.
 #[derive(Drop)]
 pub struct CutPage<'t> {
-    pub form: Form,
+    pub form: PageForm,
     pub pieces: Vec<Piece<'t>>,
 }
 
@@ -48,10 +48,10 @@ fn has_declaration(page: &[u8]) -> bool
     begins_with_declaration(after_order_mark(page))
 }
 
-pub(crate) const fn is_start(kind: Kind) -> bool
+pub(crate) const fn is_start(kind: PieceKind) -> bool
     ensures { result ≡ is_start kind }
 {
-    matches!(kind, Kind::StartTag | Kind::EmptyTag)
+    matches!(kind, PieceKind::StartTag | PieceKind::EmptyTag)
 }
 
 // The first start tag; nothing where there is none.
@@ -70,8 +70,8 @@ fn root_tag<'t>(pieces: &[Piece<'t>]) -> &'t [u8]
 fn has_namespace(alloc: Global, tag: &[u8]) -> Result<bool, AllocError>
     ensures { IfOk result (λ has. has ≡ has_namespace tag.now) }
 {
-    let attributes = attributes(alloc, Form::Xml, tag)?;
-    Ok(value_of(Form::Xml, &attributes, b"xmlns").is_some())
+    let attributes = attributes(alloc, PageForm::Xml, tag)?;
+    Ok(value_of(PageForm::Xml, &attributes, b"xmlns").is_some())
 }
 
 /// Returns the form of a page, and its pieces in that form.
@@ -84,19 +84,19 @@ pub fn cut(alloc: Global, page: &str) -> Result<CutPage<'_>, AllocError>
 {
     if has_declaration(page.as_bytes()) {
         return Ok(CutPage {
-            form: Form::Xml,
-            pieces: pieces(alloc, Form::Xml, page)?,
+            form: PageForm::Xml,
+            pieces: pieces(alloc, PageForm::Xml, page)?,
         });
     }
-    let as_html = pieces(alloc, Form::Html, page)?;
+    let as_html = pieces(alloc, PageForm::Html, page)?;
     if has_namespace(alloc, root_tag(&as_html))? {
         return Ok(CutPage {
-            form: Form::Xml,
-            pieces: pieces(alloc, Form::Xml, page)?,
+            form: PageForm::Xml,
+            pieces: pieces(alloc, PageForm::Xml, page)?,
         });
     }
     Ok(CutPage {
-        form: Form::Html,
+        form: PageForm::Html,
         pieces: as_html,
     })
 }

@@ -7,7 +7,7 @@ ghost use Rattle.html_pieces.specs.Languages.{language_named, with_language, wit
 ghost use Rattle.html_pieces.specs.Pieces.{as_piece};
 ghost use Rattle.html_pieces.specs.Private.Languages.{as_language, HasThese};
 
-use crate::bytes::Form;
+use crate::bytes::PageForm;
 use crate::elements::{Language, language_by, language_value};
 use crate::forms::is_start;
 use crate::references::read;
@@ -19,7 +19,7 @@ use std::collections::BTreeSet;
 // The language that a piece names.
 fn language_named<'t>(
     alloc: Global,
-    form: Form,
+    form: PageForm,
     piece: Piece<'t>,
 ) -> Result<Option<Language<'t>>, AllocError>
     ensures { IfOk result (λ named. option_map as_language named ≡ language_named form (as_piece piece.entry)) }
@@ -89,7 +89,7 @@ fn push_named(
 /// that memory was refused.
 pub fn languages_of_pieces(
     alloc: Global,
-    form: Form,
+    form: PageForm,
     pieces: &[Piece<'_>],
 ) -> Result<Vec<String>, AllocError>
     ensures { IfOk result (λ languages. map string_bytes languages.items

@@ -1,7 +1,7 @@
 //! Laws of the pieces of all pages. The calls do nothing; each contract is a law.
 
 ghost use Rattle.std.specs.Prelude.{◌≡◌, ℕ, List, [], IsUtf8};
-ghost use Rattle.html_pieces.specs.declared.bytes.Form.{Form};
+ghost use Rattle.html_pieces.specs.declared.bytes.PageForm.{PageForm};
 ghost use Rattle.html_pieces.specs.Pieces.{pieces_of};
 ghost use Rattle.html_pieces.specs.declared.tokenizer.State.TheVariants.{Data};
 ghost use Rattle.html_pieces.specs.Grammar.{AreInGrammar};
@@ -11,14 +11,14 @@ ghost use Rattle.html_pieces.specs.Laws.{joined_pieces, AreUtf8, AreCutAlike, Fo
 ///
 /// It is a law of all pages, and the call does nothing.
 pub fn pieces_join()
-    ensures { (form : Form) (page : List ℕ) → joined_pieces (pieces_of form page) ≡ page }
+    ensures { (form : PageForm) (page : List ℕ) → joined_pieces (pieces_of form page) ≡ page }
 {}
 
 /// Each piece of a page of UTF-8 is UTF-8: no piece begins or ends within a character.
 ///
 /// It is a law of all pages, and the call does nothing.
 pub fn pieces_are_utf8()
-    ensures { (form : Form) (page : List ℕ) → IsUtf8 page → AreUtf8 (pieces_of form page) }
+    ensures { (form : PageForm) (page : List ℕ) → IsUtf8 page → AreUtf8 (pieces_of form page) }
 {}
 
 /// Each piece of a page of UTF-8 is what the grammar says of its kind.
@@ -30,7 +30,7 @@ pub fn pieces_are_utf8()
 /// on to the next of these. The grammar is in `specs/Grammar.antt`, and knows no states. It is a law of all pages, and the
 /// call does nothing.
 pub fn pieces_are_in_grammar()
-    ensures { (form : Form) (page : List ℕ) → IsUtf8 page → AreInGrammar form 0 [] Data (pieces_of form page) }
+    ensures { (form : PageForm) (page : List ℕ) → IsUtf8 page → AreInGrammar form 0 [] Data (pieces_of form page) }
 {}
 
 /// A page with other texts in the places of its texts is cut into the same pieces, with these texts.

@@ -23,7 +23,7 @@ ghost use Rattle.html_pieces.specs.Readings.{standard_after_other, standard_afte
 ghost use Rattle.html_pieces.specs.Names.{name_of};
 ghost use Rattle.html_pieces.specs.Pieces.{as_piece, is_script};
 
-use crate::bytes::{Form, is_alpha, is_one_of, is_same_name, is_white_space};
+use crate::bytes::{PageForm, is_alpha, is_one_of, is_same_name, is_white_space};
 use crate::elements::{DEPTH_LIMIT, Element, before_new, group_by, innermost};
 use crate::forms::{after_order_mark, is_start};
 use crate::groups::{
@@ -31,7 +31,7 @@ use crate::groups::{
     is_void, stops,
 };
 use crate::references::has_ampersand;
-use crate::tokenizer::{Kind, Piece, RawElement, is_foreign_root, name_of, raw_element};
+use crate::tokenizer::{Piece, PieceKind, RawElement, is_foreign_root, name_of, raw_element};
 use std::alloc::{AllocError, Global};
 
 /// How far the parts of a page have come.
@@ -63,7 +63,7 @@ pub struct Reading<'t> {
 
 impl<'t> Reading<'t> {
     /// Returns what is known before the first of the pieces of a page.
-    pub fn new(alloc: Global, form: Form, pieces: &[Piece<'t>]) -> Reading<'t>
+    pub fn new(alloc: Global, form: PageForm, pieces: &[Piece<'t>]) -> Reading<'t>
         ensures { as_reading result ≡ at_start form (map as_piece pieces.now) }
     {
         Reading {
@@ -806,11 +806,11 @@ fn is_html_alike<'t>(
     let bytes = piece.text.as_bytes();
     let around = innermost(page, &reading.elements);
     match piece.kind {
-        Kind::Text => !has_text(bytes) || is_content_here(around),
-        Kind::Reference => is_content_here(around),
-        Kind::StartTag | Kind::EmptyTag => is_start_alike(page, reading, group, bytes),
-        Kind::EndTag => is_end_alike(page, reading, group, name_of(bytes)),
-        Kind::Other => is_html_other_alike(around, reading.phase, bytes),
+        PieceKind::Text => !has_text(bytes) || is_content_here(around),
+        PieceKind::Reference => is_content_here(around),
+        PieceKind::StartTag | PieceKind::EmptyTag => is_start_alike(page, reading, group, bytes),
+        PieceKind::EndTag => is_end_alike(page, reading, group, name_of(bytes)),
+        PieceKind::Other => is_html_other_alike(around, reading.phase, bytes),
     }
 }
 
@@ -856,11 +856,11 @@ fn is_xml_alike(around: Element<'_>, piece: Piece<'_>) -> bool
 {
     let bytes = piece.text.as_bytes();
     match piece.kind {
-        Kind::Text | Kind::Reference => true,
-        Kind::StartTag => is_xml_start_alike(around, name_of(bytes)),
-        Kind::EmptyTag => is_xml_empty_alike(around, name_of(bytes)),
-        Kind::EndTag => around.name == name_of(bytes),
-        Kind::Other => is_xml_other_alike(around, bytes),
+        PieceKind::Text | PieceKind::Reference => true,
+        PieceKind::StartTag => is_xml_start_alike(around, name_of(bytes)),
+        PieceKind::EmptyTag => is_xml_empty_alike(around, name_of(bytes)),
+        PieceKind::EndTag => around.name == name_of(bytes),
+        PieceKind::Other => is_xml_other_alike(around, bytes),
     }
 }
 
@@ -879,8 +879,8 @@ fn stays_in_noscript(around: Element<'_>, piece: Piece<'_>) -> bool
 {
     let bytes = piece.text.as_bytes();
     match piece.kind {
-        Kind::Text | Kind::Reference => true,
-        Kind::EndTag => {
+        PieceKind::Text | PieceKind::Reference => true,
+        PieceKind::EndTag => {
             is_same_name(name_of(bytes), b"noscript") || is_in_raw_noscript(around, bytes)
         }
         _ => is_in_raw_noscript(around, bytes),
@@ -890,7 +890,7 @@ fn stays_in_noscript(around: Element<'_>, piece: Piece<'_>) -> bool
 // Reports whether a piece is read alike by all parsers.
 #[tactic(auto, using(crate::proofs::Limits::as_many))]
 fn is_alike<'t>(
-    form: Form,
+    form: PageForm,
     page: Element<'t>,
     reading: &Reading<'t>,
     group: ElementGroup,
@@ -971,13 +971,13 @@ fn phase_after(around: Element<'_>, phase: Phase, group: ElementGroup, piece: Pi
 {
     let bytes = piece.text.as_bytes();
     match piece.kind {
-        Kind::Text => body_unless(is_hidden(around) || !has_text(bytes), phase),
-        Kind::Reference => body_unless(is_hidden(around), phase),
-        Kind::StartTag | Kind::EmptyTag => {
+        PieceKind::Text => body_unless(is_hidden(around) || !has_text(bytes), phase),
+        PieceKind::Reference => body_unless(is_hidden(around), phase),
+        PieceKind::StartTag | PieceKind::EmptyTag => {
             phase_after_start(is_hidden(around), phase, group, bytes)
         }
-        Kind::EndTag => body_unless(!is_root(group), phase),
-        Kind::Other => phase_after_other(around, phase, bytes),
+        PieceKind::EndTag => body_unless(!is_root(group), phase),
+        PieceKind::Other => phase_after_other(around, phase, bytes),
     }
 }
 
@@ -996,7 +996,7 @@ fn standard_after(standard: bool, phase: Phase, piece: Piece<'_>) -> bool
     ensures { result ≡ standard_after standard phase piece.entry.kind piece.entry.text.now }
 {
     match piece.kind {
-        Kind::Other => standard_after_other(standard, phase, piece.text.as_bytes()),
+        PieceKind::Other => standard_after_other(standard, phase, piece.text.as_bytes()),
         _ => standard,
     }
 }
@@ -1008,7 +1008,7 @@ fn standard_after(standard: bool, phase: Phase, piece: Piece<'_>) -> bool
 pub fn pass<'t>(
     reading: &mut Reading<'t>,
     alloc: Global,
-    form: Form,
+    form: PageForm,
     class: &[u8],
     page: Element<'t>,
     piece: Piece<'t>,
@@ -1043,8 +1043,8 @@ fn is_read_text(piece: Piece<'_>) -> bool
     ensures { result ≡ is_read_text piece.entry.kind piece.entry.text.now }
 {
     match piece.kind {
-        Kind::Text => has_text(piece.text.as_bytes()),
-        Kind::Reference => true,
+        PieceKind::Text => has_text(piece.text.as_bytes()),
+        PieceKind::Reference => true,
         _ => false,
     }
 }
@@ -1075,7 +1075,7 @@ fn has_late_root(pieces: &[Piece<'_>]) -> bool
 }
 
 // Reports whether a text is left alone where it is, by a reading.
-fn is_unread(form: Form, reading: &Reading<'_>, around: Element<'_>) -> bool
+fn is_unread(form: PageForm, reading: &Reading<'_>, around: Element<'_>) -> bool
     ensures { result ≡ is_unread form (as_reading reading.now) (as_element around.entry) }
 {
     !reading.is_certain
@@ -1087,7 +1087,7 @@ fn is_unread(form: Form, reading: &Reading<'_>, around: Element<'_>) -> bool
 ///
 /// Its text is left as it is where the reading is uncertain or the text is elsewhere in the tree. So it is in XML
 /// outside of the root.
-pub fn standing<'t>(form: Form, page: Element<'t>, reading: &Reading<'t>) -> Element<'t>
+pub fn standing<'t>(form: PageForm, page: Element<'t>, reading: &Reading<'t>) -> Element<'t>
     ensures { as_element result ≡ standing form (as_element page.entry) (as_reading reading.now) }
 {
     let around = innermost(page, &reading.elements);

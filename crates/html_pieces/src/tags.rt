@@ -9,7 +9,7 @@ ghost use Rattle.html_pieces.specs.Tags.{attribute_value_after, read, ended, val
 ghost use Rattle.html_pieces.specs.Private.Parts.{EndsAt};
 ghost use Rattle.html_pieces.specs.Private.Quiet.{AreQuiet};
 
-use crate::bytes::{Form, is_same_in};
+use crate::bytes::{PageForm, is_same_in};
 use crate::tokenizer::{State, after_quiet, is_quiet, next};
 use std::alloc::{AllocError, Global};
 
@@ -119,7 +119,7 @@ fn push_ended<'t>(
 }
 
 // The state after a byte of a tag; at its end, that of a tag that ended.
-fn next_in_tag(form: Form, state: State, byte: u8) -> State
+fn next_in_tag(form: PageForm, state: State, byte: u8) -> State
     ensures { result ≡ unwrap_or (next form false state [] byte) TagEnd }
 {
     if is_quiet(state, byte) {
@@ -162,7 +162,11 @@ fn value_past<'t>(tag: &'t [u8], from: usize, to: usize, state: State, value: &'
 /// Returns the attributes of a tag, in order, as they are written.
 ///
 /// The only error is that memory was refused.
-pub fn attributes(alloc: Global, form: Form, tag: &[u8]) -> Result<Vec<Attribute<'_>>, AllocError>
+pub fn attributes(
+    alloc: Global,
+    form: PageForm,
+    tag: &[u8],
+) -> Result<Vec<Attribute<'_>>, AllocError>
     ensures { IfOk result (λ attributes. map as_attribute attributes.items ≡ attributes_of form tag.now) }
 {
     let mut attributes = Vec::new(alloc);
@@ -185,7 +189,7 @@ pub fn attributes(alloc: Global, form: Form, tag: &[u8]) -> Result<Vec<Attribute
 }
 
 /// Returns the value of the first attribute of a name.
-pub fn value_of<'t>(form: Form, attributes: &[Attribute<'t>], name: &[u8]) -> Option<&'t [u8]>
+pub fn value_of<'t>(form: PageForm, attributes: &[Attribute<'t>], name: &[u8]) -> Option<&'t [u8]>
     ensures { option_map (λ value. value.now) result ≡ value_of form name.now (map as_attribute attributes.now) }
 {
     for attribute in attributes {

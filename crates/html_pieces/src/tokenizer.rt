@@ -2,7 +2,7 @@
 
 ghost use Rattle.std.specs.Prelude.{◌≡◌, ◌==◌, ◌&&◌, ◌+◌, ◌<◌, ◌≤◌, ◌^◌, [], false, None, Some, length, map, take_while, not, IfOk, if◌then◌else◌};
 ghost use Rattle.html_pieces.specs.Bytes.{ends_name, is_xml};
-ghost use Rattle.html_pieces.specs.declared.bytes.Form.TheVariants.{Html};
+ghost use Rattle.html_pieces.specs.declared.bytes.PageForm.TheVariants.{Html};
 ghost use Rattle.html_pieces.specs.Names.{is_end_tag, name_of, raw_end_tag, raw_element, is_foreign_root};
 ghost use Rattle.html_pieces.specs.Pieces.{in_tag, in_attribute, before_value, in_unquoted_value, ends_tag, in_raw};
 ghost use Rattle.html_pieces.specs.Pieces.{in_escaped, in_double_escaped, next, state_after, kind_of, content_of};
@@ -15,7 +15,8 @@ ghost use Rattle.html_pieces.specs.declared.tokenizer.State.TheVariants.{BogusCo
 ghost use Rattle.html_pieces.specs.Private.Quiet.{is_quiet, AreAlphanumeric, AreQuiet, AreOthers};
 
 use crate::bytes::{
-    Form, ends_name, is_alphanumeric, is_continuation, is_name_start, is_same_name, is_white_space,
+    PageForm, ends_name, is_alphanumeric, is_continuation, is_name_start, is_same_name,
+    is_white_space,
 };
 use memchr::memchr2;
 use std::alloc::{AllocError, Global};
@@ -35,7 +36,7 @@ pub enum RawElement {
 
 /// The kinds of pieces.
 #[derive(Clone, Copy, Debug, PartialEq, Eq)]
-pub enum Kind {
+pub enum PieceKind {
     Text,
     Reference,
     StartTag,
@@ -94,7 +95,7 @@ pub enum State {
 /// A piece of a page: its kind and its text.
 #[derive(Clone, Copy, Debug, PartialEq, Eq)]
 pub struct Piece<'t> {
-    pub kind: Kind,
+    pub kind: PieceKind,
     pub text: &'t str,
 }
 
@@ -297,7 +298,7 @@ fn in_reference_name(byte: u8) -> Option<State>
 
 // After `<`.
 #[tactic(auto, unfolding(crate::specs::Pieces::next))]
-fn in_tag_open(form: Form, byte: u8) -> Option<State>
+fn in_tag_open(form: PageForm, byte: u8) -> Option<State>
     ensures { result ≡ next form false TagOpen [] byte }
 {
     if is_name_start(form, byte) {
@@ -319,7 +320,7 @@ fn in_tag_open(form: Form, byte: u8) -> Option<State>
 
 // After `</`.
 #[tactic(auto, unfolding(crate::specs::Pieces::next))]
-fn in_end_tag_open(form: Form, byte: u8) -> Option<State>
+fn in_end_tag_open(form: PageForm, byte: u8) -> Option<State>
     ensures { result ≡ next form false EndTagOpen [] byte }
 {
     if is_name_start(form, byte) {
@@ -359,7 +360,7 @@ const fn in_declaration(byte: u8, dash: State) -> Option<State>
 
 // In a declaration that is no comment.
 #[tactic(auto, unfolding(crate::specs::Pieces::next))]
-fn in_bogus_comment(form: Form, foreign: bool, front: &[u8], byte: u8) -> Option<State>
+fn in_bogus_comment(form: PageForm, foreign: bool, front: &[u8], byte: u8) -> Option<State>
     ensures { result ≡ next form foreign BogusComment front.now byte }
 {
     if byte == b'>' {
@@ -388,7 +389,7 @@ fn in_doctype_subset_end(byte: u8) -> Option<State>
 }
 
 // After `<!--`, or a dash more, where one leads to a state.
-const fn in_comment_start(form: Form, byte: u8, dash: State) -> Option<State>
+const fn in_comment_start(form: PageForm, byte: u8, dash: State) -> Option<State>
     ensures { result ≡ (if byte == 45 then Some dash else if byte == 62 && not (is_xml form) then Some MarkupEnd else Some Comment) }
 {
     Some(if byte == b'-' {
@@ -402,7 +403,7 @@ const fn in_comment_start(form: Form, byte: u8, dash: State) -> Option<State>
 
 // In a comment, after two dashes.
 #[tactic(auto, unfolding(crate::specs::Pieces::next))]
-fn in_comment_end(form: Form, byte: u8) -> Option<State>
+fn in_comment_end(form: PageForm, byte: u8) -> Option<State>
     ensures { result ≡ next form false CommentEnd [] byte }
 {
     Some(if byte == b'>' {
@@ -421,7 +422,7 @@ fn in_comment_end(form: Form, byte: u8) -> Option<State>
 ///
 /// `foreign` says that the piece is in SVG or MathML.
 #[tactic(auto, unfolding(crate::specs::Pieces::next))]
-pub fn next(form: Form, foreign: bool, state: State, front: &[u8], byte: u8) -> Option<State>
+pub fn next(form: PageForm, foreign: bool, state: State, front: &[u8], byte: u8) -> Option<State>
     ensures { result ≡ next form foreign state front.now byte }
 {
     match state {
@@ -568,23 +569,24 @@ pub(crate) fn raw_element(name: &[u8]) -> Option<RawElement>
 
 // The kind of a piece, by the state at its end.
 #[tactic(auto, unfolding(crate::specs::Pieces::kind_of))]
-fn kind_of(state: State, front: &[u8]) -> Kind
+fn kind_of(state: State, front: &[u8]) -> PieceKind
     ensures { result ≡ kind_of state front.now }
 {
     match state {
-        State::Data => Kind::Text,
-        State::CharacterReference | State::ReferenceName | State::ReferenceEnd => Kind::Reference,
+        State::Data => PieceKind::Text,
+        State::CharacterReference | State::ReferenceName | State::ReferenceEnd =>
+            PieceKind::Reference,
         State::TagEnd => if is_end_tag(front) {
-            Kind::EndTag
+            PieceKind::EndTag
         } else {
-            Kind::StartTag
+            PieceKind::StartTag
         },
         State::EmptyTagEnd => if is_end_tag(front) {
-            Kind::EndTag
+            PieceKind::EndTag
         } else {
-            Kind::EmptyTag
+            PieceKind::EmptyTag
         },
-        _ => Kind::Other,
+        _ => PieceKind::Other,
     }
 }
 
@@ -610,7 +612,7 @@ fn content_of(name: &[u8]) -> State
 }
 
 // The state after a tag.
-fn content_after_tag(form: Form, foreign: bool, tag: &[u8]) -> State
+fn content_after_tag(form: PageForm, foreign: bool, tag: &[u8]) -> State
     ensures { result ≡ content_after_tag form foreign tag.now }
 {
     if form.is_xml() || foreign || is_end_tag(tag) {
@@ -622,7 +624,7 @@ fn content_after_tag(form: Form, foreign: bool, tag: &[u8]) -> State
 
 // The state in which the piece after this one begins.
 #[tactic(auto, unfolding(crate::specs::Pieces::content_after))]
-fn content_after(form: Form, foreign: bool, state: State, front: &[u8]) -> State
+fn content_after(form: PageForm, foreign: bool, state: State, front: &[u8]) -> State
     ensures { result ≡ content_after form foreign state front.now }
 {
     match state {
@@ -696,7 +698,7 @@ pub(crate) fn is_quiet(state: State, byte: u8) -> bool
 }
 
 // The state after a byte, which stays within a character.
-fn state_after(form: Form, foreign: bool, state: State, front: &[u8], byte: u8) -> Option<State>
+fn state_after(form: PageForm, foreign: bool, state: State, front: &[u8], byte: u8) -> Option<State>
     ensures { result ≡ state_after form foreign state front.now byte }
 {
     if is_quiet(state, byte) {
@@ -790,7 +792,7 @@ pub(crate) fn after_quiet(state: State, bytes: &[u8], from: usize) -> usize
 /// Returns the pieces of a page, in order.
 ///
 /// The only error is that memory was refused.
-pub fn pieces(alloc: Global, form: Form, page: &str) -> Result<Vec<Piece<'_>>, AllocError>
+pub fn pieces(alloc: Global, form: PageForm, page: &str) -> Result<Vec<Piece<'_>>, AllocError>
     ensures { IfOk result (λ pieces. map as_piece pieces.items ≡ pieces_of form page.now) }
 {
     let mut pieces = Vec::new(alloc);

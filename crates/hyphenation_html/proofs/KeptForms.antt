@@ -3,11 +3,11 @@ use Rattle.std.proofs.Common.{◌≡◌, ℕ, ◌==◌, ◌||◌, ◌&&◌, Bool
 use Rattle.std.proofs.lemmas.Bool.{or_left, or_right, and_right}
 use Rattle.std.specs.Option.{option_map_or}
 use Rattle.std.specs.Str.{IsUtf8}
-use Rattle.html_pieces.specs.declared.bytes.Form.{Form}
-use Rattle.html_pieces.specs.declared.bytes.Form.TheVariants.{Html, Xml}
+use Rattle.html_pieces.specs.declared.bytes.PageForm.{PageForm}
+use Rattle.html_pieces.specs.declared.bytes.PageForm.TheVariants.{Html, Xml}
 use Rattle.html_pieces.specs.declared.groups.ElementGroup.{ElementGroup}
-use Rattle.html_pieces.specs.declared.tokenizer.Kind.{Kind}
-use Rattle.html_pieces.specs.declared.tokenizer.Kind.TheVariants.{Text, Reference, StartTag, EmptyTag, EndTag, Other}
+use Rattle.html_pieces.specs.declared.tokenizer.PieceKind.{PieceKind}
+use Rattle.html_pieces.specs.declared.tokenizer.PieceKind.TheVariants.{Text, Reference, StartTag, EmptyTag, EndTag, Other}
 use Rattle.html_pieces.specs.Bytes.{is_xml}
 use Rattle.html_pieces.specs.Elements.{Element, page_element, innermost, elements_by, group_by, depth_limit}
 use Rattle.html_pieces.specs.Forms.{begins_with_order_mark, is_start, form_of}
@@ -29,7 +29,7 @@ use Rattle.hyphenation_html.proofs.SecondPages.{marked_list, marked_list-joins, 
 
 -- ---- texts that are left alone
 
-alone_kept : (languages : List Language) (mark : List ℕ) (element : Element) (before after : Bool) (kind : Kind) (bytes : List ℕ) → element.is_left_alone || begins_with_order_mark bytes ≡ true
+alone_kept : (languages : List Language) (mark : List ℕ) (element : Element) (before after : Bool) (kind : PieceKind) (bytes : List ℕ) → element.is_left_alone || begins_with_order_mark bytes ≡ true
     → marked_piece languages mark element before after kind bytes ≡ bytes
 alone_kept languages mark element before after Text bytes e =
     ap (λ c. if c then bytes else option_map_or (λ language. marked_text language.1 mark before after bytes) (best_of element.language languages) bytes) e
@@ -39,7 +39,7 @@ alone_kept languages mark element before after EmptyTag bytes e = refl
 alone_kept languages mark element before after EndTag bytes e = refl
 alone_kept languages mark element before after Other bytes e = refl
 
-left_uncertain : (form : Form) (page : Element) (reading : Reading) → reading.is_certain ≡ false → (standing form page reading).is_left_alone ≡ true
+left_uncertain : (form : PageForm) (page : Element) (reading : Reading) → reading.is_certain ≡ false → (standing form page reading).is_left_alone ≡ true
 left_uncertain form page reading e =
     let around = innermost page reading.elements in
     or_right around.is_left_alone (is_unread form reading around)
@@ -54,7 +54,7 @@ left_outside page reading e =
 
 -- ---- pages that are not read alike
 
-uncertain_kept : (languages : List Language) (mark : List ℕ) (form : Form) (class : List ℕ) (page : Element) (reading : Reading) (before : Bool) (ps : List Piece) → reading.is_certain ≡ false
+uncertain_kept : (languages : List Language) (mark : List ℕ) (form : PageForm) (class : List ℕ) (page : Element) (reading : Reading) (before : Bool) (ps : List Piece) → reading.is_certain ≡ false
     → marked_pieces languages mark form class page reading before ps ≡ joined_pieces ps
 unfolding marked_pieces
 uncertain_kept languages mark form class page reading before [] e = refl
@@ -71,7 +71,7 @@ same_either : (c : Bool) → (if◌then◌else◌ {A = List Element} c [] []) �
 same_either true = refl
 same_either false = refl
 
-none_open : (class : List ℕ) (group : ElementGroup) (kind : Kind) (bytes : List ℕ) (page : Element) → is_start kind ≡ false → elements_by Xml class group kind bytes page [] ≡ []
+none_open : (class : List ℕ) (group : ElementGroup) (kind : PieceKind) (bytes : List ℕ) (page : Element) → is_start kind ≡ false → elements_by Xml class group kind bytes page [] ≡ []
 none_open class group Text bytes page e = refl
 none_open class group Reference bytes page e = refl
 none_open class group StartTag bytes page e = absurd (true≢false e)
@@ -112,7 +112,7 @@ outside_kept languages mark class page reading before (p ∷ ps) none e =
 
 -- ---- the byte order mark
 
-mark_kept : (languages : List Language) (element : Element) (before after : Bool) (kind : Kind) (bytes : List ℕ) → begins_with_order_mark bytes ≡ true
+mark_kept : (languages : List Language) (element : Element) (before after : Bool) (kind : PieceKind) (bytes : List ℕ) → begins_with_order_mark bytes ≡ true
     → marked_piece languages soft_hyphen element before after kind bytes ≡ bytes
 mark_kept languages element before after kind bytes e =
     alone_kept languages soft_hyphen element before after kind bytes (or_right element.is_left_alone (begins_with_order_mark bytes) e)
@@ -124,7 +124,7 @@ mark_cases laws languages element before after text false e f u =
     let m = piece_marked laws languages soft_hyphen element before after Text text f u in
     ap begins_with_order_mark m.is ∙ marks_begin_none text (places_in languages element before after text) e ∙ sym e
 
-mark_stays : (laws : Laws) (languages : List Language) (element : Element) (before after : Bool) (kind : Kind) (bytes : List ℕ) → AllFit languages → IsUtf8 bytes
+mark_stays : (laws : Laws) (languages : List Language) (element : Element) (before after : Bool) (kind : PieceKind) (bytes : List ℕ) → AllFit languages → IsUtf8 bytes
     → begins_with_order_mark (marked_piece languages soft_hyphen element before after kind bytes) ≡ begins_with_order_mark bytes
 mark_stays laws languages element before after Text bytes f u = mark_cases laws languages element before after bytes (begins_with_order_mark bytes) refl f u
 mark_stays laws languages element before after Reference bytes f u = refl
@@ -133,7 +133,7 @@ mark_stays laws languages element before after EmptyTag bytes f u = refl
 mark_stays laws languages element before after EndTag bytes f u = refl
 mark_stays laws languages element before after Other bytes f u = refl
 
-marks_keep : (laws : Laws) (languages : List Language) (form : Form) (class : List ℕ) (page : Element) (reading : Reading) (before : Bool) (ps : List Piece) → AllFit languages → AreUtf8 ps
+marks_keep : (laws : Laws) (languages : List Language) (form : PageForm) (class : List ℕ) (page : Element) (reading : Reading) (before : Bool) (ps : List Piece) → AllFit languages → AreUtf8 ps
     → KeepsOrderMark ps (marked_list languages form class page reading before ps)
 marks_keep laws languages form class page reading before [] f u = tt
 marks_keep laws languages form class page reading before (p ∷ ps) f u =
@@ -160,7 +160,7 @@ by_law laws leave languages class language page output f u utf8 written front e 
 no_xml : Html ≡ Xml → ⊥
 no_xml e = cc
 
-form_cases : (laws : Laws) (leave : FormStays) (languages : List Language) (class language page output : List ℕ) (form : Form) (c : Bool) → form_of page ≡ form
+form_cases : (laws : Laws) (leave : FormStays) (languages : List Language) (class language page output : List ℕ) (form : PageForm) (c : Bool) → form_of page ≡ form
     → have_alike_front (page_element language) (pieces_of Xml page) ≡ c → AllFit languages → AreUtf8 (pieces_of (form_of page) page) → IsUtf8 page → IsUtf8 output → joined_pieces (pieces_of Xml page) ≡ page
     → output ≡ marked_pieces languages soft_hyphen (form_of page) class (page_element language) (at_start (form_of page) (pieces_of (form_of page) page)) false (pieces_of (form_of page) page)
     → form_of output ≡ form_of page
@@ -186,7 +186,7 @@ form_kept laws leave languages class language page output f u utf8 written join 
 
 -- ---- languages
 
-named_stays : (languages : List Language) (form : Form) (element : Element) (before after : Bool) (kind : Kind) (bytes : List ℕ)
+named_stays : (languages : List Language) (form : PageForm) (element : Element) (before after : Bool) (kind : PieceKind) (bytes : List ℕ)
     → language_named form (record { kind = kind; bytes = marked_piece languages soft_hyphen element before after kind bytes }) ≡ language_named form (record { kind = kind; bytes = bytes })
 named_stays languages form element before after Text bytes = refl
 named_stays languages form element before after Reference bytes = refl
@@ -195,7 +195,7 @@ named_stays languages form element before after EmptyTag bytes = refl
 named_stays languages form element before after EndTag bytes = refl
 named_stays languages form element before after Other bytes = refl
 
-those_stay : (languages : List Language) (form : Form) (class : List ℕ) (page : Element) (reading : Reading) (before : Bool) (named : List (List ℕ)) (ps : List Piece)
+those_stay : (languages : List Language) (form : PageForm) (class : List ℕ) (page : Element) (reading : Reading) (before : Bool) (named : List (List ℕ)) (ps : List Piece)
     → with_those_of form named (marked_list languages form class page reading before ps) ≡ with_those_of form named ps
 those_stay languages form class page reading before named [] = refl
 those_stay languages form class page reading before named (p ∷ ps) =

@@ -2,13 +2,13 @@
 use Rattle.std.proofs.Common.{◌≡◌, ℕ, ◌+◌, Bool, false, List, [], ◌∷◌, ◌++◌, length, refl, ap, arith, length-append}
 use Rattle.std.specs.Prelude.{All}
 use Rattle.std.proofs.lemmas.List.Elements.{All-nil, All-cons}
-use Rattle.html_pieces.specs.declared.bytes.Form.{Form}
+use Rattle.html_pieces.specs.declared.bytes.PageForm.{PageForm}
 use Rattle.html_pieces.specs.Pieces.{Piece, pieces_of}
 use Rattle.html_pieces.specs.Elements.{Element, page_element}
 use Rattle.html_pieces.specs.Readings.{Reading, at_start, standing, reading_after}
 use Rattle.html_pieces.specs.Laws.{joined_pieces, AreUtf8}
-use Rattle.html_pieces.specs.declared.tokenizer.Kind.{Kind}
-use Rattle.html_pieces.specs.declared.tokenizer.Kind.TheVariants.{Text, Reference, StartTag, EmptyTag, EndTag, Other}
+use Rattle.html_pieces.specs.declared.tokenizer.PieceKind.{PieceKind}
+use Rattle.html_pieces.specs.declared.tokenizer.PieceKind.TheVariants.{Text, Reference, StartTag, EmptyTag, EndTag, Other}
 use Rattle.hyphenation_html.specs.Languages.{Language}
 use Rattle.hyphenation_html.specs.Laws.{IsInText}
 use Rattle.hyphenation_html.specs.Places.{shifted, places_in, piece_places, pieces_places, places_of}
@@ -49,7 +49,7 @@ each_append : (P : ℕ → Type 0) (xs ys : List ℕ) → Each P xs → Each P y
 each_append P [] ys e f = f
 each_append P (x ∷ xs) ys e f = (e.0, each_append P xs ys e.1 f)
 
-piece_in_text : (languages : List Language) (element : Element) (before after : Bool) (p : Piece) (ps : List Piece) (kind : Kind) → p.kind ≡ kind
+piece_in_text : (languages : List Language) (element : Element) (before after : Bool) (p : Piece) (ps : List Piece) (kind : PieceKind) → p.kind ≡ kind
     → Within (length p.bytes) (piece_places languages element before after kind p.bytes) → Each (IsInText (p ∷ ps)) (piece_places languages element before after kind p.bytes)
 piece_in_text languages element before after p ps Text k w = in_text_here p ps (places_in languages element before after p.bytes) k w
 piece_in_text languages element before after p ps Reference k w = tt
@@ -58,7 +58,7 @@ piece_in_text languages element before after p ps EmptyTag k w = tt
 piece_in_text languages element before after p ps EndTag k w = tt
 piece_in_text languages element before after p ps Other k w = tt
 
-pieces_in_text : (laws : Laws) (languages : List Language) (form : Form) (class : List ℕ) (page : Element) (reading : Reading) (before : Bool) (ps : List Piece) → AllFit languages → AreUtf8 ps
+pieces_in_text : (laws : Laws) (languages : List Language) (form : PageForm) (class : List ℕ) (page : Element) (reading : Reading) (before : Bool) (ps : List Piece) → AllFit languages → AreUtf8 ps
     → Each (IsInText ps) (pieces_places languages form class page reading before ps)
 pieces_in_text laws languages form class page reading before [] f u = tt
 pieces_in_text laws languages form class page reading before (p ∷ ps) f u =
@@ -70,6 +70,6 @@ all_of : (P : ℕ → Type 0) (places : List ℕ) → Each P places → All P pl
 all_of P [] e = All-nil P
 all_of P (place ∷ places) e = All-cons P place places e.0 (all_of P places e.1)
 
-pub page_in_text : (laws : Laws) (languages : List Language) (form : Form) (class language page : List ℕ) → AllFit languages → AreUtf8 (pieces_of form page) → All (IsInText (pieces_of form page)) (places_of languages form class language page)
+pub page_in_text : (laws : Laws) (languages : List Language) (form : PageForm) (class language page : List ℕ) → AllFit languages → AreUtf8 (pieces_of form page) → All (IsInText (pieces_of form page)) (places_of languages form class language page)
 page_in_text laws languages form class language page f u =
     all_of (IsInText (pieces_of form page)) (places_of languages form class language page) (pieces_in_text laws languages form class (page_element language) (at_start form (pieces_of form page)) false (pieces_of form page) f u)

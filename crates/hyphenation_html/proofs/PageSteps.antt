@@ -2,31 +2,31 @@
 use Rattle.std.proofs.Common.{◌≡◌, ℕ, ◌+◌, ◌<◌, ◌&&◌, Bool, List, [], ◌∷◌, ◌++◌, map, length, drop, get_or, slice_get, Some, refl, ap, sym, ◌∙◌, append_assoc, append-nil, add-one, drop-cons, suc, ◌≤◌}
 use Rattle.std.proofs.lemmas.List.{drop_all}
 use Rattle.std.proofs.lemmas.Option.{get_or_from_slice_get}
-use Rattle.html_pieces.specs.declared.bytes.Form.{Form}
+use Rattle.html_pieces.specs.declared.bytes.PageForm.{PageForm}
 use Rattle.html_pieces.specs.Pieces.{Piece, as_piece}
 use Rattle.html_pieces.specs.Elements.{Element}
 use Rattle.html_pieces.specs.Readings.{Reading, standing, reading_after}
 use Rattle.hyphenation_html.specs.Languages.{Language}
 use Rattle.hyphenation_html.specs.Touching.{touched_after, touched_before}
 use Rattle.hyphenation_html.specs.Private.Marked.{is_text, marked_piece, marked_pieces}
-use Rattle.html_pieces.specs.declared.tokenizer.Kind.{Kind}
-use Rattle.html_pieces.specs.declared.tokenizer.Kind.TheVariants.{Text, Reference, StartTag, EmptyTag, EndTag, Other}
+use Rattle.html_pieces.specs.declared.tokenizer.PieceKind.{PieceKind}
+use Rattle.html_pieces.specs.declared.tokenizer.PieceKind.TheVariants.{Text, Reference, StartTag, EmptyTag, EndTag, Other}
 use Rattle.html_pieces.specs.declared.tokenizer.Piece as declared
 
 pub next_piece : (items : List declared.Piece) (i : ℕ) (piece : declared.Piece) → i < length items → piece ≡ get_or items i piece → drop i items ≡ piece ∷ drop (i + 1) items
 next_piece items i piece lt e = rw (add-one, drop-cons items i piece) (ap (λ p. p ∷ drop (suc i) items) (sym e))
 
-marked_first : (languages : List Language) (mark : List ℕ) (form : Form) (class : List ℕ) (page : Element) (reading : Reading) (before : Bool) (p : Piece) (ps : List Piece)
+marked_first : (languages : List Language) (mark : List ℕ) (form : PageForm) (class : List ℕ) (page : Element) (reading : Reading) (before : Bool) (p : Piece) (ps : List Piece)
     → marked_pieces languages mark form class page reading before (p ∷ ps)
     ≡ marked_piece languages mark (standing form page reading) before (touched_after ps) p.kind p.bytes ++ marked_pieces languages mark form class page (reading_after form class page reading p) (touched_before before p.kind p.bytes) ps
 unfolding marked_pieces
 marked_first languages mark form class page reading before p ps = refl
 
-pub marked_none : (languages : List Language) (mark : List ℕ) (form : Form) (class : List ℕ) (page : Element) (reading : Reading) (before : Bool) → marked_pieces languages mark form class page reading before [] ≡ []
+pub marked_none : (languages : List Language) (mark : List ℕ) (form : PageForm) (class : List ℕ) (page : Element) (reading : Reading) (before : Bool) → marked_pieces languages mark form class page reading before [] ≡ []
 unfolding marked_pieces
 marked_none languages mark form class page reading before = refl
 
-text_alone : (languages : List Language) (mark : List ℕ) (element : Element) (before after : Bool) (kind : Kind) (text : List ℕ)
+text_alone : (languages : List Language) (mark : List ℕ) (element : Element) (before after : Bool) (kind : PieceKind) (text : List ℕ)
     → marked_piece languages mark element before (is_text kind && after) kind text ≡ marked_piece languages mark element before after kind text
 text_alone languages mark element before after Text text = refl
 text_alone languages mark element before after Reference text = refl
@@ -35,7 +35,7 @@ text_alone languages mark element before after EmptyTag text = refl
 text_alone languages mark element before after EndTag text = refl
 text_alone languages mark element before after Other text = refl
 
-pub piece_written : (languages : List Language) (mark : List ℕ) (form : Form) (class : List ℕ) (page element : Element) (reading reading' : Reading) (before before' after : Bool) (output output' whole : List ℕ) (items : List declared.Piece) (i : ℕ) (piece : declared.Piece)
+pub piece_written : (languages : List Language) (mark : List ℕ) (form : PageForm) (class : List ℕ) (page element : Element) (reading reading' : Reading) (before before' after : Bool) (output output' whole : List ℕ) (items : List declared.Piece) (i : ℕ) (piece : declared.Piece)
     → output ++ marked_pieces languages mark form class page reading before (map as_piece (drop i items)) ≡ whole → i < length items → piece ≡ get_or items i piece
     → after ≡ (is_text piece.kind && touched_after (map as_piece (drop (i + 1) items))) → element ≡ standing form page reading
     → output' ≡ output ++ marked_piece languages mark element before after piece.kind piece.text.now
@@ -50,7 +50,7 @@ piece_written languages mark form class page element reading reading' before bef
     ∙ append_assoc output own tail ∙ ap (λ xs. output ++ xs) (sym (marked_first languages mark form class page reading before (as_piece piece) rest))
     ∙ ap (λ xs. output ++ marked_pieces languages mark form class page reading before (map as_piece xs)) (sym (next_piece items i piece lt is)) ∙ told
 
-pub all_written : (languages : List Language) (mark : List ℕ) (form : Form) (class : List ℕ) (page : Element) (reading : Reading) (before : Bool) (items : List declared.Piece) (i : ℕ) (output whole : List ℕ)
+pub all_written : (languages : List Language) (mark : List ℕ) (form : PageForm) (class : List ℕ) (page : Element) (reading : Reading) (before : Bool) (items : List declared.Piece) (i : ℕ) (output whole : List ℕ)
     → output ++ marked_pieces languages mark form class page reading before (map as_piece (drop i items)) ≡ whole → length items ≤ i → output ≡ whole
 all_written languages mark form class page reading before items i output whole told le =
     sym (append-nil output) ∙ ap (λ xs. output ++ xs) (sym (marked_none languages mark form class page reading before))

@@ -4,14 +4,14 @@ use Rattle.std.proofs.lemmas.Bool.{or_left, or_right}
 use Rattle.std.specs.Option.{option_map_or}
 use Rattle.std.proofs.lemmas.Bool.Decides.{nat_tests}
 use Rattle.std.specs.Str.{IsUtf8}
-use Rattle.html_pieces.specs.declared.bytes.Form.{Form}
+use Rattle.html_pieces.specs.declared.bytes.PageForm.{PageForm}
 use Rattle.html_pieces.specs.Pieces.{Piece, pieces_of}
 use Rattle.html_pieces.specs.Bytes.{is_xml}
 use Rattle.html_pieces.specs.Elements.{Element, page_element, innermost, depth_limit}
 use Rattle.html_pieces.specs.Readings.{Reading, started, at_start, standing, reading_after, has_text, body_unless, is_hidden, is_content_here, is_root_start, is_read_text, has_late_root}
 use Rattle.html_pieces.specs.Laws.{joined_pieces, AreUtf8, IsPlain, begins_alike, IsOtherText, HaveOtherTexts}
-use Rattle.html_pieces.specs.declared.tokenizer.Kind.{Kind}
-use Rattle.html_pieces.specs.declared.tokenizer.Kind.TheVariants.{Text, Reference, StartTag, EmptyTag, EndTag, Other}
+use Rattle.html_pieces.specs.declared.tokenizer.PieceKind.{PieceKind}
+use Rattle.html_pieces.specs.declared.tokenizer.PieceKind.TheVariants.{Text, Reference, StartTag, EmptyTag, EndTag, Other}
 use Rattle.hyphenation_segments.specs.Laws.{with_marks}
 use Rattle.hyphenation_html.specs.Languages.{Language, best_of}
 use Rattle.hyphenation_html.specs.Laws.{soft_hyphen}
@@ -26,13 +26,13 @@ use Rattle.hyphenation_html.proofs.SecondRun.{Implies, none_left}
 use Rattle.hyphenation_html.proofs.WordEdges.{still_begins, still_ends}
 
 -- The pieces of a page, each with its marks.
-abbrev pub marked_list : List Language → Form → List ℕ → Element → Reading → Bool → List Piece → List Piece
+abbrev pub marked_list : List Language → PageForm → List ℕ → Element → Reading → Bool → List Piece → List Piece
 marked_list languages form class page reading before [] = []
 marked_list languages form class page reading before (p ∷ ps) =
     record { kind = p.kind; bytes = marked_piece languages soft_hyphen (standing form page reading) before (touched_after ps) p.kind p.bytes }
     ∷ marked_list languages form class page (reading_after form class page reading p) (touched_before before p.kind p.bytes) ps
 
-pub marked_list-joins : (languages : List Language) (form : Form) (class : List ℕ) (page : Element) (reading : Reading) (before : Bool) (ps : List Piece)
+pub marked_list-joins : (languages : List Language) (form : PageForm) (class : List ℕ) (page : Element) (reading : Reading) (before : Bool) (ps : List Piece)
     → joined_pieces (marked_list languages form class page reading before ps) ≡ marked_pieces languages soft_hyphen form class page reading before ps
 unfolding marked_pieces
 marked_list-joins languages form class page reading before [] = refl
@@ -67,7 +67,7 @@ none_in laws languages element before after before' after' text f i j u =
     none_in_cases element (is_left_alone element text) (best_of element.language languages) before after before' after' text refl
     (none_by_language laws before after before' after' text (best_of element.language languages) (chosen element.language None languages tt f) i j u)
 
-piece_done : (laws : Laws) (languages : List Language) (element : Element) (before after before' after' : Bool) (kind : Kind) (bytes : List ℕ) → AllFit languages → Implies before before' → Implies after after' → IsUtf8 bytes
+piece_done : (laws : Laws) (languages : List Language) (element : Element) (before after before' after' : Bool) (kind : PieceKind) (bytes : List ℕ) → AllFit languages → Implies before before' → Implies after after' → IsUtf8 bytes
     → piece_places languages element before' after' kind (marked_piece languages soft_hyphen element before after kind bytes) ≡ []
 piece_done laws languages element before after before' after' Text bytes f i j u = none_in laws languages element before after before' after' bytes f i j u
 piece_done laws languages element before after before' after' Reference bytes f i j u = refl
@@ -78,7 +78,7 @@ piece_done laws languages element before after before' after' Other bytes f i j 
 
 -- ---- what touches a piece
 
-same_over : (languages : List Language) (element : Element) (before after : Bool) (kind : Kind) (bytes : List ℕ)
+same_over : (languages : List Language) (element : Element) (before after : Bool) (kind : PieceKind) (bytes : List ℕ)
     → goes_on_over kind (marked_piece languages soft_hyphen element before after kind bytes) ≡ goes_on_over kind bytes
 unfolding goes_on_over
 same_over languages element before after Text bytes = refl
@@ -88,7 +88,7 @@ same_over languages element before after EmptyTag bytes = refl
 same_over languages element before after EndTag bytes = refl
 same_over languages element before after Other bytes = refl
 
-still_begins_touching : (laws : Laws) (languages : List Language) (element : Element) (before after : Bool) (kind : Kind) (bytes : List ℕ) → AllFit languages → IsUtf8 bytes
+still_begins_touching : (laws : Laws) (languages : List Language) (element : Element) (before after : Bool) (kind : PieceKind) (bytes : List ℕ) → AllFit languages → IsUtf8 bytes
     → Implies (begins_touching kind bytes) (begins_touching kind (marked_piece languages soft_hyphen element before after kind bytes))
 still_begins_touching laws languages element before after Text bytes f u = λ e.
     let m = piece_marked laws languages soft_hyphen element before after Text bytes f u in
@@ -99,7 +99,7 @@ still_begins_touching laws languages element before after EmptyTag bytes f u = �
 still_begins_touching laws languages element before after EndTag bytes f u = λ e. e
 still_begins_touching laws languages element before after Other bytes f u = λ e. e
 
-still_ends_touching : (laws : Laws) (languages : List Language) (element : Element) (before after : Bool) (kind : Kind) (bytes : List ℕ) → AllFit languages → IsUtf8 bytes
+still_ends_touching : (laws : Laws) (languages : List Language) (element : Element) (before after : Bool) (kind : PieceKind) (bytes : List ℕ) → AllFit languages → IsUtf8 bytes
     → Implies (ends_touching kind bytes) (ends_touching kind (marked_piece languages soft_hyphen element before after kind bytes))
 still_ends_touching laws languages element before after Text bytes f u = λ e.
     let m = piece_marked laws languages soft_hyphen element before after Text bytes f u in
@@ -114,7 +114,7 @@ either_implies : (c : Bool) (a a' b b' : Bool) → Implies a a' → Implies b b'
 either_implies true a a' b b' i j = i
 either_implies false a a' b b' i j = j
 
-still_after : (laws : Laws) (languages : List Language) (form : Form) (class : List ℕ) (page : Element) (reading : Reading) (before : Bool) (ps : List Piece) → AllFit languages → AreUtf8 ps
+still_after : (laws : Laws) (languages : List Language) (form : PageForm) (class : List ℕ) (page : Element) (reading : Reading) (before : Bool) (ps : List Piece) → AllFit languages → AreUtf8 ps
     → Implies (touched_after ps) (touched_after (marked_list languages form class page reading before ps))
 still_after laws languages form class page reading before [] f u = λ e. e
 still_after laws languages form class page reading before (p ∷ ps) f u =
@@ -126,7 +126,7 @@ still_after laws languages form class page reading before (p ∷ ps) f u =
     (still_begins_touching laws languages element before (touched_after ps) p.kind p.bytes f u.0) in
     λ e. ap (λ c. if c then touched_after rest else begins_touching p.kind bytes) (same_over languages element before (touched_after ps) p.kind p.bytes) ∙ here e
 
-still_before : (laws : Laws) (languages : List Language) (element : Element) (before before' after : Bool) (kind : Kind) (bytes : List ℕ) → AllFit languages → IsUtf8 bytes → Implies before before'
+still_before : (laws : Laws) (languages : List Language) (element : Element) (before before' after : Bool) (kind : PieceKind) (bytes : List ℕ) → AllFit languages → IsUtf8 bytes → Implies before before'
     → Implies (touched_before before kind bytes) (touched_before before' kind (marked_piece languages soft_hyphen element before after kind bytes))
 still_before laws languages element before before' after kind bytes f u i =
     let marked = marked_piece languages soft_hyphen element before after kind bytes in
@@ -136,7 +136,7 @@ still_before laws languages element before before' after kind bytes f u i =
 -- ---- pieces
 
 -- the reading after a text, by whether it has more than white space
-abbrev after_content : Form → Element → Reading → Bool → Reading
+abbrev after_content : PageForm → Element → Reading → Bool → Reading
 after_content form page reading c =
     if reading.is_certain
     then record {
@@ -147,7 +147,7 @@ after_content form page reading c =
     }
     else reading
 
-same_reading : (laws : Laws) (languages : List Language) (form : Form) (class : List ℕ) (page : Element) (reading : Reading) (before after : Bool) (kind : Kind) (bytes : List ℕ) → AllFit languages → IsUtf8 bytes
+same_reading : (laws : Laws) (languages : List Language) (form : PageForm) (class : List ℕ) (page : Element) (reading : Reading) (before after : Bool) (kind : PieceKind) (bytes : List ℕ) → AllFit languages → IsUtf8 bytes
     → reading_after form class page reading (record { kind = kind; bytes = marked_piece languages soft_hyphen (standing form page reading) before after kind bytes }) ≡ reading_after form class page reading (record { kind = kind; bytes = bytes })
 same_reading laws languages form class page reading before after Text bytes f u =
     let element = standing form page reading in
@@ -159,7 +159,7 @@ same_reading laws languages form class page reading before after EmptyTag bytes 
 same_reading laws languages form class page reading before after EndTag bytes f u = refl
 same_reading laws languages form class page reading before after Other bytes f u = refl
 
-root_as_well : (languages : List Language) (element : Element) (before after : Bool) (kind : Kind) (bytes : List ℕ)
+root_as_well : (languages : List Language) (element : Element) (before after : Bool) (kind : PieceKind) (bytes : List ℕ)
     → is_root_start kind (marked_piece languages soft_hyphen element before after kind bytes) ≡ is_root_start kind bytes
 root_as_well languages element before after Text bytes = refl
 root_as_well languages element before after Reference bytes = refl
@@ -168,7 +168,7 @@ root_as_well languages element before after EmptyTag bytes = refl
 root_as_well languages element before after EndTag bytes = refl
 root_as_well languages element before after Other bytes = refl
 
-read_as_well : (laws : Laws) (languages : List Language) (element : Element) (before after : Bool) (kind : Kind) (bytes : List ℕ) → AllFit languages → IsUtf8 bytes
+read_as_well : (laws : Laws) (languages : List Language) (element : Element) (before after : Bool) (kind : PieceKind) (bytes : List ℕ) → AllFit languages → IsUtf8 bytes
     → is_read_text kind (marked_piece languages soft_hyphen element before after kind bytes) ≡ is_read_text kind bytes
 read_as_well laws languages element before after Text bytes f u =
     ap has_text (piece_marked laws languages soft_hyphen element before after Text bytes f u).is ∙ same_text languages element before after bytes
@@ -178,7 +178,7 @@ read_as_well laws languages element before after EmptyTag bytes f u = refl
 read_as_well laws languages element before after EndTag bytes f u = refl
 read_as_well laws languages element before after Other bytes f u = refl
 
-late_as_well : (laws : Laws) (languages : List Language) (form : Form) (class : List ℕ) (page : Element) (reading : Reading) (before seen : Bool) (ps : List Piece) → AllFit languages → AreUtf8 ps
+late_as_well : (laws : Laws) (languages : List Language) (form : PageForm) (class : List ℕ) (page : Element) (reading : Reading) (before seen : Bool) (ps : List Piece) → AllFit languages → AreUtf8 ps
     → has_late_root seen (marked_list languages form class page reading before ps) ≡ has_late_root seen ps
 late_as_well laws languages form class page reading before seen [] f u = refl
 late_as_well laws languages form class page reading before seen (p ∷ ps) f u =
@@ -189,7 +189,7 @@ late_as_well laws languages form class page reading before seen (p ∷ ps) f u =
     ∙ ap (λ c. seen && is_root_start p.kind p.bytes || has_late_root (seen || c) rest) (read_as_well laws languages element before (touched_after ps) p.kind p.bytes f u.0)
     ∙ ap (λ c. seen && is_root_start p.kind p.bytes || c) (late_as_well laws languages form class page (reading_after form class page reading p) (touched_before before p.kind p.bytes) (seen || is_read_text p.kind p.bytes) ps f u.1)
 
-pieces_done : (laws : Laws) (languages : List Language) (form : Form) (class : List ℕ) (page : Element) (reading : Reading) (before before' : Bool) (ps : List Piece) → AllFit languages → AreUtf8 ps → Implies before before'
+pieces_done : (laws : Laws) (languages : List Language) (form : PageForm) (class : List ℕ) (page : Element) (reading : Reading) (before before' : Bool) (ps : List Piece) → AllFit languages → AreUtf8 ps → Implies before before'
     → pieces_places languages form class page reading before' (marked_list languages form class page reading before ps) ≡ []
 pieces_done laws languages form class page reading before before' [] f u i = refl
 pieces_done laws languages form class page reading before before' (p ∷ ps) f u i =
@@ -236,7 +236,7 @@ marks_begin_alike (b ∷ bs) [] = or_left (b == b) (b == 0xC2) (same_number b)
 marks_begin_alike (b ∷ bs) (zero ∷ ps) = or_right (0xC2 == b) (0xC2 == 0xC2) refl
 marks_begin_alike (b ∷ bs) (suc p ∷ ps) = or_left (b == b) (b == 0xC2) (same_number b)
 
-other_text : (laws : Laws) (languages : List Language) (element : Element) (before after : Bool) (kind : Kind) (bytes : List ℕ) → AllFit languages → IsUtf8 bytes
+other_text : (laws : Laws) (languages : List Language) (element : Element) (before after : Bool) (kind : PieceKind) (bytes : List ℕ) → AllFit languages → IsUtf8 bytes
     → IsOtherText kind bytes (marked_piece languages soft_hyphen element before after kind bytes)
 other_text laws languages element before after Text bytes f u =
     let m = piece_marked laws languages soft_hyphen element before after Text bytes f u in
@@ -248,7 +248,7 @@ other_text laws languages element before after EmptyTag bytes f u = refl
 other_text laws languages element before after EndTag bytes f u = refl
 other_text laws languages element before after Other bytes f u = refl
 
-pub other_texts : (laws : Laws) (languages : List Language) (form : Form) (class : List ℕ) (page : Element) (reading : Reading) (before : Bool) (ps : List Piece) → AllFit languages → AreUtf8 ps
+pub other_texts : (laws : Laws) (languages : List Language) (form : PageForm) (class : List ℕ) (page : Element) (reading : Reading) (before : Bool) (ps : List Piece) → AllFit languages → AreUtf8 ps
     → HaveOtherTexts ps (marked_list languages form class page reading before ps)
 other_texts laws languages form class page reading before [] f u = tt
 other_texts laws languages form class page reading before (p ∷ ps) f u = (
@@ -257,7 +257,7 @@ other_texts laws languages form class page reading before (p ∷ ps) f u = (
 )
 
 -- A page that was written with soft hyphens has no places left.
-pub page_done : (laws : Laws) (languages : List Language) (form : Form) (class language page output : List ℕ) → AllFit languages → AreUtf8 (pieces_of form page)
+pub page_done : (laws : Laws) (languages : List Language) (form : PageForm) (class language page output : List ℕ) → AllFit languages → AreUtf8 (pieces_of form page)
     → ((others : List Piece) → HaveOtherTexts (pieces_of form page) others → pieces_of form (joined_pieces others) ≡ others)
     → output ≡ marked_pieces languages soft_hyphen form class (page_element language) (at_start form (pieces_of form page)) false (pieces_of form page)
     → places_of languages form class language output ≡ []

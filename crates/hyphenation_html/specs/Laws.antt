@@ -2,7 +2,7 @@
 use Rattle.std.specs.Prelude.{◌≡◌, ℕ, ◌+◌, ◌≤◌, Bool, List, [], ◌∷◌, ◌++◌, length, Option, Some, None, IsUtf8}
 use Rattle.html_pieces.specs.Laws.{joined_pieces}
 use Rattle.html_pieces.specs.Pieces.{Piece}
-use Rattle.html_pieces.specs.declared.tokenizer.Kind.TheVariants.{Text}
+use Rattle.html_pieces.specs.declared.tokenizer.PieceKind.TheVariants.{Text}
 use Rattle.hyphenation_segments.specs.Laws.{with_marks}
 use Rattle.hyphenation_html.specs.Dictionaries.{Breaks}
 use Rattle.hyphenation_html.specs.Places.{text_places}

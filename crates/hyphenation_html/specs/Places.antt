@@ -4,14 +4,14 @@ use Rattle.std.specs.Prelude.{◌≡◌, ℕ, ◌+◌, ◌||◌, Bool, false, Li
 use Rattle.std.specs.Option.{option_map_or}
 use Rattle.unicode_segmentation.specs.Word.{word_bounds}
 use Rattle.html_pieces.specs.Bytes.{is_white_space}
-use Rattle.html_pieces.specs.declared.bytes.Form.{Form}
+use Rattle.html_pieces.specs.declared.bytes.PageForm.{PageForm}
 use Rattle.html_pieces.specs.Forms.{begins_with_order_mark, form_of}
 use Rattle.html_pieces.specs.Languages.{languages_of}
 use Rattle.html_pieces.specs.Pieces.{Piece, pieces_of}
 use Rattle.html_pieces.specs.Elements.{Element, page_element}
 use Rattle.html_pieces.specs.Readings.{Reading, at_start, standing, reading_after}
-use Rattle.html_pieces.specs.declared.tokenizer.Kind.{Kind}
-use Rattle.html_pieces.specs.declared.tokenizer.Kind.TheVariants.{Text}
+use Rattle.html_pieces.specs.declared.tokenizer.PieceKind.{PieceKind}
+use Rattle.html_pieces.specs.declared.tokenizer.PieceKind.TheVariants.{Text}
 use Rattle.hyphenation_segments.specs.Laws.{with_marks}
 use Rattle.hyphenation_html.specs.Dictionaries.{Breaks}
 use Rattle.hyphenation_html.specs.Languages.{Language, languages_by, best_of}
@@ -58,13 +58,13 @@ places_in languages element before after text =
     else option_map_or (λ language. text_places language.1 before after text) (best_of element.language languages) []
 
 -- The breaks of a piece: none but of text.
-abbrev pub piece_places : List Language → Element → Bool → Bool → Kind → List ℕ → List ℕ
+abbrev pub piece_places : List Language → Element → Bool → Bool → PieceKind → List ℕ → List ℕ
 piece_places languages element before after Text text = places_in languages element before after text
 piece_places languages element before after _ text = []
 
 -- The breaks of pieces, by a reading, where something may touch the first piece from before. `class` is the class
 -- whose elements are left alone.
-abbrev pub pieces_places : List Language → Form → List ℕ → Element → Reading → Bool → List Piece → List ℕ
+abbrev pub pieces_places : List Language → PageForm → List ℕ → Element → Reading → Bool → List Piece → List ℕ
 pieces_places languages form class page reading before [] = []
 pieces_places languages form class page reading before (p ∷ ps) =
     piece_places languages (standing form page reading) before (touched_after ps) p.kind p.bytes
@@ -73,12 +73,12 @@ pieces_places languages form class page reading before (p ∷ ps) =
     (touched_before before p.kind p.bytes) ps)
 
 -- The breaks of a page, in a language that holds where the page names none.
-abbrev pub places_of : List Language → Form → List ℕ → List ℕ → List ℕ → List ℕ
+abbrev pub places_of : List Language → PageForm → List ℕ → List ℕ → List ℕ → List ℕ
 places_of languages form class language page =
     pieces_places languages form class (page_element language) (at_start form (pieces_of form page)) false (pieces_of form page)
 
 -- The breaks of a page that is read in a form, by dictionaries and settings.
-abbrev pub places_in_form : Settings → List LanguageDictionary → Form → List ℕ → List ℕ → List ℕ
+abbrev pub places_in_form : Settings → List LanguageDictionary → PageForm → List ℕ → List ℕ → List ℕ
 places_in_form settings languages form language page =
     places_of (languages_by settings languages) form settings.class.now language page
 

@@ -5,8 +5,8 @@ use Rattle.addresses.specs.Addresses.{is_of_word}
 use Rattle.html_pieces.specs.Names.{name_of}
 use Rattle.html_pieces.specs.Bytes.{is_one_of}
 use Rattle.html_pieces.specs.Pieces.{Piece}
-use Rattle.html_pieces.specs.declared.tokenizer.Kind.{Kind}
-use Rattle.html_pieces.specs.declared.tokenizer.Kind.TheVariants.{Text, Reference, StartTag, EmptyTag, EndTag, Other}
+use Rattle.html_pieces.specs.declared.tokenizer.PieceKind.{PieceKind}
+use Rattle.html_pieces.specs.declared.tokenizer.PieceKind.TheVariants.{Text, Reference, StartTag, EmptyTag, EndTag, Other}
 
 -- Elements within a line by what they mean, so that a word may begin in one and end outside of it.
 abbrev pub phrase_names : List (List ℕ)
@@ -27,7 +27,7 @@ abbrev pub is_inline : List ℕ → Bool
 is_inline name = is_one_of phrase_names name || is_one_of style_names name
 
 -- A word goes on over a piece: over a tag of one of these elements, and over comments and the like.
-unfoldable pub goes_on_over : Kind → List ℕ → Bool
+unfoldable pub goes_on_over : PieceKind → List ℕ → Bool
 goes_on_over StartTag tag = is_inline (name_of tag)
 goes_on_over EmptyTag tag = is_inline (name_of tag)
 goes_on_over EndTag tag = is_inline (name_of tag)
@@ -45,13 +45,13 @@ abbrev pub ends_in_word : List ℕ → Bool
 ends_in_word text = option_map_or is_of_word (slice_get text (length text - 1)) false
 
 -- A piece begins with a byte of a word, or is a character reference.
-abbrev pub begins_touching : Kind → List ℕ → Bool
+abbrev pub begins_touching : PieceKind → List ℕ → Bool
 begins_touching Text text = begins_in_word text
 begins_touching Reference bytes = true
 begins_touching _ bytes = false
 
 -- A piece ends with a byte of a word, or is a character reference.
-abbrev pub ends_touching : Kind → List ℕ → Bool
+abbrev pub ends_touching : PieceKind → List ℕ → Bool
 ends_touching Text text = ends_in_word text
 ends_touching Reference bytes = true
 ends_touching _ bytes = false
@@ -62,5 +62,5 @@ touched_after [] = false
 touched_after (p ∷ ps) = if goes_on_over p.kind p.bytes then touched_after ps else begins_touching p.kind p.bytes
 
 -- The same of what is before a piece, after one more piece.
-abbrev pub touched_before : Bool → Kind → List ℕ → Bool
+abbrev pub touched_before : Bool → PieceKind → List ℕ → Bool
 touched_before before kind bytes = if goes_on_over kind bytes then before else ends_touching kind bytes

@@ -6,7 +6,7 @@ ghost use Rattle.html_pieces.specs.Forms.{form_of};
 ghost use Rattle.html_pieces.specs.Languages.{languages_of};
 ghost use Rattle.html_pieces.specs.Pieces.{as_piece, pieces_of};
 
-use html_pieces::bytes::Form;
+use html_pieces::bytes::PageForm;
 use html_pieces::forms::{CutPage, cut};
 use html_pieces::languages::languages_of_pieces;
 use html_pieces::tokenizer::Piece;
@@ -68,7 +68,7 @@ impl<'t> HtmlPage<'t> {
     }
 
     // Returns the form of the page.
-    pub(crate) fn form(&self) -> Form
+    pub(crate) fn form(&self) -> PageForm
         ensures { result ≡ form_of self.now }
     {
         self.cut.form

@@ -20,7 +20,7 @@ use crate::languages::{LanguageDictionary, best_of};
 use crate::settings::Settings;
 use crate::text::{Output, push_text};
 use crate::touching::{touched_after, touched_before};
-use html_pieces::bytes::Form;
+use html_pieces::bytes::PageForm;
 use html_pieces::elements::{Element, page_element};
 use html_pieces::forms::begins_with_order_mark;
 use html_pieces::laws::{
@@ -28,7 +28,7 @@ use html_pieces::laws::{
 };
 use html_pieces::readings::{Reading, pass, standing};
 use html_pieces::references::read;
-use html_pieces::tokenizer::{Kind, Piece};
+use html_pieces::tokenizer::{Piece, PieceKind};
 use hyphenation_hyphenator::hyphenator::laws::plain_breaks_fit_where_ascending;
 use hyphenation_segments::iter::laws::{marked_segments_join, segments_join};
 use std::alloc::{AllocError, Global};
@@ -96,7 +96,7 @@ fn push_piece(
         ++ marked_piece_by settings.now languages.now element.entry before after piece.entry) }
 {
     match piece.kind {
-        Kind::Text => push_in(
+        PieceKind::Text => push_in(
             output, languages, settings, element, piece.text, before, after,
         ),
         _ => output.text.push_str(piece.text),
@@ -112,14 +112,14 @@ fn piece_at<'t>(pieces: &[Piece<'t>], i: usize) -> Piece<'t>
 }
 
 // Whether a piece is text.
-const fn is_text(kind: Kind) -> bool
+const fn is_text(kind: PieceKind) -> bool
     ensures { result ≡ is_text kind }
 {
-    matches!(kind, Kind::Text)
+    matches!(kind, PieceKind::Text)
 }
 
 // Whether something touches a text from after. It is asked of text alone, so that each piece is passed once.
-fn text_touched_after(kind: Kind, rest: &[Piece<'_>]) -> bool
+fn text_touched_after(kind: PieceKind, rest: &[Piece<'_>]) -> bool
     ensures { result ≡ (is_text kind && touched_after (map as_piece rest.now)) }
 {
     is_text(kind) && touched_after(rest)
@@ -130,7 +130,7 @@ fn push_pieces<'t>(
     output: &mut Output,
     languages: &[LanguageDictionary],
     settings: &Settings<'_>,
-    form: Form,
+    form: PageForm,
     around: Element<'t>,
     pieces: &[Piece<'t>],
 ) -> Result<(), AllocError>

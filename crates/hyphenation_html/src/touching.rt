@@ -7,7 +7,7 @@ ghost use Rattle.hyphenation_html.specs.Touching.{begins_in_word, ends_in_word, 
 
 use addresses::is_of_word;
 use html_pieces::bytes::is_one_of;
-use html_pieces::tokenizer::{Kind, Piece, name_of};
+use html_pieces::tokenizer::{Piece, PieceKind, name_of};
 
 // Elements within a line by what they mean.
 const PHRASE_NAMES: [&[u8]; 16] = [
@@ -34,11 +34,11 @@ fn goes_on_over(piece: Piece<'_>) -> bool
     ensures { result ≡ goes_on_over piece.entry.kind piece.entry.text.now }
 {
     match piece.kind {
-        Kind::StartTag | Kind::EmptyTag | Kind::EndTag => {
+        PieceKind::StartTag | PieceKind::EmptyTag | PieceKind::EndTag => {
             is_inline(name_of(piece.text.as_bytes()))
         }
-        Kind::Other => true,
-        Kind::Text | Kind::Reference => false,
+        PieceKind::Other => true,
+        PieceKind::Text | PieceKind::Reference => false,
     }
 }
 
@@ -67,8 +67,8 @@ fn begins_touching(piece: Piece<'_>) -> bool
     ensures { result ≡ begins_touching piece.entry.kind piece.entry.text.now }
 {
     match piece.kind {
-        Kind::Text => begins_in_word(piece.text.as_bytes()),
-        Kind::Reference => true,
+        PieceKind::Text => begins_in_word(piece.text.as_bytes()),
+        PieceKind::Reference => true,
         _ => false,
     }
 }
@@ -78,8 +78,8 @@ fn ends_touching(piece: Piece<'_>) -> bool
     ensures { result ≡ ends_touching piece.entry.kind piece.entry.text.now }
 {
     match piece.kind {
-        Kind::Text => ends_in_word(piece.text.as_bytes()),
-        Kind::Reference => true,
+        PieceKind::Text => ends_in_word(piece.text.as_bytes()),
+        PieceKind::Reference => true,
         _ => false,
     }
 }

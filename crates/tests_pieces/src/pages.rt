@@ -1,8 +1,8 @@
 //! Pages and their pieces, as the rules of the HTML Living Standard and of XML 1.0 have them.
 
-use html_pieces::bytes::Form;
+use html_pieces::bytes::PageForm;
 use html_pieces::forms::cut;
-use html_pieces::tokenizer::{Kind, Piece, pieces};
+use html_pieces::tokenizer::{Piece, PieceKind, pieces};
 use std::alloc::{AllocError, Global};
 use std::test::Fail;
 use test_support::expect_text_in;
@@ -12,12 +12,12 @@ fn shown(alloc: Global, pieces: &[Piece<'_>]) -> Result<String, AllocError> {
     let mut all = String::new(alloc);
     for piece in pieces {
         all.push_str(match piece.kind {
-            Kind::Text => "t[",
-            Kind::Reference => "r[",
-            Kind::StartTag => "s[",
-            Kind::EmptyTag => "v[",
-            Kind::EndTag => "e[",
-            Kind::Other => "o[",
+            PieceKind::Text => "t[",
+            PieceKind::Reference => "r[",
+            PieceKind::StartTag => "s[",
+            PieceKind::EmptyTag => "v[",
+            PieceKind::EndTag => "e[",
+            PieceKind::Other => "o[",
         })?;
         all.push_str(piece.text)?;
         all.push_str("]")?;
@@ -26,7 +26,7 @@ fn shown(alloc: Global, pieces: &[Piece<'_>]) -> Result<String, AllocError> {
 }
 
 // The pieces of a page in this form.
-fn pieces_shown(alloc: Global, form: Form, page: &str) -> Result<String, AllocError> {
+fn pieces_shown(alloc: Global, form: PageForm, page: &str) -> Result<String, AllocError> {
     shown(alloc, &pieces(alloc, form, page)?)
 }
 
@@ -38,14 +38,14 @@ fn cut_shown(alloc: Global, page: &str) -> Result<String, AllocError> {
     Ok(all)
 }
 
-const HTML: &[Form] = &[Form::Html];
+const HTML: &[PageForm] = &[PageForm::Html];
 
-const XML: &[Form] = &[Form::Xml];
+const XML: &[PageForm] = &[PageForm::Xml];
 
-const BOTH: &[Form] = &[Form::Html, Form::Xml];
+const BOTH: &[PageForm] = &[PageForm::Html, PageForm::Xml];
 
 // Each row has its sentence, the forms in which the page is cut, the page, and its pieces.
-const CUT: &[(&str, &[Form], &str, &str)] = &[
+const CUT: &[(&str, &[PageForm], &str, &str)] = &[
     ("the empty page has no piece", BOTH, "", ""),
     ("words and spaces are one text", BOTH, "a b", "t[a b]"),
     (

@@ -6,15 +6,15 @@ use Rattle.std.specs.String.{string_bytes}
 use Rattle.hyphenation_html.specs.declared.text.Output.{Output}
 use Rattle.unicode_segmentation.specs.Word.{word_bounds}
 use Rattle.html_pieces.specs.Bytes.{is_white_space}
-use Rattle.html_pieces.specs.declared.bytes.Form.{Form}
+use Rattle.html_pieces.specs.declared.bytes.PageForm.{PageForm}
 use Rattle.html_pieces.specs.Forms.{form_of}
 use Rattle.html_pieces.specs.Pieces.{Piece, as_piece, pieces_of}
 use Rattle.html_pieces.specs.Elements.{Element, as_element, page_element}
 use Rattle.html_pieces.specs.Readings.{Reading, at_start, standing, reading_after}
 use Rattle.html_pieces.specs.declared.elements.Element as held
 use Rattle.html_pieces.specs.declared.tokenizer.Piece as cut
-use Rattle.html_pieces.specs.declared.tokenizer.Kind.{Kind}
-use Rattle.html_pieces.specs.declared.tokenizer.Kind.TheVariants.{Text}
+use Rattle.html_pieces.specs.declared.tokenizer.PieceKind.{PieceKind}
+use Rattle.html_pieces.specs.declared.tokenizer.PieceKind.TheVariants.{Text}
 use Rattle.hyphenation_segments.specs.Laws.{with_marks}
 use Rattle.hyphenation_html.specs.Dictionaries.{Breaks}
 use Rattle.hyphenation_html.specs.Languages.{Language, best_of, breaks_under, coded, languages_by}
@@ -57,17 +57,17 @@ marked_in languages mark element before after text =
     else option_map_or (λ language. marked_text language.1 mark before after text) (best_of element.language languages) text
 
 -- A piece is text.
-abbrev pub is_text : Kind → Bool
+abbrev pub is_text : PieceKind → Bool
 is_text Text = true
 is_text _ = false
 
 -- A piece with its marks.
-abbrev pub marked_piece : List Language → List ℕ → Element → Bool → Bool → Kind → List ℕ → List ℕ
+abbrev pub marked_piece : List Language → List ℕ → Element → Bool → Bool → PieceKind → List ℕ → List ℕ
 marked_piece languages mark element before after Text text = marked_in languages mark element before after text
 marked_piece languages mark element before after _ text = text
 
 -- Pieces with their marks, by a reading.
-unfoldable pub marked_pieces : List Language → List ℕ → Form → List ℕ → Element → Reading → Bool → List Piece → List ℕ
+unfoldable pub marked_pieces : List Language → List ℕ → PageForm → List ℕ → Element → Reading → Bool → List Piece → List ℕ
 marked_pieces languages mark form class page reading before [] = []
 marked_pieces languages mark form class page reading before (p ∷ ps) =
     marked_piece languages mark (standing form page reading) before (touched_after ps) p.kind p.bytes
@@ -102,7 +102,7 @@ marked_piece_by settings languages element before after piece =
     piece.text.now
 
 -- All pieces of a page with their marks.
-abbrev pub marked_pieces_by : Settings → List LanguageDictionary → Form → held.Element → List cut.Piece → List ℕ
+abbrev pub marked_pieces_by : Settings → List LanguageDictionary → PageForm → held.Element → List cut.Piece → List ℕ
 marked_pieces_by settings languages form page pieces =
     marked_pieces (languages_by settings languages) settings.mark.now form settings.class.now (as_element page)
     (at_start form (map as_piece pieces)) false

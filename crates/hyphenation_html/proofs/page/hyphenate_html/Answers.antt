@@ -13,7 +13,7 @@ use Rattle.hyphenation_html.proofs.KeptForms.{form_kept, languages_kept}
 use Rattle.hyphenation_html.proofs.SecondPages.{page_done}
 use Rattle.hyphenation_html.specs.Places.{places_of}
 use Rattle.std.proofs.lemmas.Str.{IsUtf8-string_bytes}
-use Rattle.html_pieces.specs.declared.bytes.Form.TheVariants.{Xml}
+use Rattle.html_pieces.specs.declared.bytes.PageForm.TheVariants.{Xml}
 use Rattle.hyphenation_html.specs.Private.Marked.{marked_pieces}
 use Rattle.hyphenation_html.proofs.MarksInText.{page_in_text}
 use Rattle.hyphenation_html.proofs.page.hyphenate_html.Goals as goal
