@@ -16,8 +16,8 @@ pub record Remark : Type 0 where
   pub at : LineRef
 
 -- The first line of a note and of one remark more: the least one in the file of the note.
-abbrev pub first_of : LineRef → LineRef → LineRef
-first_of first at = if at.file == first.file && nat_lt at.line first.line then at else first
+abbrev pub earlier_line : LineRef → LineRef → LineRef
+earlier_line first at = if at.file == first.file && nat_lt at.line first.line then at else first
 
 -- The note of the first remark of its kind.
 abbrev pub first_note : Remark → Note
@@ -27,7 +27,7 @@ first_note remark = record { kind = remark.kind; first = remark.at; times = 1 }
 abbrev pub counted_note : Remark → Note → Note
 counted_note remark note = record {
   kind = note.kind;
-  first = first_of note.first remark.at;
+  first = earlier_line note.first remark.at;
   times = min (note.times + 1) (2 ^ 64 - 1);
 }
 

@@ -1,7 +1,7 @@
 //! Remarks on files that give a dictionary: what was left out and what was decided, each kind with its first line.
 
 ghost use Rattle.std.specs.Prelude.{◌≡◌, OnErr, OnOk, position};
-ghost use Rattle.pattern_results.specs.Notes.{counted_note, first_of, is_same_kind, with_remark};
+ghost use Rattle.pattern_results.specs.Notes.{counted_note, earlier_line, is_same_kind, with_remark};
 
 use std::alloc::AllocError;
 use std::fmt;
@@ -107,8 +107,8 @@ fn place_of(notes: &[Note], kind: NoteKind) -> Option<usize>
 }
 
 // Returns the first line of a note and of one remark more: the least one in the file of the note.
-fn first_of(first: LineRef, at: LineRef) -> LineRef
-    ensures { result ≡ first_of first at }
+fn earlier_line(first: LineRef, at: LineRef) -> LineRef
+    ensures { result ≡ earlier_line first at }
 {
     if at.file == first.file && at.line < first.line {
         at
@@ -123,7 +123,7 @@ fn counted_note(note: Note, kind: NoteKind, at: LineRef) -> Note
 {
     Note {
         kind: note.kind,
-        first: first_of(note.first, at),
+        first: earlier_line(note.first, at),
         times: note.times.saturating_add(1),
     }
 }
