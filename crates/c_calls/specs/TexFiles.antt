@@ -12,8 +12,8 @@ use Rattle.pattern_results.specs.declared.errors.FileCause.{FileCause}
 use Rattle.tex_files.specs.Converting.{contents_of_files, fault_from}
 use Rattle.tex_files.specs.Heads.{minima_for}
 use Rattle.tex_files.specs.declared.group.File.{File}
-use Rattle.tex_files.specs.declared.group.Form.{Form}
-use Rattle.tex_files.specs.declared.group.Form.TheVariants.{Tex, Plain}
+use Rattle.tex_files.specs.declared.group.FileForm.{FileForm}
+use Rattle.tex_files.specs.declared.group.FileForm.TheVariants.{Tex, Plain}
 use Rattle.tex_files.specs.declared.group.Group.TheVariants.{Patterns, Exceptions}
 use Rattle.c_calls.specs.declared.tex.NoDictionary.{NoDictionary}
 use Rattle.c_calls.specs.declared.tex.NoDictionary.TheVariants.{Memory, NotUtf8, NotCode, NoMinima, Fault}
@@ -21,13 +21,13 @@ use Rattle.c_calls.specs.Patterns.{minimum_given, pattern_cause_number}
 use Rattle.c_calls.specs.Statuses.{kind_numbered}
 
 -- 0 is the form of TeX files, 1 that of plain files of patterns, and no other number is a form.
-abbrev pub form_numbered : ℕ → Option Form
+abbrev pub form_numbered : ℕ → Option FileForm
 form_numbered zero = Some Tex
 form_numbered (suc zero) = Some (Plain Patterns)
 form_numbered _ = None
 
 -- The two files of a call: one of the form, and a plain one of exceptions after it.
-abbrev pub files_of : Form → Bor (List ℕ) → Bor (List ℕ) → List File
+abbrev pub files_of : FileForm → Bor (List ℕ) → Bor (List ℕ) → List File
 files_of form bytes exceptions =
     (record { form = form; bytes = bytes }) ∷ (record { form = Plain Exceptions; bytes = exceptions }) ∷ []
 
@@ -68,7 +68,7 @@ MakesOfFiles kind language left right files old new (suc (suc (suc (suc (suc (su
 MakesOfFiles kind language left right files old new _ = ⊥
 
 -- 6: no kind or no form has the number, and the handle is unchanged. Else the statuses above.
-abbrev pub LoadsPatternsOf : Option Kind → Option Form → Option ℕ → Option ℕ → List ℕ → Bor (List ℕ) → Bor (List ℕ)
+abbrev pub LoadsPatternsOf : Option Kind → Option FileForm → Option ℕ → Option ℕ → List ℕ → Bor (List ℕ) → Bor (List ℕ)
     → Option AnyDictionary → Option AnyDictionary → ℕ → Type 0
 LoadsPatternsOf (Some kind) (Some form) left right language bytes exceptions old new status =
     MakesOfFiles kind language left right (files_of form bytes exceptions) old new status
@@ -87,7 +87,7 @@ AreRefusedAt (Some (file, (line, cause))) place = place ≡ (file, (line, patter
 AreRefusedAt None place = ⊥
 
 -- 5: the place and the cause of the files' first fault are written. With each other status they are unchanged.
-abbrev pub PlacesFaultOf : Option Form → Bor (List ℕ) → Bor (List ℕ) → ℕ × (ℕ × ℕ) → ℕ × (ℕ × ℕ) → ℕ → Type 0
+abbrev pub PlacesFaultOf : Option FileForm → Bor (List ℕ) → Bor (List ℕ) → ℕ × (ℕ × ℕ) → ℕ × (ℕ × ℕ) → ℕ → Type 0
 PlacesFaultOf (Some form) bytes exceptions before after (suc (suc (suc (suc (suc zero))))) =
     AreRefusedAt (fault_from 0 (files_of form bytes exceptions)) after
 PlacesFaultOf _ bytes exceptions before after _ = after ≡ before

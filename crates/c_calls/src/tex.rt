@@ -16,7 +16,7 @@ use pattern_results::errors::{ConvertError, FileCause};
 use std::alloc::Global;
 use std::str;
 use tex_files::convert::convert;
-use tex_files::group::{File, Form, Group};
+use tex_files::group::{File, FileForm, Group};
 use tex_files::head_minima::minima_for;
 
 /// Why files give no dictionary.
@@ -35,12 +35,12 @@ pub enum NoDictionary {
 }
 
 /// Returns the form of a number: 0 is a TeX file, and 1 a plain file of patterns.
-pub fn form_numbered(number: u32) -> Option<Form>
+pub fn form_numbered(number: u32) -> Option<FileForm>
     ensures { result ≡ form_numbered number }
 {
     match number {
-        0 => Some(Form::Tex),
-        1 => Some(Form::Plain(Group::Patterns)),
+        0 => Some(FileForm::Tex),
+        1 => Some(FileForm::Plain(Group::Patterns)),
         _ => None,
     }
 }
@@ -109,7 +109,7 @@ pub fn load_patterns(
     kind: Kind,
     code: &[u8],
     minima: GivenMinima,
-    form: Form,
+    form: FileForm,
     bytes: &[u8],
     exceptions: &[u8],
 ) -> Result<Box<Loaded>, NoDictionary>
@@ -129,7 +129,7 @@ pub fn load_patterns(
     let files = [
         File { form, bytes },
         File {
-            form: Form::Plain(Group::Exceptions),
+            form: FileForm::Plain(Group::Exceptions),
             bytes: exceptions,
         },
     ];

@@ -7,8 +7,8 @@ use Rattle.command_line.specs.About.{help_or_version}
 use Rattle.command_line.specs.declared.TheConstants.{VERSION}
 use Rattle.hyphenation_grammar.specs.Form.{kind_of_name}
 use Rattle.hyphenation_grammar.specs.declared.form.Kind.{Kind}
-use Rattle.tex_files.specs.declared.group.Form.{Form}
-use Rattle.tex_files.specs.declared.group.Form.TheVariants.{Tex, Plain}
+use Rattle.tex_files.specs.declared.group.FileForm.{FileForm}
+use Rattle.tex_files.specs.declared.group.FileForm.TheVariants.{Tex, Plain}
 use Rattle.tex_files.specs.declared.group.Group.TheVariants.{Patterns, Exceptions}
 use Rattle.convert_command.specs.declared.TheConstants.{NAME, USAGE}
 
@@ -60,12 +60,12 @@ is_dic_alone (path ∷ []) = is_dic_path path
 is_dic_alone _ = false
 
 -- The form of a file of TeX or a plain one, by the ending of its path; none for another ending.
-abbrev pub form_of : List ℕ → Option Form
+abbrev pub form_of : List ℕ → Option FileForm
 form_of path =
     if has_ending (codes ".tex") path then Some Tex
     else (if has_ending (codes ".pat.txt") path then Some (Plain Patterns)
     else (if has_ending (codes ".hyp.txt") path then Some (Plain Exceptions) else None))
 
 -- The form of a file, as TeX's for an ending that is not known.
-abbrev pub known_form : List ℕ → Form
+abbrev pub known_form : List ℕ → FileForm
 known_form path = unwrap_or (form_of path) Tex

@@ -35,7 +35,7 @@ use std::alloc::{AllocError, Global};
 use std::io;
 use std::io::{ErrorKind, Write};
 use tex_files::convert::convert_with_notes;
-use tex_files::group::{File, Form};
+use tex_files::group::{File, FileForm};
 use tex_files::head_minima::minima_for;
 
 /// The name of the program.
@@ -140,10 +140,10 @@ fn read_files<F: NamedFiles>(
 }
 
 // The form of a file, as TeX's for an ending that is not known.
-fn known_form(path: &str) -> Form
+fn known_form(path: &str) -> FileForm
     ensures { result ≡ known_form path.now }
 {
-    form_of(path).unwrap_or(Form::Tex)
+    form_of(path).unwrap_or(FileForm::Tex)
 }
 
 // The files with their forms.

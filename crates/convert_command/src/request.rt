@@ -12,7 +12,7 @@ ghost use Rattle.convert_command.specs.Endings.{IsRejection};
 use hyphenation_breaks::language::Language;
 use hyphenation_grammar::form::Kind;
 use hyphenation_grammar::lines::strip_prefix;
-use tex_files::group::{Form, Group};
+use tex_files::group::{FileForm, Group};
 
 /// The sort of the files.
 #[derive(Clone, Copy)]
@@ -43,15 +43,15 @@ fn has_ending(ending: &str, path: &str) -> bool
 }
 
 /// Returns the form of a file of TeX or a plain one, by the ending of its path. `None` for another ending.
-pub fn form_of(path: &str) -> Option<Form>
+pub fn form_of(path: &str) -> Option<FileForm>
     ensures { result ≡ form_of path.now }
 {
     if has_ending(".tex", path) {
-        Some(Form::Tex)
+        Some(FileForm::Tex)
     } else if has_ending(".pat.txt", path) {
-        Some(Form::Plain(Group::Patterns))
+        Some(FileForm::Plain(Group::Patterns))
     } else if has_ending(".hyp.txt", path) {
-        Some(Form::Plain(Group::Exceptions))
+        Some(FileForm::Plain(Group::Exceptions))
     } else {
         None
     }

@@ -16,8 +16,8 @@ use Rattle.libreoffice_files.specs.Private.Views.{has_small_values, spelt_view, 
 use Rattle.std.specs.declared.vec.Vec.{Vec}
 use Rattle.libreoffice_files.specs.declared.dic_patterns.Pattern as held
 use Rattle.libreoffice_files.specs.declared.change.PlacedChange.{PlacedChange}
-use Rattle.libreoffice_files.specs.declared.lines.Kind.{Kind}
-use Rattle.libreoffice_files.specs.declared.lines.Kind.TheVariants.{Ignored, Left, Right, Level, NoHyphen, Other, Pattern}
+use Rattle.libreoffice_files.specs.declared.lines.LineKind.{LineKind}
+use Rattle.libreoffice_files.specs.declared.lines.LineKind.TheVariants.{Ignored, Left, Right, Level, NoHyphen, Other, Pattern}
 use Rattle.pattern_results.specs.declared.notes.NoteKind.{NoteKind}
 use Rattle.libreoffice_files.specs.declared.value.Value.{Value}
 
@@ -64,7 +64,7 @@ small_pattern key values change h =
     let c = option_map (change_of key values) change in
     small_if (has_letter key) (option_map (λ (s : Spelt). (key, s)) (spelt_with values c)) (small_keyed key (spelt_with values c) (small_with values c h))
 
-small_by : (kind : Kind) (text : List ℕ) → IfSome (pattern_by kind text) small_spelt
+small_by : (kind : LineKind) (text : List ℕ) → IfSome (pattern_by kind text) small_spelt
 small_by Pattern text = small_pattern (letters (split_at_slash text).0) (last_values 0 (split_at_slash text).0) (split_at_slash text).1 (small_values 0 (split_at_slash text).0)
 small_by Ignored text = tt
 small_by Left text = tt

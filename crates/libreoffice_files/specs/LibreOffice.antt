@@ -22,8 +22,8 @@ use Rattle.libreoffice_files.specs.declared.charset.Charset.TheVariants.{Latin1}
 use Rattle.libreoffice_files.specs.declared.change.PlacedChange.{PlacedChange}
 use Rattle.pattern_results.specs.declared.errors.FileCause.{FileCause}
 use Rattle.pattern_results.specs.declared.errors.FileCause.TheVariants as causes
-use Rattle.libreoffice_files.specs.declared.lines.Kind.{Kind}
-use Rattle.libreoffice_files.specs.declared.lines.Kind.TheVariants.{Pattern}
+use Rattle.libreoffice_files.specs.declared.lines.LineKind.{LineKind}
+use Rattle.libreoffice_files.specs.declared.lines.LineKind.TheVariants.{Pattern}
 
 -- ---- Line 1.
 
@@ -47,7 +47,7 @@ starts_with_capital [] = false
 starts_with_capital (b ∷ bs) = is_ascii_uppercase b
 
 -- A line is a pattern.
-abbrev pub is_pattern : Kind → Bool
+abbrev pub is_pattern : LineKind → Bool
 is_pattern Pattern = true
 is_pattern kind = false
 

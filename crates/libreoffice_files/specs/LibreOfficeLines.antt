@@ -10,8 +10,8 @@ use Rattle.hyphenation_breaks.specs.Ascii.{line_feed, space, hash, percent}
 use Rattle.hyphenation_grammar.specs.Lines.{is_same}
 use Rattle.pattern_results.specs.declared.errors.FileCause.{FileCause}
 use Rattle.pattern_results.specs.declared.errors.FileCause.TheVariants.{Minimum}
-use Rattle.libreoffice_files.specs.declared.lines.Kind.{Kind}
-use Rattle.libreoffice_files.specs.declared.lines.Kind.TheVariants.{Ignored, Left, Right, Level, NoHyphen, Other, Pattern}
+use Rattle.libreoffice_files.specs.declared.lines.LineKind.{LineKind}
+use Rattle.libreoffice_files.specs.declared.lines.LineKind.TheVariants.{Ignored, Left, Right, Level, NoHyphen, Other, Pattern}
 
 -- A text, split at the first byte of this kind, which is left out. None if the text has none.
 abbrev pub split_at_byte : ℕ → List ℕ → Option (List ℕ × List ℕ)
@@ -27,11 +27,11 @@ number_below bound text =
 -- A line: its number, its kind and its text. The text of a setting is after its name; the text of a pattern is the whole line.
 pub record DicLine : Type 0 where
   pub number : ℕ
-  pub kind : Kind
+  pub kind : LineKind
   pub text : List ℕ
 
 -- The kind of a line by its first word.
-abbrev pub kind_of_word : List ℕ → Kind
+abbrev pub kind_of_word : List ℕ → LineKind
 kind_of_word word =
     if is_same word (codes "LEFTHYPHENMIN") then Left
     else (if is_same word (codes "RIGHTHYPHENMIN") then Right
@@ -50,7 +50,7 @@ abbrev pub word_and_rest : List ℕ → List ℕ × List ℕ
 word_and_rest line = unwrap_or (split_at_byte space line) (line, [])
 
 -- The text of a setting is after its name; that of a pattern is the whole line.
-abbrev pub text_by_kind : Kind → List ℕ → List ℕ → List ℕ
+abbrev pub text_by_kind : LineKind → List ℕ → List ℕ → List ℕ
 text_by_kind Pattern line rest = line
 text_by_kind kind line rest = rest
 
@@ -91,7 +91,7 @@ abbrev pub nothing_set : Settings
 nothing_set = record { left = None; right = None; no_hyphen = None }
 
 -- The setting of one more line. If a setting comes several times, the last one counts.
-abbrev pub set_by : Kind → List ℕ → Settings → Settings
+abbrev pub set_by : LineKind → List ℕ → Settings → Settings
 set_by Left text settings = record settings { left = Some text }
 set_by Right text settings = record settings { right = Some text }
 set_by NoHyphen text settings = record settings { no_hyphen = Some text }
@@ -120,7 +120,7 @@ abbrev pub minimum_of : Option ℕ → Option ℕ → ℕ
 minimum_of given set = unwrap_or (option_or given set) 2
 
 -- A setting of a minimum without a number from 0 to 255 is faulty.
-abbrev pub cause_of_kind : Kind → List ℕ → Option FileCause
+abbrev pub cause_of_kind : LineKind → List ℕ → Option FileCause
 cause_of_kind Left text = if is_some (minimum_value text) then None else Some Minimum
 cause_of_kind Right text = if is_some (minimum_value text) then None else Some Minimum
 cause_of_kind kind text = None

@@ -12,8 +12,8 @@ use Rattle.hyphenation_breaks.specs.Invariant.{has_letter}
 use Rattle.hyphenation_grammar.specs.Lines.{is_digit, is_same}
 use Rattle.libreoffice_files.specs.LibreOfficeLines.{DicLine, split_at_byte, number_below}
 use Rattle.pattern_results.specs.Texts.{letters}
-use Rattle.libreoffice_files.specs.declared.lines.Kind.{Kind}
-use Rattle.libreoffice_files.specs.declared.lines.Kind.TheVariants.{Pattern}
+use Rattle.libreoffice_files.specs.declared.lines.LineKind.{LineKind}
+use Rattle.libreoffice_files.specs.declared.lines.LineKind.TheVariants.{Pattern}
 use Rattle.pattern_results.specs.declared.notes.NoteKind.{NoteKind}
 use Rattle.pattern_results.specs.declared.notes.NoteKind.TheVariants.{ChangeNumber, ChangeParts, ChangeWithoutEquals, ChangePastKey, ChangeWithoutValue}
 use Rattle.libreoffice_files.specs.declared.value.Value.{Value}
@@ -207,7 +207,7 @@ abbrev pub pattern_of : List ℕ → Option (List ℕ × Spelt)
 pattern_of text = pattern_of_parts (split_at_slash text)
 
 -- The key and the values of a line, if it is a pattern.
-abbrev pub pattern_by : Kind → List ℕ → Option (List ℕ × Spelt)
+abbrev pub pattern_by : LineKind → List ℕ → Option (List ℕ × Spelt)
 pattern_by Pattern text = pattern_of text
 pattern_by kind text = None
 

@@ -21,7 +21,7 @@ use crate::dic_patterns::{
     push_fitting,
 };
 use crate::lines::{
-    Kind, Line, Settings, line_fault, line_of, lines_of, minimum_of, minimum_set, settings_of,
+    Line, LineKind, Settings, line_fault, line_of, lines_of, minimum_of, minimum_set, settings_of,
 };
 use hyphenation_breaks::entry::{Listing, Payload};
 use hyphenation_breaks::language::Language;
@@ -89,10 +89,10 @@ fn starts_with_capital(text: &[u8]) -> bool
 }
 
 // Whether a line is a pattern.
-fn is_pattern(kind: Kind) -> bool
+fn is_pattern(kind: LineKind) -> bool
     ensures { result ≡ is_pattern kind }
 {
-    matches!(kind, Kind::Pattern)
+    matches!(kind, LineKind::Pattern)
 }
 
 // Bytes and the charset to read them by. The first line of them has that number in the file.

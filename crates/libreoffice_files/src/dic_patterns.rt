@@ -14,7 +14,7 @@ ghost use Rattle.libreoffice_files.specs.Private.Views.{with_keys, line_view, sp
 
 use crate::carried_changes::carried_entry;
 use crate::change::{PlacedChange, change_of, has_byte};
-use crate::lines::{Kind, Line, split_at_byte};
+use crate::lines::{Line, LineKind, split_at_byte};
 use crate::longest::hides_value;
 use crate::value::Value;
 use hyphenation_breaks::entry::{Entry, Listing, Payload, has_letter};
@@ -248,12 +248,12 @@ fn pattern_of_line(
     ensures { IfOk result (λ found. option_map keyed_view found ≡ pattern_of_line (line_view line.entry)) }
 {
     match line.kind {
-        Kind::Pattern => pattern_of(alloc, noted, line.text, line.number),
-        Kind::NoHyphen => {
+        LineKind::Pattern => pattern_of(alloc, noted, line.text, line.number),
+        LineKind::NoHyphen => {
             noted.note(NoteKind::NoHyphen, line.number)?;
             Ok(None)
         }
-        Kind::Other => {
+        LineKind::Other => {
             noted.note(NoteKind::Setting, line.number)?;
             Ok(None)
         }
@@ -601,9 +601,9 @@ pub(crate) fn note_levels(noted: &mut PatternNotes, lines: &[Line<'_>]) -> Resul
     let mut has_patterns = (false, false);
     for line in lines {
         match (line.kind, level) {
-            (Kind::Level, _) => level = Some(line.number),
-            (Kind::Pattern, None) => has_patterns.0 = true,
-            (Kind::Pattern, Some(_)) => has_patterns.1 = true,
+            (LineKind::Level, _) => level = Some(line.number),
+            (LineKind::Pattern, None) => has_patterns.0 = true,
+            (LineKind::Pattern, Some(_)) => has_patterns.1 = true,
             _ => {}
         }
     }

@@ -13,7 +13,7 @@ use std::alloc::{AllocError, Global};
 
 // The kind of a line.
 #[derive(Clone, Copy)]
-pub(crate) enum Kind {
+pub(crate) enum LineKind {
     // An empty line, or a comment.
     Ignored,
     // LEFTHYPHENMIN.
@@ -33,7 +33,7 @@ pub(crate) enum Kind {
 #[derive(Clone, Copy)]
 pub(crate) struct Line<'a> {
     pub number: usize,
-    pub kind: Kind,
+    pub kind: LineKind,
     pub text: &'a str,
 }
 
@@ -60,16 +60,16 @@ pub(crate) fn number(text: &str) -> Option<usize>
 }
 
 // The kind of a line by its first word.
-fn kind_of_word(word: &str) -> Kind
+fn kind_of_word(word: &str) -> LineKind
     ensures { result ≡ kind_of_word word.now }
 {
     match word {
-        "LEFTHYPHENMIN" => Kind::Left,
-        "RIGHTHYPHENMIN" => Kind::Right,
-        "NOHYPHEN" => Kind::NoHyphen,
-        "NEXTLEVEL" => Kind::Level,
-        "COMPOUNDLEFTHYPHENMIN" | "COMPOUNDRIGHTHYPHENMIN" => Kind::Other,
-        _ => Kind::Pattern,
+        "LEFTHYPHENMIN" => LineKind::Left,
+        "RIGHTHYPHENMIN" => LineKind::Right,
+        "NOHYPHEN" => LineKind::NoHyphen,
+        "NEXTLEVEL" => LineKind::Level,
+        "COMPOUNDLEFTHYPHENMIN" | "COMPOUNDRIGHTHYPHENMIN" => LineKind::Other,
+        _ => LineKind::Pattern,
     }
 }
 
@@ -94,11 +94,11 @@ fn word_and_rest(line: &str) -> (&str, &str)
 }
 
 // Returns the text of a line: a pattern line whole, or the rest of a setting after its name.
-fn text_by_kind<'a>(kind: Kind, line: &'a str, rest: &'a str) -> &'a str
+fn text_by_kind<'a>(kind: LineKind, line: &'a str, rest: &'a str) -> &'a str
     ensures { result.now ≡ text_by_kind kind line.now rest.now }
 {
     match kind {
-        Kind::Pattern => line,
+        LineKind::Pattern => line,
         _ => rest,
     }
 }
@@ -110,7 +110,7 @@ pub(crate) fn line_of(number: usize, line: &str) -> Line<'_>
     if is_ignored(line) {
         return Line {
             number,
-            kind: Kind::Ignored,
+            kind: LineKind::Ignored,
             text: "",
         };
     }
@@ -169,15 +169,15 @@ fn with_line<'a>(settings: Settings<'a>, line: Line<'a>) -> Settings<'a>
 {
     let text = Some(line.text);
     match line.kind {
-        Kind::Left => Settings {
+        LineKind::Left => Settings {
             left: text,
             ..settings
         },
-        Kind::Right => Settings {
+        LineKind::Right => Settings {
             right: text,
             ..settings
         },
-        Kind::NoHyphen => Settings {
+        LineKind::NoHyphen => Settings {
             no_hyphen: text,
             ..settings
         },
@@ -225,11 +225,13 @@ pub(crate) fn minimum_of(given: Option<u8>, set: Option<u8>) -> u8
 }
 
 // The fault of a line of this kind, if it has one.
-fn cause_of(kind: Kind, text: &str) -> Option<FileCause>
+fn cause_of(kind: LineKind, text: &str) -> Option<FileCause>
     ensures { result ≡ cause_of_kind kind text.now }
 {
     match kind {
-        Kind::Left | Kind::Right if minimum_value(text).is_none() => Some(FileCause::Minimum),
+        LineKind::Left | LineKind::Right if minimum_value(text).is_none() => Some(
+            FileCause::Minimum,
+        ),
         _ => None,
     }
 }

@@ -68,7 +68,7 @@ fn is_scored_as(
 }
 
 // Whether a dictionary scores the word, with its changes, as the reference does.
-fn scores_agree<K: Kind>(
+fn scores_agree<K: ComparedDictionary>(
     alloc: Global,
     dictionary: &K,
     reference: &ReferenceDictionary,
@@ -160,7 +160,7 @@ struct Edit {
 }
 
 // A kind of dictionary, compared with the reference.
-trait Kind: Scored {
+trait ComparedDictionary: Scored {
     // Its name in line 1 of a text.
     fn name() -> &'static str;
 
@@ -182,7 +182,7 @@ trait Kind: Scored {
     fn remove(&mut self, word: &str) -> bool;
 }
 
-impl Kind for Standard {
+impl ComparedDictionary for Standard {
     fn name() -> &'static str {
         "standard"
     }
@@ -238,7 +238,7 @@ fn listed_changes(
     Ok(Some(list))
 }
 
-impl Kind for Extended {
+impl ComparedDictionary for Extended {
     fn name() -> &'static str {
         "extended"
     }
@@ -272,7 +272,7 @@ impl Kind for Extended {
 }
 
 // Whether a dictionary scores and breaks the word as the reference does.
-fn agrees<K: Kind>(
+fn agrees<K: ComparedDictionary>(
     alloc: Global,
     dictionary: &K,
     reference: &ReferenceDictionary,
@@ -285,7 +285,7 @@ fn agrees<K: Kind>(
 }
 
 // Fails, with the dictionary's text, unless the word has the scores and breaks of the reference.
-fn expect_agreement<K: Kind>(
+fn expect_agreement<K: ComparedDictionary>(
     alloc: Global,
     dictionary: &K,
     reference: &ReferenceDictionary,
@@ -303,7 +303,7 @@ fn mismatch(text: &str, word: &str) -> Fail {
 }
 
 // Fails unless four words have the scores and breaks of the reference.
-fn expect_words_agree<K: Kind>(
+fn expect_words_agree<K: ComparedDictionary>(
     alloc: Global,
     random: &mut Random,
     dictionary: &K,
@@ -317,7 +317,7 @@ fn expect_words_agree<K: Kind>(
 }
 
 // Adds a word to the exceptions or removes it, in the dictionary and in the reference.
-fn make_edit<K: Kind>(
+fn make_edit<K: ComparedDictionary>(
     alloc: Global,
     random: &mut Random,
     dictionary: &mut K,
@@ -346,7 +346,7 @@ fn make_edit<K: Kind>(
 }
 
 // Makes an edit of this word. Fails unless the word then has the breaks of the reference.
-fn edit_and_compare<K: Kind>(
+fn edit_and_compare<K: ComparedDictionary>(
     alloc: Global,
     random: &mut Random,
     dictionary: &mut K,
@@ -358,7 +358,7 @@ fn edit_and_compare<K: Kind>(
     Ok(edit)
 }
 
-fn load<K: Kind>(
+fn load<K: ComparedDictionary>(
     alloc: Global,
     reference: &ReferenceDictionary,
     compared: &mut Compared,
@@ -370,7 +370,7 @@ fn load<K: Kind>(
 }
 
 // Adds a word to the exceptions or removes it. Fails unless the word then has the breaks of the reference.
-fn compare_after_edit<K: Kind>(
+fn compare_after_edit<K: ComparedDictionary>(
     alloc: Global,
     random: &mut Random,
     dictionary: &mut K,
@@ -381,7 +381,7 @@ fn compare_after_edit<K: Kind>(
 }
 
 // Fails unless five words have the scores and breaks of the reference, the fifth after an edit.
-fn compare_words<K: Kind>(
+fn compare_words<K: ComparedDictionary>(
     alloc: Global,
     random: &mut Random,
     dictionary: &mut K,
@@ -396,7 +396,7 @@ fn compare_words<K: Kind>(
 }
 
 // Compares words by a random dictionary. Its owned values live only here, where there are few ways out.
-fn compare_dictionary<K: Kind>(
+fn compare_dictionary<K: ComparedDictionary>(
     alloc: Global,
     random: &mut Random,
     compared: &mut Compared,
@@ -410,7 +410,11 @@ fn compare_dictionary<K: Kind>(
 }
 
 // Compares this many random dictionaries.
-fn compare_dictionaries<K: Kind>(alloc: Global, seed: u64, count: usize) -> Result<Compared, Fail> {
+fn compare_dictionaries<K: ComparedDictionary>(
+    alloc: Global,
+    seed: u64,
+    count: usize,
+) -> Result<Compared, Fail> {
     let mut random = Random(seed);
     let mut compared = NOTHING_COMPARED;
     for _ in 0..count {
@@ -435,7 +439,7 @@ fn extended_dictionaries_agree_with_the_reference(rt: HostRuntime) -> Result<(),
 }
 
 // Fails unless a word of this many bytes has the scores and breaks of the reference. Reports whether it is broken.
-fn compare_long_word<K: Kind>(
+fn compare_long_word<K: ComparedDictionary>(
     alloc: Global,
     random: &mut Random,
     dictionary: &K,
@@ -448,7 +452,7 @@ fn compare_long_word<K: Kind>(
 }
 
 // Fails unless a word of this many bytes has the scores and breaks of the reference, before and after an edit.
-fn edit_long_word<K: Kind>(
+fn edit_long_word<K: ComparedDictionary>(
     alloc: Global,
     random: &mut Random,
     dictionary: &mut K,
@@ -463,7 +467,7 @@ fn edit_long_word<K: Kind>(
 
 // Compares words of 62 to 67 bytes, those of 64 and 65 bytes also after an edit. Words of more than 64 bytes take
 // another path than shorter ones. So do words of more than 62 bytes where an extended dictionary has a table.
-fn compare_long_words<K: Kind>(
+fn compare_long_words<K: ComparedDictionary>(
     alloc: Global,
     random: &mut Random,
     dictionary: &mut K,
@@ -479,7 +483,7 @@ fn compare_long_words<K: Kind>(
 }
 
 // Compares long words by a random dictionary, with its table where one is asked for.
-fn compare_long_dictionary<K: Kind>(
+fn compare_long_dictionary<K: ComparedDictionary>(
     alloc: Global,
     random: &mut Random,
     with_table: bool,
@@ -494,7 +498,11 @@ fn compare_long_dictionary<K: Kind>(
 }
 
 // Compares long words by this many random dictionaries. Fails if few of the words are broken.
-fn compare_long_dictionaries<K: Kind>(alloc: Global, seed: u64, count: u32) -> Result<(), Fail> {
+fn compare_long_dictionaries<K: ComparedDictionary>(
+    alloc: Global,
+    seed: u64,
+    count: u32,
+) -> Result<(), Fail> {
     let mut random = Random(seed);
     let mut compared = NOTHING_COMPARED;
     for number in 0..count {

@@ -8,7 +8,7 @@ use std::alloc::{AllocError, Global};
 use std::test::Fail;
 use test_support::expect;
 use tex_files::convert::convert;
-use tex_files::group::{File, Form, Group};
+use tex_files::group::{File, FileForm, Group};
 
 // Writes a line for each three letters in order, between a head and a tail.
 fn push_lines(text: &mut String, head: &str, tail: &str) -> Result<(), AllocError> {
@@ -46,7 +46,7 @@ fn expected_text(alloc: Global) -> Result<String, AllocError> {
 // The text of the dictionary that a plain file of exceptions gives; nothing if it is refused.
 fn converted_text(alloc: Global, words: &str) -> Result<Vec<u8>, AllocError> {
     let files = [File {
-        form: Form::Plain(Group::Exceptions),
+        form: FileForm::Plain(Group::Exceptions),
         bytes: words.as_bytes(),
     }];
     let answer: Result<Standard, ConvertError> = convert(

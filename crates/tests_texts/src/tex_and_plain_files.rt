@@ -10,17 +10,17 @@ use std::alloc::{AllocError, Global};
 use std::test::Fail;
 use test_support::{expect_equal_bytes, expect_equal_in, repeated};
 use tex_files::convert::{convert, convert_with_notes};
-use tex_files::group::{File, Form, Group};
+use tex_files::group::{File, FileForm, Group};
 use tex_files::head_minima::minima_for;
 
-const TEX: Form = Form::Tex;
+const TEX: FileForm = FileForm::Tex;
 
-const PATTERNS: Form = Form::Plain(Group::Patterns);
+const PATTERNS: FileForm = FileForm::Plain(Group::Patterns);
 
-const EXCEPTIONS: Form = Form::Plain(Group::Exceptions);
+const EXCEPTIONS: FileForm = FileForm::Plain(Group::Exceptions);
 
 // Files by their forms and bytes.
-type Files = &'static [(Form, &'static [u8])];
+type Files = &'static [(FileForm, &'static [u8])];
 
 fn files_of(alloc: Global, files: Files) -> Result<Vec<File<'static>>, AllocError> {
     files

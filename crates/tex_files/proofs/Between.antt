@@ -6,7 +6,7 @@ use Rattle.std.proofs.lemmas.List.Elements.{All-head, All-tail}
 use Rattle.std.proofs.lemmas.List.Sums.{fold-append}
 use Rattle.std.specs.List.{slice_split, onto_first}
 use Rattle.std.specs.Prelude.{codes}
-use Rattle.tex_files.specs.Groups.{Piece, GroupWord, GroupScan, is_space, with_piece, nothing_scanned, groups, pieces_of}
+use Rattle.tex_files.specs.Groups.{FilePiece, GroupWord, GroupScan, is_space, with_piece, nothing_scanned, groups, pieces_of}
 use Rattle.tex_files.specs.declared.group.Group.{Group}
 use Rattle.tex_files.specs.declared.group.Group.TheVariants.{Patterns, Exceptions}
 use Rattle.tex_files.specs.declared.group.Place.TheVariants.{Outside, Before, Within}
@@ -76,7 +76,7 @@ kept_first group line first more = by (length first == 0)
     by true = refl
     by false = refl
 
-picked_first : (group : Group) (line : ℕ) (text : List ℕ) (ps : List Piece) → picked group (piece line text ∷ ps) ≡ one_word group line text ++ picked group ps
+picked_first : (group : Group) (line : ℕ) (text : List ℕ) (ps : List FilePiece) → picked group (piece line text ∷ ps) ≡ one_word group line text ++ picked group ps
 picked_first group line text ps = by (length text == 0)
   where
     by : (t : Bool) → (if t then picked group ps else word group (piece line text) ∷ picked group ps) ≡ (if t then [] else word group (piece line text) ∷ []) ++ picked group ps
@@ -174,7 +174,7 @@ words-inside group line text c = words group line [] text tt tt c
 
 -- ---- Outside of groups.
 
-other_pieces : (part : List ℕ) (ps : List Piece) → (length part == 0) ≡ false → All (λ w. w.text ≢ part) (picked Patterns ps) → AllOther part ps
+other_pieces : (part : List ℕ) (ps : List FilePiece) → (length part == 0) ≡ false → All (λ w. w.text ≢ part) (picked Patterns ps) → AllOther part ps
 other_pieces part [] some h = tt
 other_pieces part (p ∷ ps) some h = by (λ k. other_pieces part ps some k) (length p.text == 0) refl h
   where
@@ -187,7 +187,7 @@ no_piece : (part text : List ℕ) → (length part == 0) ≡ false → HasNo (co
 no_piece part text some c h = other_pieces part (lex 1 false [] text) some (subst (λ (ws : List GroupWord). All (λ w. w.text ≢ part) ws) (sym (words-inside Patterns 1 text c)) h)
 
 -- a text outside of groups leaves the scan as it was
-pub passed : (before : List ℕ) (ps : List Piece) → IsOutside before → fold with_piece nothing_scanned (lex 1 false [] before ++ ps) ≡ fold with_piece (found_at [] Outside) ps
+pub passed : (before : List ℕ) (ps : List FilePiece) → IsOutside before → fold with_piece nothing_scanned (lex 1 false [] before ++ ps) ≡ fold with_piece (found_at [] Outside) ps
 passed before ps h =
     fold-append with_piece nothing_scanned (lex 1 false [] before) ps
     ∙ ap (λ (f : GroupScan). fold with_piece f ps)
@@ -196,12 +196,12 @@ passed before ps h =
 
 -- ---- The end of a piece.
 
-space_step : (c s e k : Bool) (line : ℕ) (last : List ℕ) (b : ℕ) (rest : ℕ → Bool → List ℕ → List Piece) → c ≡ false → s ≡ true → lexed false c s e k line false last b rest ≡ piece line last ∷ rest line false []
+space_step : (c s e k : Bool) (line : ℕ) (last : List ℕ) (b : ℕ) (rest : ℕ → Bool → List ℕ → List FilePiece) → c ≡ false → s ≡ true → lexed false c s e k line false last b rest ≡ piece line last ∷ rest line false []
 space_step false true e k line last b rest p q = refl
 space_step true s e k line last b rest p q = absurd (clash p)
 space_step false false e k line last b rest p q = absurd (clash (sym q))
 
-brace_step : (f c s e k : Bool) (line : ℕ) (last : List ℕ) (b : ℕ) (rest : ℕ → Bool → List ℕ → List Piece) → f ≡ false → c ≡ false → s ≡ false → e ≡ true
+brace_step : (f c s e k : Bool) (line : ℕ) (last : List ℕ) (b : ℕ) (rest : ℕ → Bool → List ℕ → List FilePiece) → f ≡ false → c ≡ false → s ≡ false → e ≡ true
     → lexed f c s e k line false last b rest ≡ piece line last ∷ piece line (b ∷ []) ∷ rest line false []
 brace_step false false false true k line last b rest p q r t = refl
 brace_step true c s e k line last b rest p q r t = absurd (clash p)
@@ -209,7 +209,7 @@ brace_step false true s e k line last b rest p q r t = absurd (clash q)
 brace_step false false true e k line last b rest p q r t = absurd (clash r)
 brace_step false false false false k line last b rest p q r t = absurd (clash (sym t))
 
-backslash_step : (f c s e k : Bool) (line : ℕ) (last : List ℕ) (b : ℕ) (rest : ℕ → Bool → List ℕ → List Piece) → f ≡ false → c ≡ false → s ≡ false → e ≡ false → k ≡ true
+backslash_step : (f c s e k : Bool) (line : ℕ) (last : List ℕ) (b : ℕ) (rest : ℕ → Bool → List ℕ → List FilePiece) → f ≡ false → c ≡ false → s ≡ false → e ≡ false → k ≡ true
     → lexed f c s e k line false last b rest ≡ piece line last ∷ rest line false (b ∷ [])
 backslash_step false false false false true line last b rest p q r t u = refl
 backslash_step true c s e k line last b rest p q r t u = absurd (clash p)
@@ -227,12 +227,12 @@ blank_step line last b bs h = by (b == 10) refl (is_space b) refl h
     by false e true d k = space_step (b == 37) true (is_brace b) (b == 92) line last b (λ l i t. lex l i t bs) (not_byte is_space 37 b d refl) refl
     by false e false d k = absurd (clash (sym k))
 
-pub ends_piece : (rest : List ℕ) → EndsCommand rest → (tail : ℕ → List Piece) × ((line : ℕ) (last : List ℕ) → lex line false last rest ≡ piece line last ∷ tail line)
+pub ends_piece : (rest : List ℕ) → EndsCommand rest → (tail : ℕ → List FilePiece) × ((line : ℕ) (last : List ℕ) → lex line false last rest ≡ piece line last ∷ tail line)
 ends_piece [] h = ((λ line. []), (λ line last. refl))
 ends_piece (b ∷ bs) h = by (is_blank b) refl (is_brace b) refl (b == 92) refl h
   where
     by : (w : Bool) → is_blank b ≡ w → (e : Bool) → is_brace b ≡ e → (k : Bool) → (b == 92) ≡ k → (w || (e || k)) ≡ true
-        → (tail : ℕ → List Piece) × ((line : ℕ) (last : List ℕ) → lex line false last (b ∷ bs) ≡ piece line last ∷ tail line)
+        → (tail : ℕ → List FilePiece) × ((line : ℕ) (last : List ℕ) → lex line false last (b ∷ bs) ≡ piece line last ∷ tail line)
     by true p e q k r g = ((λ line. lex (line_after line (b ∷ [])) false [] bs), (λ line last. blank_step line last b bs p))
     by false p true q k r g = (
       (λ line. piece line (b ∷ []) ∷ lex line false [] bs),
@@ -252,15 +252,15 @@ ends_piece (b ∷ bs) h = by (is_blank b) refl (is_brace b) refl (b == 92) refl 
 pub command_pieces : (group : Group) (before rest : List ℕ) → IsOutside before
     → fold with_piece nothing_scanned (pieces_of (before ++ (command group ++ rest))) ≡ fold with_piece (found_at [] Outside) (lex (line_after 1 before) false (command group) rest)
 command_pieces Patterns before rest h =
-    ap (λ (ps : List Piece). fold with_piece nothing_scanned ps)
+    ap (λ (ps : List FilePiece). fold with_piece nothing_scanned ps)
     (pieces-lex (before ++ (command Patterns ++ rest)) ∙ lex-end 92 (codes "patterns" ++ rest) (λ line. lex line false (codes "\\") (codes "patterns" ++ rest)) (λ line last. refl) 1 [] before h.comments)
     ∙ passed before (lex (line_after 1 before) false (codes "\\") (codes "patterns" ++ rest)) h
 command_pieces Exceptions before rest h =
-    ap (λ (ps : List Piece). fold with_piece nothing_scanned ps)
+    ap (λ (ps : List FilePiece). fold with_piece nothing_scanned ps)
     (pieces-lex (before ++ (command Exceptions ++ rest)) ∙ lex-end 92 (codes "hyphenation" ++ rest) (λ line. lex line false (codes "\\") (codes "hyphenation" ++ rest)) (λ line last. refl) 1 [] before h.comments)
     ∙ passed before (lex (line_after 1 before) false (codes "\\") (codes "hyphenation" ++ rest)) h
 
-pub expects : (group : Group) (line : ℕ) (ps : List Piece) → fold with_piece (found_at [] Outside) (piece line (command group) ∷ ps) ≡ fold with_piece (found_at [] (Before group)) ps
+pub expects : (group : Group) (line : ℕ) (ps : List FilePiece) → fold with_piece (found_at [] Outside) (piece line (command group) ∷ ps) ≡ fold with_piece (found_at [] (Before group)) ps
 expects Patterns line ps = refl
 expects Exceptions line ps = refl
 
@@ -269,13 +269,13 @@ to_brace : (group : Group) (line : ℕ) (gap rest : List ℕ) → IsBlank gap
     → fold with_piece (found_at [] (Before group)) (lex line false [] (gap ++ 123 ∷ rest)) ≡ fold with_piece (found_at [] (Within group (line_after line gap))) (lex (line_after line gap) false [] rest)
 to_brace group line [] rest h = refl
 to_brace group line (b ∷ gap) rest h =
-    ap (λ (ps : List Piece). fold with_piece (found_at [] (Before group)) ps) (blank_step line [] b (gap ++ 123 ∷ rest) h.0) ∙ to_brace group (line_after line (b ∷ [])) gap rest h.1
+    ap (λ (ps : List FilePiece). fold with_piece (found_at [] (Before group)) ps) (blank_step line [] b (gap ++ 123 ∷ rest) h.0) ∙ to_brace group (line_after line (b ∷ [])) gap rest h.1
 
 enter : (group : Group) (line : ℕ) (gap rest : List ℕ) → IsBlank gap
     → fold with_piece (found_at [] Outside) (lex line false (command group) (gap ++ 123 ∷ rest)) ≡ fold with_piece (found_at [] (Within group (line_after line gap))) (lex (line_after line gap) false [] rest)
 enter group line [] rest h = expects group line (piece line (codes "{") ∷ lex line false [] rest)
 enter group line (b ∷ gap) rest h =
-    ap (λ (ps : List Piece). fold with_piece (found_at [] Outside) ps) (blank_step line (command group) b (gap ++ 123 ∷ rest) h.0)
+    ap (λ (ps : List FilePiece). fold with_piece (found_at [] Outside) ps) (blank_step line (command group) b (gap ++ 123 ∷ rest) h.0)
     ∙ expects group line (lex (line_after line (b ∷ [])) false [] (gap ++ 123 ∷ rest))
     ∙ to_brace group (line_after line (b ∷ [])) gap rest h.1
 
@@ -313,14 +313,14 @@ found-group group before gap inside after h g i =
     let front = picked group (lex start false [] inside) in
     ap (λ (t : List ℕ). closed (fold with_piece nothing_scanned (pieces_of t))) (flat7 before (command group) gap (codes "{") inside (codes "}") after)
     ∙ ap closed (opened group before gap (inside ++ 125 ∷ after) h g)
-    ∙ ap (λ (ps : List Piece). closed (fold with_piece (found_at [] (Within group start)) ps))
+    ∙ ap (λ (ps : List FilePiece). closed (fold with_piece (found_at [] (Within group start)) ps))
     (lex-end 125 after (λ line. piece line (codes "}") ∷ lex line false [] after) (λ line last. refl) start [] inside i.comments)
     ∙ ap closed (fold-append with_piece (found_at [] (Within group start)) (lex start false [] inside) (piece stop (codes "}") ∷ lex stop false [] after))
     ∙ ap (λ (f : GroupScan). closed (fold with_piece f (piece stop (codes "}") ∷ lex stop false [] after))) (within group start [] (lex start false [] inside) (lex-other (codes "}") start [] inside i.comments i.closes))
-    ∙ ap (λ (ps : List Piece). closed (fold with_piece (found_at front Outside) ps)) (ap (λ (l : ℕ). lex l false [] after) (stops before gap inside) ∙ lex-later n 1 false [] after)
+    ∙ ap (λ (ps : List FilePiece). closed (fold with_piece (found_at front Outside) ps)) (ap (λ (l : ℕ). lex l false [] after) (stops before gap inside) ∙ lex-later n 1 false [] after)
     ∙ groups-later n front (lex 1 false [] after)
     ∙ ap (λ (ws : List GroupWord). found_later n ws (groups (lex 1 false [] after))) (words-inside group start inside i.comments ∙ ap (λ (l : ℕ). tex_words group l inside) (both_lines before gap))
-    ∙ ap (λ (ps : List Piece). found_later n (tex_words group (1 + (line_feeds before + line_feeds gap)) inside) (groups ps)) (sym (pieces-lex after))
+    ∙ ap (λ (ps : List FilePiece). found_later n (tex_words group (1 + (line_feeds before + line_feeds gap)) inside) (groups ps)) (sym (pieces-lex after))
   where
     moved : (a b : ℕ) → (1 + a) + b ≡ (a + b) + 1
     moved a b = omega arith

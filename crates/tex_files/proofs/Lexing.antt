@@ -3,13 +3,13 @@ use Rattle.std.proofs.Common.{◌≡◌, ◌∙◌, ℕ, ◌+◌, ◌==◌, ◌|
 use Rattle.std.proofs.lemmas.List.Sums.{fold-append}
 use Rattle.std.specs.Prelude.{codes}
 use Rattle.tex_files.specs.Converting.{words_of, group_fault}
-use Rattle.tex_files.specs.Groups.{groups, plain_words, Piece, Lexed, with_piece_ended, with_byte, nothing_lexed, pieces_of, is_space}
+use Rattle.tex_files.specs.Groups.{groups, plain_words, FilePiece, Lexed, with_piece_ended, with_byte, nothing_lexed, pieces_of, is_space}
 use Rattle.hyphenation_grammar.specs.Tokens.{is_brace}
-use Rattle.tex_files.specs.declared.group.Form.{Form}
-use Rattle.tex_files.specs.declared.group.Form.TheVariants.{Tex, Plain}
+use Rattle.tex_files.specs.declared.group.FileForm.{FileForm}
+use Rattle.tex_files.specs.declared.group.FileForm.TheVariants.{Tex, Plain}
 use Rattle.tex_files.specs.TexFiles.{HasNo}
 
-abbrev pub piece : ℕ → List ℕ → Piece
+abbrev pub piece : ℕ → List ℕ → FilePiece
 piece line text = record { line = line; text = text }
 
 -- a byte, by its tests: whether it ends a line, is of a comment, is white space, a brace, a backslash
@@ -19,7 +19,7 @@ stepped f c s e k r b =
     else (if c then record r { in_comment = true }
     else (if s then with_piece_ended r [] else (if e then with_piece_ended (with_piece_ended r (b ∷ [])) [] else (if k then with_piece_ended r (b ∷ []) else record r { last = r.last ++ b ∷ [] }))))
 
-abbrev pub lexed : (f c s e k : Bool) → ℕ → Bool → List ℕ → ℕ → (ℕ → Bool → List ℕ → List Piece) → List Piece
+abbrev pub lexed : (f c s e k : Bool) → ℕ → Bool → List ℕ → ℕ → (ℕ → Bool → List ℕ → List FilePiece) → List FilePiece
 lexed f c s e k line inside last b rest =
     if f then piece line last ∷ rest (line + 1) false []
     else (if c then rest line true last
@@ -28,7 +28,7 @@ lexed f c s e k line inside last b rest =
     else (if k then piece line last ∷ rest line inside (b ∷ []) else rest line inside (last ++ b ∷ [])))))
 
 -- the pieces of bytes on that line, in a comment or not, after what the last piece has
-abbrev pub lex : ℕ → Bool → List ℕ → List ℕ → List Piece
+abbrev pub lex : ℕ → Bool → List ℕ → List ℕ → List FilePiece
 lex line inside last [] = piece line last ∷ []
 lex line inside last (b ∷ bs) = lexed (b == 10) (inside || b == 37) (is_space b) (is_brace b) (b == 92) line inside last b (λ l i t. lex l i t bs)
 
@@ -53,20 +53,20 @@ pieces-lex bs = lex-fold nothing_lexed bs
 
 -- ---- Lines.
 
-abbrev pub piece_later : ℕ → Piece → Piece
+abbrev pub piece_later : ℕ → FilePiece → FilePiece
 piece_later n p = record { line = n + p.line; text = p.text }
 
 next : (n line : ℕ) → (n + line) + 1 ≡ n + (line + 1)
 next n line = omega arith
 
-later_one : (n : ℕ) (f c s e k : Bool) (line : ℕ) (inside : Bool) (last : List ℕ) (b : ℕ) (ahead rest : ℕ → Bool → List ℕ → List Piece)
+later_one : (n : ℕ) (f c s e k : Bool) (line : ℕ) (inside : Bool) (last : List ℕ) (b : ℕ) (ahead rest : ℕ → Bool → List ℕ → List FilePiece)
     → ((l : ℕ) (i : Bool) (t : List ℕ) → ahead (n + l) i t ≡ map (piece_later n) (rest l i t))
     → lexed f c s e k (n + line) inside last b ahead ≡ map (piece_later n) (lexed f c s e k line inside last b rest)
-later_one n true c s e k line inside last b ahead rest h = ap (λ (ps : List Piece). piece (n + line) last ∷ ps) (ap (λ (l : ℕ). ahead l false []) (next n line) ∙ h (line + 1) false [])
+later_one n true c s e k line inside last b ahead rest h = ap (λ (ps : List FilePiece). piece (n + line) last ∷ ps) (ap (λ (l : ℕ). ahead l false []) (next n line) ∙ h (line + 1) false [])
 later_one n false true s e k line inside last b ahead rest h = h line true last
-later_one n false false true e k line inside last b ahead rest h = ap (λ (ps : List Piece). piece (n + line) last ∷ ps) (h line inside [])
-later_one n false false false true k line inside last b ahead rest h = ap (λ (ps : List Piece). piece (n + line) last ∷ piece (n + line) (b ∷ []) ∷ ps) (h line inside [])
-later_one n false false false false true line inside last b ahead rest h = ap (λ (ps : List Piece). piece (n + line) last ∷ ps) (h line inside (b ∷ []))
+later_one n false false true e k line inside last b ahead rest h = ap (λ (ps : List FilePiece). piece (n + line) last ∷ ps) (h line inside [])
+later_one n false false false true k line inside last b ahead rest h = ap (λ (ps : List FilePiece). piece (n + line) last ∷ piece (n + line) (b ∷ []) ∷ ps) (h line inside [])
+later_one n false false false false true line inside last b ahead rest h = ap (λ (ps : List FilePiece). piece (n + line) last ∷ ps) (h line inside (b ∷ []))
 later_one n false false false false false line inside last b ahead rest h = h line inside (last ++ b ∷ [])
 
 pub lex-later : (n line : ℕ) (inside : Bool) (last bs : List ℕ) → lex (n + line) inside last bs ≡ map (piece_later n) (lex line inside last bs)
@@ -93,16 +93,16 @@ abbrev pub line_after : ℕ → List ℕ → ℕ
 line_after line [] = line
 line_after line (b ∷ bs) = line_after (if b == 10 then line + 1 else line) bs
 
-end_one : (f s e k : Bool) (line : ℕ) (last : List ℕ) (b : ℕ) (bs : List ℕ) (long short : ℕ → Bool → List ℕ → List Piece) (tail : ℕ → List Piece)
+end_one : (f s e k : Bool) (line : ℕ) (last : List ℕ) (b : ℕ) (bs : List ℕ) (long short : ℕ → Bool → List ℕ → List FilePiece) (tail : ℕ → List FilePiece)
     → ((l : ℕ) (t : List ℕ) → long l false t ≡ short l false t ++ tail (line_after l bs))
     → lexed f false s e k line false last b long ≡ lexed f false s e k line false last b short ++ tail (line_after (if f then line + 1 else line) bs)
-end_one true s e k line last b bs long short tail h = ap (λ (ps : List Piece). piece line last ∷ ps) (h (line + 1) [])
-end_one false true e k line last b bs long short tail h = ap (λ (ps : List Piece). piece line last ∷ ps) (h line [])
-end_one false false true k line last b bs long short tail h = ap (λ (ps : List Piece). piece line last ∷ piece line (b ∷ []) ∷ ps) (h line [])
-end_one false false false true line last b bs long short tail h = ap (λ (ps : List Piece). piece line last ∷ ps) (h line (b ∷ []))
+end_one true s e k line last b bs long short tail h = ap (λ (ps : List FilePiece). piece line last ∷ ps) (h (line + 1) [])
+end_one false true e k line last b bs long short tail h = ap (λ (ps : List FilePiece). piece line last ∷ ps) (h line [])
+end_one false false true k line last b bs long short tail h = ap (λ (ps : List FilePiece). piece line last ∷ piece line (b ∷ []) ∷ ps) (h line [])
+end_one false false false true line last b bs long short tail h = ap (λ (ps : List FilePiece). piece line last ∷ ps) (h line (b ∷ []))
 end_one false false false false line last b bs long short tail h = h line (last ++ b ∷ [])
 
-pub lex-end : (x : ℕ) (more : List ℕ) (tail : ℕ → List Piece) → ((line : ℕ) (last : List ℕ) → lex line false last (x ∷ more) ≡ piece line last ∷ tail line)
+pub lex-end : (x : ℕ) (more : List ℕ) (tail : ℕ → List FilePiece) → ((line : ℕ) (last : List ℕ) → lex line false last (x ∷ more) ≡ piece line last ∷ tail line)
     → (line : ℕ) (last text : List ℕ) → HasNo (codes "%") text → lex line false last (text ++ x ∷ more) ≡ lex line false last text ++ tail (line_after line text)
 lex-end x more tail ends line last [] free = ends line last
 lex-end x more tail ends line last (b ∷ bs) free =
@@ -111,7 +111,7 @@ lex-end x more tail ends line last (b ∷ bs) free =
 
 -- ---- No piece is a text that stands nowhere.
 
-abbrev pub AllOther : List ℕ → List Piece → Type 0
+abbrev pub AllOther : List ℕ → List FilePiece → Type 0
 AllOther part [] = Unit {0}
 AllOther part (p ∷ ps) = (p.text ≡ part → ⊥) × AllOther part ps
 
@@ -121,7 +121,7 @@ apart_here part last bs free is = free [] bs (ap (λ (t : List ℕ). t ++ bs) is
 apart_one : (part last : List ℕ) (b : ℕ) (bs : List ℕ) → HasNo part (last ++ b ∷ bs) → b ∷ [] ≡ part → ⊥
 apart_one part last b bs free is = free last bs (ap (λ (t : List ℕ). last ++ (t ++ bs)) is ∙ sym (append_assoc last part bs))
 
-other_one : (f s e k : Bool) (part : List ℕ) (line : ℕ) (last : List ℕ) (b : ℕ) (bs : List ℕ) (rest : ℕ → Bool → List ℕ → List Piece)
+other_one : (f s e k : Bool) (part : List ℕ) (line : ℕ) (last : List ℕ) (b : ℕ) (bs : List ℕ) (rest : ℕ → Bool → List ℕ → List FilePiece)
     → HasNo part (last ++ b ∷ bs) → ((l : ℕ) (t : List ℕ) → HasNo part (t ++ bs) → AllOther part (rest l false t))
     → AllOther part (lexed f false s e k line false last b rest)
 other_one true s e k part line last b bs rest free h = (apart_here part last (b ∷ bs) free, h (line + 1) [] (rest_free part (b ∷ []) bs (rest_free part last (b ∷ bs) free)))
@@ -189,10 +189,10 @@ pieces-last_comment before comment free =
     ∙ fold-comment (fold with_byte nothing_lexed before) comment free)
 
 -- a file is read only by its pieces
-pub of_words : (form : Form) (text other : List ℕ) → pieces_of text ≡ pieces_of other → words_of form text ≡ words_of form other
-of_words Tex text other e = ap (λ (ps : List Piece). (groups ps).words) e
-of_words (Plain group) text other e = ap (λ (ps : List Piece). plain_words group ps) e
+pub of_words : (form : FileForm) (text other : List ℕ) → pieces_of text ≡ pieces_of other → words_of form text ≡ words_of form other
+of_words Tex text other e = ap (λ (ps : List FilePiece). (groups ps).words) e
+of_words (Plain group) text other e = ap (λ (ps : List FilePiece). plain_words group ps) e
 
-pub of_fault : (form : Form) (text other : List ℕ) → pieces_of text ≡ pieces_of other → group_fault form text ≡ group_fault form other
-of_fault Tex text other e = ap (λ (ps : List Piece). (groups ps).fault) e
+pub of_fault : (form : FileForm) (text other : List ℕ) → pieces_of text ≡ pieces_of other → group_fault form text ≡ group_fault form other
+of_fault Tex text other e = ap (λ (ps : List FilePiece). (groups ps).fault) e
 of_fault (Plain group) text other e = refl

@@ -6,7 +6,7 @@ use Rattle.hyphenation_grammar.specs.Lines.{is_same}
 use Rattle.hyphenation_grammar.specs.Tokens.{is_brace}
 use Rattle.pattern_results.specs.Texts.{line_feeds}
 use Rattle.pattern_results.specs.declared.errors.FileCause.TheVariants.{Input}
-use Rattle.tex_files.specs.Groups.{Piece, GroupScan, is_space, place_after, with_piece, with_piece_outside, nothing_scanned, groups, pieces_of}
+use Rattle.tex_files.specs.Groups.{FilePiece, GroupScan, is_space, place_after, with_piece, with_piece_outside, nothing_scanned, groups, pieces_of}
 use Rattle.tex_files.specs.TexFiles.{HasNo, IsOutside, is_blank, EndsCommand, begins_group, command}
 use Rattle.tex_files.specs.declared.group.Group.{Group}
 use Rattle.tex_files.specs.declared.group.Place.TheVariants.{Outside, Before, Within}
@@ -16,7 +16,7 @@ use Rattle.tex_files.proofs.Between.{lines, command_pieces, expects, ends_piece,
 
 -- ---- The first piece that is not empty.
 
-abbrev opens : List Piece → Bool
+abbrev opens : List FilePiece → Bool
 opens [] = false
 opens (p ∷ ps) = if length p.text == 0 then opens ps else is_same p.text (codes "{")
 
@@ -40,7 +40,7 @@ filled b last = by (length (b ∷ last) == 0) refl
     by false e = e
 
 -- so the first piece is no brace
-first_other : (b : ℕ) (last : List ℕ) (ps : List Piece) → (b == 123) ≡ false → (if length (b ∷ last) == 0 then opens ps else is_same (b ∷ last) (codes "{")) ≡ false
+first_other : (b : ℕ) (last : List ℕ) (ps : List FilePiece) → (b == 123) ≡ false → (if length (b ∷ last) == 0 then opens ps else is_same (b ∷ last) (codes "{")) ≡ false
 first_other b last ps h = by (length (b ∷ last) == 0) (filled b last)
   where
     by : (t : Bool) → t ≡ false → (if t then opens ps else is_same (b ∷ last) (codes "{")) ≡ false
@@ -87,13 +87,13 @@ same_scan : (f g : GroupScan) → f ≡ g → at_place f g
 same_scan f g e = (ap (λ (s : GroupScan). (closed s).words) e, ap (λ (s : GroupScan). (closed s).fault) e)
 
 -- the file has ended, in either place
-ended_alike : (group : Group) (ps : List Piece) (f g : GroupScan) → fold with_piece f ps ≡ f → fold with_piece g ps ≡ g → at_place f g → at_place (fold with_piece f ps) (fold with_piece g ps)
+ended_alike : (group : Group) (ps : List FilePiece) (f g : GroupScan) → fold with_piece f ps ≡ f → fold with_piece g ps ≡ g → at_place f g → at_place (fold with_piece f ps) (fold with_piece g ps)
 ended_alike group ps f g p q h = (ap (λ (s : GroupScan). (closed s).words) p ∙ h.0 ∙ sym (ap (λ (s : GroupScan). (closed s).words) q), ap (λ (s : GroupScan). (closed s).fault) p ∙ h.1 ∙ sym (ap (λ (s : GroupScan). (closed s).fault) q))
 
-abbrev stepped : (i e : Bool) → GroupScan → Piece → GroupScan
+abbrev stepped : (i e : Bool) → GroupScan → FilePiece → GroupScan
 stepped i e f p = if i then record f { at_end = true; fault = Some (p.line, Input) } else (if e then record f { at_end = true } else record f { place = place_after p.text })
 
-alike : (group : Group) (ps : List Piece) → opens ps ≡ false → at_place (fold with_piece (found_at [] (Before group)) ps) (fold with_piece (found_at [] Outside) ps)
+alike : (group : Group) (ps : List FilePiece) → opens ps ≡ false → at_place (fold with_piece (found_at [] (Before group)) ps) (fold with_piece (found_at [] Outside) ps)
 alike group [] h = (refl, refl)
 alike group (p ∷ ps) h = by (λ k. alike group ps k) (length p.text == 0) h
   where
@@ -134,12 +134,12 @@ skipped group before rest h c e b =
     let first = alike group tail (ap opens (sym (end.1 line [])) ∙ opens_as line rest c ∙ b) in
     let read : fold with_piece nothing_scanned (pieces_of (before ++ command group ++ rest)) ≡ fold with_piece (found_at [] (Before group)) tail
     = ap (λ (t : List ℕ). fold with_piece nothing_scanned (pieces_of t)) (flat3 before (command group) rest) ∙ command_pieces group before rest h
-    ∙ ap (λ (ps : List Piece). fold with_piece (found_at [] Outside) ps) (end.1 line (command group)) ∙ expects group line tail in
-    let kept : fold with_piece (found_at [] Outside) (lex line false [] rest) ≡ fold with_piece (found_at [] Outside) tail = ap (λ (ps : List Piece). fold with_piece (found_at [] Outside) ps) (end.1 line []) in
+    ∙ ap (λ (ps : List FilePiece). fold with_piece (found_at [] Outside) ps) (end.1 line (command group)) ∙ expects group line tail in
+    let kept : fold with_piece (found_at [] Outside) (lex line false [] rest) ≡ fold with_piece (found_at [] Outside) tail = ap (λ (ps : List FilePiece). fold with_piece (found_at [] Outside) ps) (end.1 line []) in
     (ap (λ (s : GroupScan). (closed s).words) read ∙ first.0 ∙ sym (ap (λ (s : GroupScan). (closed s).words) kept), ap (λ (s : GroupScan). (closed s).fault) read ∙ first.1 ∙ sym (ap (λ (s : GroupScan). (closed s).fault) kept))
 
 pub rest_later : (before rest : List ℕ) → closed (fold with_piece (found_at [] Outside) (lex (line_after 1 before) false [] rest)) ≡ found_later (line_feeds before) [] (groups (pieces_of rest))
 rest_later before rest =
-    ap (λ (ps : List Piece). closed (fold with_piece (found_at [] Outside) ps)) (ap (λ (l : ℕ). lex l false [] rest) (from_line before) ∙ lex-later (line_feeds before) 1 false [] rest)
+    ap (λ (ps : List FilePiece). closed (fold with_piece (found_at [] Outside) ps)) (ap (λ (l : ℕ). lex l false [] rest) (from_line before) ∙ lex-later (line_feeds before) 1 false [] rest)
     ∙ groups-later (line_feeds before) [] (lex 1 false [] rest)
-    ∙ ap (λ (ps : List Piece). found_later (line_feeds before) [] (groups ps)) (sym (pieces-lex rest))
+    ∙ ap (λ (ps : List FilePiece). found_later (line_feeds before) [] (groups ps)) (sym (pieces-lex rest))

@@ -9,18 +9,18 @@ use Rattle.tex_files.specs.Groups.{GroupWord, groups, plain_words, pieces_of}
 use Rattle.tex_files.specs.Spelling.{word_cause, pattern_in, exception_in}
 use Rattle.pattern_results.specs.declared.errors.FileCause.{FileCause}
 use Rattle.pattern_results.specs.declared.errors.FileCause.TheVariants.{Nothing}
-use Rattle.tex_files.specs.declared.group.Form.{Form}
-use Rattle.tex_files.specs.declared.group.Form.TheVariants.{Tex, Plain}
+use Rattle.tex_files.specs.declared.group.FileForm.{FileForm}
+use Rattle.tex_files.specs.declared.group.FileForm.TheVariants.{Tex, Plain}
 use Rattle.tex_files.specs.declared.group.File.{File}
 use Rattle.tex_files.specs.declared.group.Group.TheVariants.{Exceptions}
 
 -- The words of a file's groups, up to the first fault of a group.
-abbrev pub words_of : Form → List ℕ → List GroupWord
+abbrev pub words_of : FileForm → List ℕ → List GroupWord
 words_of Tex bytes = (groups (pieces_of bytes)).words
 words_of (Plain group) bytes = plain_words group (pieces_of bytes)
 
 -- The first fault of a file's groups: the line and the cause.
-abbrev pub group_fault : Form → List ℕ → Option (ℕ × FileCause)
+abbrev pub group_fault : FileForm → List ℕ → Option (ℕ × FileCause)
 group_fault Tex bytes = (groups (pieces_of bytes)).fault
 group_fault (Plain group) bytes = None
 
@@ -46,13 +46,13 @@ first_fault (word ∷ words) =
 
 -- A file without a pattern and without an exception is faulty, except a plain file of exceptions: a language may have
 -- none.
-abbrev pub empty_fault : Form → List GroupWord → Option (ℕ × FileCause)
+abbrev pub empty_fault : FileForm → List GroupWord → Option (ℕ × FileCause)
 empty_fault (Plain Exceptions) words = None
 empty_fault form [] = Some (1, Nothing)
 empty_fault form (word ∷ words) = None
 
 -- A file's first fault: that of a word of its groups, or else of the groups, or else that it has no words.
-abbrev pub file_fault : Form → List ℕ → Option (ℕ × FileCause)
+abbrev pub file_fault : FileForm → List ℕ → Option (ℕ × FileCause)
 file_fault form bytes =
     option_or (option_or (first_fault (words_of form bytes)) (group_fault form bytes))
     (empty_fault form (words_of form bytes))

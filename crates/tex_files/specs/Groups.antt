@@ -20,7 +20,7 @@ abbrev pub is_space : ℕ → Bool
 is_space b = b == space || b == tab || b == form_feed || b == carriage_return
 
 -- A piece of a file, and the number of its line, counted from 1.
-pub record Piece : Type 0 where
+pub record FilePiece : Type 0 where
   pub line : ℕ
   pub text : List ℕ
 
@@ -28,7 +28,7 @@ pub record Piece : Type 0 where
 pub record Lexed : Type 0 where
   pub line : ℕ
   pub in_comment : Bool
-  pub pieces : List Piece
+  pub pieces : List FilePiece
   pub last : List ℕ
 
 -- A reader at the start of a file.
@@ -53,7 +53,7 @@ with_byte r b =
     else (if r.in_comment || b == percent then record r { in_comment = true } else with_read_byte r b)
 
 -- The pieces of a file.
-abbrev pub pieces_of : List ℕ → List Piece
+abbrev pub pieces_of : List ℕ → List FilePiece
 pieces_of bytes = (with_piece_ended (fold with_byte nothing_lexed bytes) []).pieces
 
 -- ---- Groups.
@@ -83,14 +83,14 @@ place_after piece =
     else (if is_same piece (codes "\\hyphenation") then Before Exceptions else Outside)
 
 -- A piece outside of groups. `\input` and `\endinput` end the file.
-abbrev pub with_piece_outside : GroupScan → Piece → GroupScan
+abbrev pub with_piece_outside : GroupScan → FilePiece → GroupScan
 with_piece_outside found piece =
     if is_same piece.text (codes "\\input") then record found { at_end = true; fault = Some (piece.line, Input) }
     else (if is_same piece.text (codes "\\endinput") then record found { at_end = true }
     else record found { place = place_after piece.text })
 
 -- A piece at that place. A group is the text in braces after its command; without a brace, the next piece is outside of groups.
-abbrev pub with_piece_at : Place → GroupScan → Piece → GroupScan
+abbrev pub with_piece_at : Place → GroupScan → FilePiece → GroupScan
 with_piece_at Outside found piece = with_piece_outside found piece
 with_piece_at (Before group) found piece =
     if is_same piece.text (codes "{") then record found { place = Within group piece.line }
@@ -100,7 +100,7 @@ with_piece_at (Within group opened) found piece =
     else record found { words = found.words ++ (record { line = piece.line; group = group; text = piece.text }) ∷ [] }
 
 -- One piece more. An empty piece is none.
-abbrev pub with_piece : GroupScan → Piece → GroupScan
+abbrev pub with_piece : GroupScan → FilePiece → GroupScan
 with_piece found piece = if found.at_end || length piece.text == 0 then found else with_piece_at found.place found piece
 
 -- A group that is open at the file's end is a fault on the line on which it was opened.
@@ -110,15 +110,15 @@ closed_at (Before group) found = found
 closed_at (Within group opened) found = record found { fault = Some (opened, Unclosed) }
 
 -- The words of the groups in all pieces of a file, and the first fault of a group.
-abbrev pub groups : List Piece → GroupScan
+abbrev pub groups : List FilePiece → GroupScan
 groups pieces = let found = fold with_piece nothing_scanned pieces in closed_at found.place found
 
 -- One word more, if the piece is not empty.
-abbrev pub with_plain : Group → List GroupWord → Piece → List GroupWord
+abbrev pub with_plain : Group → List GroupWord → FilePiece → List GroupWord
 with_plain group words piece =
     if length piece.text == 0 then words
     else words ++ (record { line = piece.line; group = group; text = piece.text }) ∷ []
 
 -- The words of a plain file, which is the inside of one group.
-abbrev pub plain_words : Group → List Piece → List GroupWord
+abbrev pub plain_words : Group → List FilePiece → List GroupWord
 plain_words group pieces = fold (with_plain group) [] pieces

@@ -9,7 +9,7 @@ use Rattle.tex_files.specs.Converting.{words_of, group_fault}
 use Rattle.tex_files.specs.Groups.{GroupWord, is_space}
 use Rattle.pattern_results.specs.declared.errors.FileCause.{FileCause}
 use Rattle.pattern_results.specs.declared.errors.FileCause.TheVariants.{Input, Unclosed}
-use Rattle.tex_files.specs.declared.group.Form.TheVariants.{Tex, Plain}
+use Rattle.tex_files.specs.declared.group.FileForm.TheVariants.{Tex, Plain}
 use Rattle.tex_files.specs.declared.group.Group.{Group}
 use Rattle.tex_files.specs.declared.group.Group.TheVariants.{Patterns, Exceptions}
 

@@ -5,7 +5,7 @@ ghost use Rattle.tex_files.specs.Converting.{words_spelt, one_after_other, spelt
 ghost use Rattle.tex_files.specs.Notes.{notes_of_files};
 ghost use Rattle.pattern_results.specs.Errors.{IsFileError, IsConvertError};
 
-use crate::group::{File, Form, Group};
+use crate::group::{File, FileForm, Group};
 use crate::tex::words_of;
 use crate::word_notes::notes_of;
 use crate::words::take_words;
@@ -18,12 +18,12 @@ use pattern_results::errors::{ConvertError, FileCause, FileError};
 use std::alloc::Global;
 
 // Whether a file of that form may have no words: a language may have no exceptions.
-fn may_be_empty(form: Form) -> bool
+fn may_be_empty(form: FileForm) -> bool
     ensures { IsTrue result ↔ (empty_fault form [] ≡ None) }
 {
     match form {
-        Form::Plain(Group::Exceptions) => true,
-        Form::Plain(Group::Patterns) | Form::Tex => false,
+        FileForm::Plain(Group::Exceptions) => true,
+        FileForm::Plain(Group::Patterns) | FileForm::Tex => false,
     }
 }
 
@@ -31,7 +31,7 @@ fn may_be_empty(form: Form) -> bool
 fn take_file<C: Payload, B: Listing>(
     alloc: Global,
     parts: &mut DictionaryParts<C, B>,
-    form: Form,
+    form: FileForm,
     bytes: &[u8],
 ) -> Result<(), FileError>
     ensures no_fault { OnOk result (file_fault form bytes.now ≡ None) }

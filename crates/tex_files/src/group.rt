@@ -9,7 +9,7 @@ pub enum Group {
 
 /// The form of a file.
 #[derive(Clone, Copy, Debug)]
-pub enum Form {
+pub enum FileForm {
     /// A TeX file, with its groups in braces.
     Tex,
     /// A plain file: the inside of one group.
@@ -19,7 +19,7 @@ pub enum Form {
 /// A file: its form, and all its bytes.
 #[derive(Clone, Copy, Debug)]
 pub struct File<'a> {
-    pub form: Form,
+    pub form: FileForm,
     pub bytes: &'a [u8],
 }
 

@@ -6,18 +6,18 @@
 
 ghost use Rattle.std.specs.Prelude.{◌≡◌, List, ℕ, [], None};
 ghost use Rattle.tex_files.specs.Converting.{words_of, group_fault};
-ghost use Rattle.tex_files.specs.declared.group.Form.{Form};
-ghost use Rattle.tex_files.specs.declared.group.Form.TheVariants.{Tex};
+ghost use Rattle.tex_files.specs.declared.group.FileForm.{FileForm};
+ghost use Rattle.tex_files.specs.declared.group.FileForm.TheVariants.{Tex};
 ghost use Rattle.tex_files.specs.TexFiles.{IsOutside, IgnoresComments, IgnoresLastComment, HasWordsOfFirstGroupAndRest, HasFaultOfRest};
 ghost use Rattle.tex_files.specs.TexFiles.{HasWordsOfOpenGroup, HasFaultOfOpenGroup, SkipsCommandWithoutBrace, HasNothingAfterItsEnd};
 ghost use Rattle.tex_files.specs.TexFiles.{HasFaultOfInput, HasWordsBetween};
 
 /// Comments say nothing: with them and without them, a file has equal words on equal lines, and an equal fault.
 pub fn comments_say_nothing()
-    ensures words { (form : Form) → IgnoresComments (words_of form) }
-    ensures fault { (form : Form) → IgnoresComments (group_fault form) }
-    ensures last_words { (form : Form) → IgnoresLastComment (words_of form) }
-    ensures last_fault { (form : Form) → IgnoresLastComment (group_fault form) }
+    ensures words { (form : FileForm) → IgnoresComments (words_of form) }
+    ensures fault { (form : FileForm) → IgnoresComments (group_fault form) }
+    ensures last_words { (form : FileForm) → IgnoresLastComment (words_of form) }
+    ensures last_fault { (form : FileForm) → IgnoresLastComment (group_fault form) }
 {}
 
 /// A TeX file without comments has the words of its first group, and then those of the text after that group, with

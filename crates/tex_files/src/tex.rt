@@ -8,7 +8,7 @@ ghost use Rattle.tex_files.specs.Groups.{place_after, with_piece, with_plain, no
 ghost use Rattle.hyphenation_grammar.specs.Tokens.{is_brace};
 ghost use Rattle.tex_files.specs.Private.Views.{piece_view, lexer_view, scan_view, word_view};
 
-use crate::group::{Form, Group, Place, Word};
+use crate::group::{FileForm, Group, Place, Word};
 use pattern_results::errors::FileCause;
 use std::alloc::{AllocError, Global};
 use std::mem;
@@ -29,7 +29,7 @@ fn is_brace(b: u8) -> bool
 
 // A piece of a file, and the number of its line, counted from 1.
 #[derive(Drop)]
-struct Piece {
+struct FilePiece {
     line: usize,
     text: Vec<u8>,
 }
@@ -40,7 +40,7 @@ struct Piece {
 struct Lexer {
     line: usize,
     in_comment: bool,
-    pieces: Vec<Piece>,
+    pieces: Vec<FilePiece>,
     last: Vec<u8>,
 }
 
@@ -62,7 +62,7 @@ impl Lexer {
         ensures { OnOk result (lexer_view self.new ≡ with_piece_ended (lexer_view self.old) next.items) }
     {
         let text = mem::replace(&mut self.last, next);
-        self.pieces.push(Piece {
+        self.pieces.push(FilePiece {
             line: self.line,
             text,
         })?;
@@ -107,7 +107,7 @@ impl Lexer {
 }
 
 // Splits a file into its pieces.
-fn pieces_of(alloc: Global, bytes: &[u8]) -> Result<Vec<Piece>, AllocError>
+fn pieces_of(alloc: Global, bytes: &[u8]) -> Result<Vec<FilePiece>, AllocError>
     ensures { IfOk result (λ found. map piece_view found.items ≡ pieces_of bytes.now) }
 {
     let mut lexer = Lexer::new(alloc);
@@ -179,7 +179,7 @@ impl Scan {
     }
 
     // Takes in a piece.
-    fn take(&mut self, alloc: Global, piece: &Piece) -> Result<(), AllocError>
+    fn take(&mut self, alloc: Global, piece: &FilePiece) -> Result<(), AllocError>
         ensures { OnOk result (scan_view self.new ≡ with_piece (scan_view self.old) (piece_view piece.now)) }
     {
         if self.at_end || piece.text.is_empty() {
@@ -224,7 +224,7 @@ impl Scan {
 }
 
 // Scans all pieces of a file for groups.
-fn groups(alloc: Global, pieces: &[Piece]) -> Result<Scan, AllocError>
+fn groups(alloc: Global, pieces: &[FilePiece]) -> Result<Scan, AllocError>
     ensures { IfOk result (λ scan. scan_view scan ≡ groups (map piece_view pieces.now)) }
 {
     let mut scan = Scan::new(alloc);
@@ -236,7 +236,7 @@ fn groups(alloc: Global, pieces: &[Piece]) -> Result<Scan, AllocError>
 }
 
 // The words of a plain file: its pieces.
-fn plain_words(alloc: Global, group: Group, pieces: &[Piece]) -> Result<Vec<Word>, AllocError>
+fn plain_words(alloc: Global, group: Group, pieces: &[FilePiece]) -> Result<Vec<Word>, AllocError>
     ensures { IfOk result (λ words. map word_view words.items ≡ plain_words group (map piece_view pieces.now)) }
 {
     let mut words = Vec::new(alloc);
@@ -255,7 +255,7 @@ fn plain_words(alloc: Global, group: Group, pieces: &[Piece]) -> Result<Vec<Word
 /// The words of a file's groups, and the first fault of the groups with its line. A fault comes after all words.
 pub(crate) fn words_of(
     alloc: Global,
-    form: Form,
+    form: FileForm,
     bytes: &[u8],
 ) -> Result<(Vec<Word>, Option<(usize, FileCause)>), AllocError>
     ensures words { IfOk result (λ found. map word_view found.0.items ≡ words_of form bytes.now) }
@@ -263,10 +263,10 @@ pub(crate) fn words_of(
 {
     let pieces = pieces_of(alloc, bytes)?;
     match form {
-        Form::Tex => {
+        FileForm::Tex => {
             let Scan { words, fault, .. } = groups(alloc, &pieces)?;
             Ok((words, fault))
         }
-        Form::Plain(group) => Ok((plain_words(alloc, group, &pieces)?, None)),
+        FileForm::Plain(group) => Ok((plain_words(alloc, group, &pieces)?, None)),
     }
 }

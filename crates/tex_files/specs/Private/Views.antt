@@ -3,7 +3,7 @@ use Rattle.std.specs.Prelude.{map, Option, Some, ◌≡◌}
 use Rattle.tex_files.specs.Groups as groups
 use Rattle.tex_files.specs.Groups.{Lexed, GroupScan, GroupWord}
 use Rattle.tex_files.specs.declared.tex.Lexer.{Lexer}
-use Rattle.tex_files.specs.declared.tex.Piece.{Piece}
+use Rattle.tex_files.specs.declared.tex.FilePiece.{FilePiece}
 use Rattle.tex_files.specs.declared.tex.Scan.{Scan}
 use Rattle.tex_files.specs.declared.group.Word.{Word}
 use Rattle.pattern_results.specs.declared.errors.FileCause.{FileCause}
@@ -16,7 +16,7 @@ abbrev pub word_view : Word → GroupWord
 word_view word = record { line = word.line; group = word.group; text = word.text.items }
 
 -- A piece in the words of the definitions.
-abbrev pub piece_view : Piece → groups.Piece
+abbrev pub piece_view : FilePiece → groups.FilePiece
 piece_view piece = record { line = piece.line; text = piece.text.items }
 
 -- A reader in the words of the definitions.
