@@ -1,9 +1,11 @@
 -- Paragraphs in which nothing but what is spent counts.
-use Rattle.std.proofs.Common.{◌≡◌, ℕ, ◌+◌, ◌-◌, ◌≤◌, zero, suc, Option, None, List, [], ◌∷◌, length, sym, ap, subst, refl, arith, inl, inr}
+use Rattle.std.proofs.Common.{◌≡◌, ℕ, ◌+◌, ◌-◌, ◌<◌, ◌≤◌, zero, suc, Option, None, List, [], ◌∷◌, length, sym, ap, subst, refl, arith, inl, inr}
+use Rattle.std.specs.List.{sum_by, slice_range}
+use Rattle.std.proofs.lemmas.Bool.{cases_lt}
 use Rattle.line_division.specs.declared.stretch.Stretch.{Stretch}
 use Rattle.line_division.specs.declared.cost.Cost.{Cost}
 use Rattle.line_division.specs.declared.table.Choices.{Choices}
-use Rattle.line_division.specs.Lines.{line_width, hyphens_to, line_over}
+use Rattle.line_division.specs.Lines.{stretch_at, joined_width, line_width, hyphens_to, line_over}
 use Rattle.line_division.specs.Division.{MayStand, Divides, EachFits, KeepsLadder, cost_of}
 use Rattle.line_division.specs.Private.Best.{IsLeast, IsKnown, AreBest}
 use Rattle.line_division.specs.Private.Table.{choice_at}
@@ -23,6 +25,19 @@ plain_stands stretches columns ladder start end plain stands =
     elim stands [
       | inl fit ↦ fit
       | inr alone ↦ subst (λ e. line_width stretches start e ≤ columns) (sym alone) (plain_alone stretches columns ladder start plain)
+    ]
+
+-- A line that does not fit holds more than one stretch.
+pub plain_longer : (stretches : List Stretch) (columns : ℕ) (ladder : Option ℕ) (start last : ℕ) → IsPlain stretches columns ladder → start ≤ last
+    → columns < (stretch_at stretches start).opening + sum_by joined_width (slice_range stretches start last) + (stretch_at stretches last).width + (stretch_at stretches last).closing
+    → start < last
+plain_longer stretches columns ladder start last plain le wide =
+    elim (cases_lt start last) [
+      | inl more ↦ more
+      | inr none ↦
+          let same : start ≡ last = omega (arith, le, none) in
+          let fit = subst (λ p. line_width stretches start (p + 1) ≤ columns) same (plain_alone stretches columns ladder start plain) in
+          absurd (omega (arith, fit, width_to stretches start last, wide))
     ]
 
 -- No line is over the ladder.

@@ -26,7 +26,7 @@ ghost use Rattle.line_division.specs.Private.Table.{IsOpen};
 use crate::cost::Cost;
 use crate::ladder::{hyphens_to, keeps_ladder};
 use crate::problem::{Begin, Paragraph, Problem, each_fits, widest_of};
-use crate::reach::{Reach, longest_line, reach_from};
+use crate::reach::{Reach, last_reach, longest_line, reach_before};
 use crate::stretch::{Stretch, widened};
 use crate::table::{Choice, Choices, Kept, begin_others, choice_at, kept_at};
 use std::alloc::{AllocError, Global};
@@ -295,14 +295,13 @@ fn is_enough(best: Cost, floor: Cost, lacked: u64) -> bool
 fn best_line(begin: Begin, floor: Cost, choices: &Choices, reach: Reach) -> Choice
     requires best { AreBestOf begin.problem choices.now begin.start begin.run }
     requires reach { IsReach begin.problem.stretches.now begin.problem.columns begin.start reach }
-    requires within { reach.last < length begin.problem.stretches.now }
     requires floor { IsFloorOf begin.problem begin.run (begin.start + 1) (reach.last + 1) floor }
     requires low { floor.spent ≤ 2 ^ 63 }
     ensures { IsBestOf begin.entry.problem choices.now begin.entry.run begin.entry.start result }
 {
     let Begin { problem, start, .. } = begin;
     let most = u64::from(problem.columns).saturating_sub(problem.closing);
-    let longest = longest_line(problem.stretches, problem.columns, start, reach);
+    let longest = longest_line(problem, start, reach);
     let mut last = longest.last;
     let mut joined = longest.joined;
     let mut best = choose(begin, choices, last + 1, longest.wide);
@@ -420,7 +419,6 @@ fn put_longer(
     requires best { AreBestOf begin.problem choices.old begin.start begin.run }
     requires shorter { IsOpen choices.old begin.run begin.start }
     requires reach { IsReach begin.problem.stretches.now begin.problem.columns begin.start reach }
-    requires within { reach.last < length begin.problem.stretches.now }
     requires floors { AreFloorsOf begin.problem (begin.start + 1) (reach.last + 1) floors.now }
     ensures { IfOk result (λ done. AreBestFrom begin.entry.problem choices.new begin.entry.start) }
 {
@@ -452,7 +450,6 @@ fn put_best_lines(
     requires start { start < length problem.stretches.now }
     requires best { AreBestOf problem choices.old start 0 }
     requires reach { IsReach problem.stretches.now problem.columns start reach }
-    requires within { reach.last < length problem.stretches.now }
     requires first { IsFloorOf problem 0 (start + 1) (reach.last + 1) first }
     requires first_low { first.spent ≤ 2 ^ 63 }
     requires floors { AreFloorsOf problem (start + 1) (reach.last + 1) floors.now }
@@ -510,15 +507,11 @@ fn best_lines(alloc: Global, problem: Problem) -> Result<Choices, AllocError>
 {
     let count = problem.stretches.len();
     let mut choices = no_lines(alloc, problem)?;
-    let mut reach = Reach {
-        last: count,
-        joined: 0,
-    };
+    let mut reach = last_reach(problem.stretches);
     let mut first = Cost::NONE;
     let mut floors = vec![in alloc; Cost::NONE; runs(problem.ladder) - 1]?;
     let mut renewed = count;
     for start in (0..count).rev() {
-        reach = reach_from(problem.stretches, problem.columns, start, reach);
         put_best_lines(problem, first, &floors, &mut choices, start, reach)?;
         let span = Span {
             start,
@@ -528,6 +521,7 @@ fn best_lines(alloc: Global, problem: Problem) -> Result<Choices, AllocError>
         first = next_floor(problem, &choices, 0, span, first);
         next_floors(problem, &choices, span, &mut floors);
         renewed = renewed_at(span, renewed);
+        reach = reach_before(problem, start, reach);
     }
     Ok(choices)
 }

@@ -1,10 +1,11 @@
 //! How far lines reach.
 
-ghost use Rattle.std.specs.Prelude.{◌≡◌, ◌+◌, ◌^◌, ◌<◌, ◌≤◌, MatchBool, length, sum_by, slice_range};
+ghost use Rattle.std.specs.Prelude.{◌≡◌, ℕ, ◌+◌, ◌-◌, ◌^◌, ◌<◌, ◌≤◌, true, MatchBool, length, sum_by, slice_range};
 ghost use Rattle.line_division.specs.Lines.{stretch_at, line_width, joined_width};
 ghost use Rattle.line_division.specs.Greedy.{IsFurthest};
-ghost use Rattle.line_division.specs.Private.Reaches.{GoesPast, IsReach, Stays};
+ghost use Rattle.line_division.specs.Private.Reaches.{IsReach};
 
+use crate::problem::Problem;
 use crate::stretch::{Stretch, widened};
 
 // How far the lines that begin at a place reach.
@@ -25,38 +26,73 @@ fn joined_width(stretch: &Stretch) -> u64
     widened(stretch.width) + widened(stretch.joint)
 }
 
-// Reports whether a stretch goes past the columns of a line, or is none.
+// Returns the columns of a stretch that is the last one of its line, without those before it.
 #[inline(always)]
-fn goes_past(stretches: &[Stretch], columns: u16, last: usize, joined: u64) -> bool
-    requires { joined < 2 ^ 34 }
-    ensures { MatchBool result (GoesPast stretches.now columns last joined) (Stays stretches.now columns last joined) }
+fn own_width(stretch: &Stretch) -> u64
+    ensures value { result ≡ (stretch.now).width + (stretch.now).closing }
+    ensures small { result < 2 ^ 33 }
 {
-    if last < stretches.len() {
-        u64::from(columns) < joined + widened(stretches[last].width)
-    } else {
-        true
-    }
+    widened(stretch.width) + widened(stretch.closing)
+}
+
+// Reports whether a line from a start to a stretch that ends it holds more than one. Where each single stretch fits, this
+// is known of a line that does not fit.
+#[inline(always)]
+fn holds_more(plain: bool, start: usize, last: usize) -> bool
+    requires order { start ≤ last }
+    requires plain { plain ≡ true → start < last }
+    ensures { MatchBool result (start < last) (start ≡ last) }
+{
+    plain || start < last
 }
 
 // Returns how far the lines that begin at a place reach, where it is known for those that begin a stretch later.
 #[inline(always)]
-pub(crate) fn reach_from(stretches: &[Stretch], columns: u16, start: usize, later: Reach) -> Reach
-    requires start { start < length stretches.now }
-    requires later { IsReach stretches.now columns (start + 1) later }
-    ensures reach { IsReach stretches.now columns start result }
-    ensures within { result.last < length stretches.now }
+fn reach_from(problem: Problem, start: usize, later: Reach) -> Reach
+    requires { IsReach problem.stretches.now problem.columns (start + 1) later }
+    ensures reach { IsReach problem.entry.stretches.now problem.entry.columns start result }
     ensures earlier { result.last ≤ later.last }
 {
+    let Problem {
+        stretches,
+        columns,
+        plain,
+        ..
+    } = problem;
     let mut last = later.last;
     let mut joined = later.joined + joined_width(&stretches[start]);
-    while start < last {
-        if !goes_past(stretches, columns, last, joined) {
-            return Reach { last, joined };
-        }
+    while u64::from(columns) < joined + widened(stretches[last].width)
+        && holds_more(plain, start, last)
+    {
         last -= 1;
         joined -= joined_width(&stretches[last]);
     }
     Reach { last, joined }
+}
+
+// Returns how far the lines reach that begin a stretch before a place, if there is one.
+#[inline(always)]
+pub(crate) fn reach_before(problem: Problem, start: usize, later: Reach) -> Reach
+    requires { IsReach problem.stretches.now problem.columns start later }
+    ensures reach { 0 < start → IsReach problem.entry.stretches.now problem.entry.columns (start - 1) result }
+    ensures earlier { result.last ≤ later.last }
+{
+    if start == 0 {
+        return later;
+    }
+    reach_from(problem, start - 1, later)
+}
+
+// Returns how far the line that begins at the last stretch reaches, if there is one.
+#[inline(always)]
+pub(crate) fn last_reach(stretches: &[Stretch]) -> Reach
+    ensures { (columns : ℕ) → 0 < length stretches.now
+        → IsReach stretches.now columns (length stretches.now - 1) result }
+{
+    Reach {
+        last: stretches.len().saturating_sub(1),
+        joined: 0,
+    }
 }
 
 // The longest line that begins at a place and fits, or else the one of a single stretch.
@@ -72,35 +108,29 @@ pub(crate) struct Longest {
 
 // Returns the longest line that begins at a place and fits, or else the one of a single stretch.
 #[inline(always)]
-pub(crate) fn longest_line(
-    stretches: &[Stretch],
-    columns: u16,
-    start: usize,
-    reach: Reach,
-) -> Longest
-    requires start { start < length stretches.now }
-    requires reach { IsReach stretches.now columns start reach }
-    requires within { reach.last < length stretches.now }
-    ensures furthest { IsFurthest stretches.now columns start (result.last + 1) }
-    ensures joined { result.joined ≡ (stretch_at stretches.now start).opening
-        + sum_by joined_width (slice_range stretches.now start result.last) }
-    ensures wide { result.wide ≡ line_width stretches.now start (result.last + 1) }
+pub(crate) fn longest_line(problem: Problem, start: usize, reach: Reach) -> Longest
+    requires { IsReach problem.stretches.now problem.columns start reach }
+    ensures furthest { IsFurthest problem.entry.stretches.now problem.entry.columns start (result.last + 1) }
+    ensures joined { result.joined ≡ (stretch_at problem.entry.stretches.now start).opening
+        + sum_by joined_width (slice_range problem.entry.stretches.now start result.last) }
+    ensures wide { result.wide ≡ line_width problem.entry.stretches.now start (result.last + 1) }
     ensures small { result.joined < 2 ^ 33 }
     ensures narrow { result.wide < 2 ^ 34 }
     ensures upto { result.last ≤ reach.last }
 {
+    let Problem {
+        stretches,
+        columns,
+        plain,
+        ..
+    } = problem;
     let mut last = reach.last;
     let mut joined = widened(stretches[start].opening) + reach.joined;
-    while start < last {
-        let stretch = &stretches[last];
-        let wide = joined + widened(stretch.width) + widened(stretch.closing);
-        if wide <= u64::from(columns) {
-            return Longest { last, joined, wide };
-        }
+    let mut wide = joined + own_width(&stretches[last]);
+    while u64::from(columns) < wide && holds_more(plain, start, last) {
         last -= 1;
         joined -= joined_width(&stretches[last]);
+        wide = joined + own_width(&stretches[last]);
     }
-    let stretch = &stretches[last];
-    let wide = joined + widened(stretch.width) + widened(stretch.closing);
     Longest { last, joined, wide }
 }

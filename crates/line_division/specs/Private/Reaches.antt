@@ -7,19 +7,11 @@ use Rattle.line_division.specs.Lines.{stretch_at, joined_width}
 -- No line from a start that goes past the last stretch fits, whatever its opening and its closing are.
 pub record IsReach (stretches : List Stretch) (columns start : ℕ) (reach : Reach) : Type 0 where
   pub from : start ≤ reach.last
-  pub within : reach.last ≤ length stretches
+  pub within : reach.last < length stretches
   pub joined : reach.joined ≡ sum_by joined_width (slice_range stretches start reach.last)
   pub small : reach.joined ≤ columns
   pub beyond : (k : ℕ) → reach.last < k → k < length stretches
       → columns < sum_by joined_width (slice_range stretches start k) + (stretch_at stretches k).width
-
--- After this number of columns a stretch goes past those of a line, or there is none.
-abbrev pub GoesPast : List Stretch → ℕ → ℕ → ℕ → Type 0
-GoesPast stretches columns last joined = last < length stretches → columns < joined + (stretch_at stretches last).width
-
--- A stretch fits after this number of columns.
-abbrev pub Stays : List Stretch → ℕ → ℕ → ℕ → Type 0
-Stays stretches columns last joined = (last < length stretches) × (joined + (stretch_at stretches last).width ≤ columns)
 
 -- No closing has more columns.
 abbrev pub IsMostClosing : List Stretch → ℕ → Type 0
