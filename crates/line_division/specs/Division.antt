@@ -9,8 +9,8 @@ use Rattle.line_division.specs.Lines.{line_width, hyphens_to, line_cost}
 abbrev pub MayStand : List Stretch → ℕ → ℕ → ℕ → Type 0
 MayStand stretches columns start end = (line_width stretches start end ≤ columns) ⊎ (end ≡ start + 1)
 
--- A row of ends divides the stretches after a start. Each end is after the one before, each line is allowed, and the last end
--- is that of all.
+-- A row of ends divides the stretches after a start. Each end is after the one before, each line is allowed, and the
+-- last end is that of all.
 abbrev pub Divides : List Stretch → ℕ → ℕ → List ℕ → Type 0
 Divides stretches columns start [] = start ≡ length stretches
 Divides stretches columns start (end ∷ ends) =
@@ -31,8 +31,9 @@ cost_of stretches columns last_columns ladder before start (end ∷ ends) = toge
 
 -- No division costs less than a row of ends.
 abbrev pub CostsLeast : List Stretch → ℕ → ℕ → Option ℕ → List ℕ → Type 0
-CostsLeast stretches columns last_columns ladder row = (other : List ℕ) → Divides stretches columns 0 other → CostsNoMore
-    (cost_of stretches columns last_columns ladder 0 0 row) (cost_of stretches columns last_columns ladder 0 0 other)
+CostsLeast stretches columns last_columns ladder row = (other : List ℕ) → Divides stretches columns 0 other
+    → CostsNoMore (cost_of stretches columns last_columns ladder 0 0 row)
+    (cost_of stretches columns last_columns ladder 0 0 other)
 
 -- Each line of a row of ends fits, if there is a division whose lines do.
 abbrev pub FitsIfAny : List Stretch → ℕ → List ℕ → Type 0
@@ -44,11 +45,13 @@ abbrev pub IsWithin : Option ℕ → ℕ → Type 0
 IsWithin None hyphens = ⊤
 IsWithin (Some most) hyphens = hyphens ≤ most
 
--- No more lines in a row end in a hyphen than a ladder may have. This number of them do before the lines to this row of ends.
+-- No more lines in a row end in a hyphen than a ladder may have. This number of them do before the lines to this row of
+-- ends.
 abbrev pub KeepsLadder : List Stretch → Option ℕ → ℕ → List ℕ → Type 0
 KeepsLadder stretches ladder before [] = ⊤
 KeepsLadder stretches ladder before (end ∷ ends) =
-    IsWithin ladder (hyphens_to stretches before end) × KeepsLadder stretches ladder (hyphens_to stretches before end) ends
+    IsWithin ladder (hyphens_to stretches before end)
+    × KeepsLadder stretches ladder (hyphens_to stretches before end) ends
 
 -- A row of ends keeps to a ladder, if there is a division that does and whose lines fit.
 abbrev pub KeepsLadderIfAny : List Stretch → ℕ → Option ℕ → List ℕ → Type 0

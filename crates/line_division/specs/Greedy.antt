@@ -21,4 +21,5 @@ AreFurthest stretches columns start (end ∷ ends) =
 -- A line that begins a stretch later is no wider for it, except the first line of all, whose indent may be its own.
 abbrev pub IsOrderly : List Stretch → Type 0
 IsOrderly stretches = (place : ℕ) → 0 < place → place + 1 < length stretches
-    → (stretch_at stretches (place + 1)).opening ≤ (stretch_at stretches place).opening + joined_width (stretch_at stretches place)
+    → (stretch_at stretches (place + 1)).opening
+    ≤ (stretch_at stretches place).opening + joined_width (stretch_at stretches place)

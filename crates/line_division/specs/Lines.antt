@@ -1,5 +1,6 @@
 -- A line of stretches, its width and its cost. Starts and ends are numbers of stretches before them.
-use Rattle.std.specs.Prelude.{ℕ, ◌+◌, ◌-◌, ◌*◌, ◌==◌, nat_lt, false, if◌then◌else◌, Option, Some, None, List, length, sum_by, slice_range}
+use Rattle.std.specs.Prelude.{ℕ, ◌+◌, ◌-◌, ◌*◌, ◌==◌, nat_lt, false, if◌then◌else◌, Option, Some, None, List, length}
+use Rattle.std.specs.Prelude.{sum_by, slice_range}
 use Rattle.std.specs.List.{slice_index_or}
 use Rattle.line_division.specs.declared.stretch.Stretch.{Stretch}
 use Rattle.line_division.specs.declared.cost.Cost.{Cost}
@@ -16,8 +17,8 @@ stretch_at stretches place = slice_index_or stretches place no_stretch
 abbrev pub joined_width : Stretch → ℕ
 joined_width stretch = stretch.width + stretch.joint
 
--- The columns of the line from a start to an end after it. They are the opening of its first stretch, all but the last one with
--- their joints, and the last one with its closing.
+-- The columns of the line from a start to an end after it. They are the opening of its first stretch, all but the last
+-- one with their joints, and the last one with its closing.
 abbrev pub line_width : List Stretch → ℕ → ℕ → ℕ
 line_width stretches start end =
     (stretch_at stretches start).opening + sum_by joined_width (slice_range stretches start (end - 1))
@@ -42,8 +43,8 @@ abbrev pub line_over : Option ℕ → ℕ → ℕ
 line_over None hyphens = 0
 line_over (Some most) hyphens = if nat_lt most hyphens then 1 else 0
 
--- The cost of a line at whose end this number of hyphens is in a row: the columns that it has too many; whether it is over the
--- ladder; the square of the columns that it is short of, and the price of its end.
+-- The cost of a line at whose end this number of hyphens is in a row: the columns that it has too many; whether it is
+-- over the ladder; the square of the columns that it is short of, and the price of its end.
 abbrev pub line_cost : List Stretch → ℕ → ℕ → Option ℕ → ℕ → ℕ → ℕ → Cost
 line_cost stretches columns last_columns ladder hyphens start end = record {
   excess = line_width stretches start end - columns;

@@ -3,13 +3,14 @@
 //! From the last stretch to the first, the best line to begin with it is sought, and kept with what it and all lines
 //! after it cost. Only lines that fit are tried, the longest first, and the one that holds only this stretch. All lines
 //! after an end that is in reach cost at least a floor. Shorter lines are not tried once the columns that they are
-//! short of, added to the floor, cost as much as the best line. The floor of a place is the lesser of that of the next one
-//! and of what the place costs itself. It is sought anew only once in the length of a line.
+//! short of, added to the floor, cost as much as the best line. The floor of a place is the lesser of that of the next
+//! one and of what the place costs itself. It is sought anew only once in the length of a line.
 //!
-//! The division that costs the least without a ladder costs the least with one that it keeps to, too. So it is sought first.
-//! Else the cost of lines depends on the hyphens in a row before them. So with a ladder of n lines the best line is sought
-//! after each run of 0 to n hyphens. After a longer run it is that after n. A line that is known to be the best after
-//! longer runs, too, is sought and kept once for all of them. So at most places there are few. Each run has its own floor.
+//! The division that costs the least without a ladder costs the least with one that it keeps to, too. So it is sought
+//! first. Else the cost of lines depends on the hyphens in a row before them. So with a ladder of n lines the best line
+//! is sought after each run of 0 to n hyphens. After a longer run it is that after n. A line that is known to be the
+//! best after longer runs, too, is sought and kept once for all of them. So at most places there are few. Each run has
+//! its own floor.
 
 ghost use Rattle.std.specs.Prelude.{◌≡◌, ℕ, ◌+◌, ◌-◌, ◌*◌, ◌^◌, ◌<◌, ◌≤◌, ◌⊎◌, true, IfOk, MatchBool, length};
 ghost use Rattle.line_division.specs.Lines.{line_width, wanted_columns, line_over};
@@ -18,7 +19,8 @@ ghost use Rattle.line_division.specs.Cost.{CostsNoMore};
 ghost use Rattle.line_division.specs.Private.Best.{runs, run_of, floor_after, IsSmall, EachIsLow};
 ghost use Rattle.line_division.specs.Private.Plain.{IsSpentAlone};
 ghost use Rattle.line_division.specs.Private.Problem.{line_cost_of, IsMadeOf, AreBestOf, AreBestFrom, AreBestWith};
-ghost use Rattle.line_division.specs.Private.Problem.{CostsLeastWith, KeepsLadderWith, IsBestOf, IsFloorOf, GivesFloorOf};
+ghost use Rattle.line_division.specs.Private.Problem.{CostsLeastWith, KeepsLadderWith, IsBestOf, IsFloorOf};
+ghost use Rattle.line_division.specs.Private.Problem.{GivesFloorOf};
 ghost use Rattle.line_division.specs.Private.Problem.{GiveFloorsOf, AreFloorsOf};
 ghost use Rattle.line_division.specs.Private.Reaches.{IsReach};
 ghost use Rattle.line_division.specs.Private.Table.{IsOpen};
@@ -164,8 +166,8 @@ fn lesser(one: Cost, other: Cost) -> Cost
     if other.is_less(one) { other } else { one }
 }
 
-// Returns what an end costs after a run of hyphens, with the best lines after it. It is all but what its own line spends
-// and has too many.
+// Returns what an end costs after a run of hyphens, with the best lines after it. It is all but what its own line
+// spends and has too many.
 #[inline(always)]
 fn cost_after(problem: Problem, choices: &Choices, run: usize, end: usize) -> Cost
     requires run { run < runs problem.ladder }
@@ -230,8 +232,8 @@ fn next_floor(problem: Problem, choices: &Choices, run: usize, span: Span, floor
     lesser(floor, cost_after(problem, choices, run, span.start))
 }
 
-// Makes the floors of lines that end a stretch later those of lines that end in a span. There is one for each run that is
-// not empty.
+// Makes the floors of lines that end a stretch later those of lines that end in a span. There is one for each run that
+// is not empty.
 #[inline(always)]
 fn next_floors(problem: Problem, choices: &Choices, span: Span, floors: &mut Vec<Cost>)
     requires order { span.start ≤ span.last }
@@ -356,8 +358,8 @@ fn last_run(begin: Begin, choices: &Choices, best: Choice) -> u8
     kept_at(choices, run + 1, best.end).last_run - 1
 }
 
-// Keeps the line that is best to begin at a place after no hyphens. Returns the shortest run after which it is not known
-// to be the best.
+// Keeps the line that is best to begin at a place after no hyphens. Returns the shortest run after which it is not
+// known to be the best.
 #[inline(always)]
 fn put_first(problem: Problem, choices: &mut Choices, start: usize, best: Choice) -> usize
     requires start { start < length problem.stretches.now }
@@ -528,8 +530,9 @@ fn best_lines(alloc: Global, problem: Problem) -> Result<Choices, AllocError>
 
 // Returns the best line to begin at each place, after each run of hyphens.
 //
-// Most often there is no ladder, and no single stretch is too wide for a line. Then no line has excess or is over the ladder.
-// The code is compiled once for these paragraphs, once for others without a ladder, and once for those with one.
+// Most often there is no ladder, and no single stretch is too wide for a line. Then no line has excess or is over the
+// ladder. The code is compiled once for these paragraphs, once for others without a ladder, and once for those with
+// one.
 fn best_lines_for(
     alloc: Global,
     paragraph: Paragraph,

@@ -69,8 +69,8 @@ fn greater(one: u32, other: u32) -> u32
     if one < other { other } else { one }
 }
 
-// Returns the most columns that parts of stretches have. Each part is compared by itself, since the compiler then compares
-// those of several stretches at once.
+// Returns the most columns that parts of stretches have. Each part is compared by itself, since the compiler then
+// compares those of several stretches at once.
 #[inline(always)]
 pub(crate) fn widest_of(stretches: &[Stretch]) -> Widest
     ensures { AreMost stretches.now result }

@@ -35,8 +35,8 @@ fn own_width(stretch: &Stretch) -> u64
     widened(stretch.width) + widened(stretch.closing)
 }
 
-// Reports whether a line from a start to a stretch that ends it holds more than one. Where each single stretch fits, this
-// is known of a line that does not fit.
+// Reports whether a line from a start to a stretch that ends it holds more than one. Where each single stretch fits,
+// this is known of a line that does not fit.
 #[inline(always)]
 fn holds_more(plain: bool, start: usize, last: usize) -> bool
     requires order { start ≤ last }

@@ -10,7 +10,8 @@ ghost use Rattle.std.specs.Prelude.{◌≡◌, ◌^◌, ◌<◌};
 /// ```
 ///
 /// A word before a space has a joint of 1 and no closing. A syllable before a break has no joint, and a closing of 1
-/// for its hyphen, and is `hyphenated`. The indent of a line is in the opening of each stretch with which it could begin.
+/// for its hyphen, and is `hyphenated`. The indent of a line is in the opening of each stretch with which it could
+/// begin.
 #[derive(Clone, Copy, Debug)]
 pub struct Stretch {
     /// Those of the text that is set before it where a line begins with it.

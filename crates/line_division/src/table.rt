@@ -1,12 +1,11 @@
 //! The lines that are best to begin at each place, after each run of hyphens.
 //!
-//! Most often one line is the best after many runs. So it is kept once, with the longest run after which it is known to be
-//! the best. At most places that is one line. The lines of a place are in the order of their runs: the first one by itself,
-//! and all others in one list.
+//! Most often one line is the best after many runs. So it is kept once, with the longest run after which it is known to
+//! be the best. At most places that is one line. The lines of a place are in the order of their runs: the first one by
+//! itself, and all others in one list.
 
 ghost use Rattle.std.specs.Prelude.{◌≡◌, ℕ, ◌+◌, ◌^◌, ◌<◌, ◌≤◌, Option, length, drop};
-ghost use Rattle.std.specs.List.{slice_index_or};
-ghost use Rattle.line_division.specs.Private.Table.{kept_for, HasRun, kept_at, choice_at, row_at, IsKept};
+ghost use Rattle.line_division.specs.Private.Table.{kept_for, HasRun, begin_at, kept_at, choice_at, row_at, IsKept};
 
 use crate::cost::Cost;
 
@@ -87,8 +86,8 @@ pub(crate) fn begin_others(choices: &mut Choices, runs: usize, place: usize)
     ensures firsts { choices.new.firsts.items ≡ choices.old.firsts.items }
     ensures others { choices.new.others.items ≡ choices.old.others.items }
     ensures many { length choices.new.begins.items ≡ length choices.old.begins.items }
-    ensures here { 1 < runs → slice_index_or choices.new.begins.items place 0 ≡ length choices.old.others.items }
-    ensures later { (e : ℕ) → place < e → slice_index_or choices.new.begins.items e 0 ≡ slice_index_or choices.old.begins.items e 0 }
+    ensures here { 1 < runs → begin_at choices.new place ≡ length choices.old.others.items }
+    ensures later { (e : ℕ) → place < e → begin_at choices.new e ≡ begin_at choices.old e }
 {
     if 1 < runs {
         choices.begins[place] = choices.others.len();

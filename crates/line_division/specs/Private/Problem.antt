@@ -42,7 +42,8 @@ CostsLeastWith paragraph ladder row =
 abbrev pub KeepsLadderWith : Paragraph → Option ℕ → List ℕ → Type 0
 KeepsLadderWith paragraph ladder row = KeepsLadderIfAny paragraph.stretches.now paragraph.columns ladder row
 
--- A choice is the best one after a run, at a start. It is made of a line and the best lines after it, and its cost is small.
+-- A choice is the best one after a run, at a start. It is made of a line and the best lines after it, and its cost is
+-- small.
 pub record IsBestOf (problem : Problem) (choices : Choices) (run start : ℕ) (choice : Choice) : Type 0 where
   pub least : IsLeast problem.stretches.now problem.columns problem.last_columns problem.ladder run start choice.cost
   pub made : IsMadeOf problem choices run start choice
@@ -58,8 +59,8 @@ abbrev pub EachIsFloorOf : Problem → ℕ → ℕ → List Cost → Type 0
 EachIsFloorOf problem first last floors =
     EachIsFloor problem.stretches.now problem.columns problem.last_columns problem.ladder first last floors
 
--- A floor of the lines that end a stretch later, and at the last place or after it, gives the next floor: that of the lines
--- that end at a place from a start to the last one. No line ends at the first place of all.
+-- A floor of the lines that end a stretch later, and at the last place or after it, gives the next floor: that of the
+-- lines that end at a place from a start to the last one. No line ends at the first place of all.
 abbrev pub GivesFloorOf : Problem → ℕ → ℕ → ℕ → Cost → Cost → Type 0
 GivesFloorOf problem run start last floor next = 0 < start → (upto : ℕ) → last ≤ upto
     → IsFloorOf problem run (start + 1) upto floor → IsFloorOf problem run start last next

@@ -25,9 +25,14 @@ abbrev pub AreShorter : List Kept → ℕ → Type 0
 AreShorter [] run = ⊤
 AreShorter (kept ∷ row) run = (kept.last_run < run) × AreShorter row run
 
+-- Where the lines of a place begin among the others.
+abbrev pub begin_at : Choices → ℕ → ℕ
+begin_at choices place = slice_index_or choices.begins.items place 0
+
 -- The lines that are kept for a place, and what comes after them in the list of the others.
 abbrev pub row_at : Choices → ℕ → List Kept
-row_at choices place = slice_index_or choices.firsts.items place none_kept ∷ drop (slice_index_or choices.begins.items place 0) choices.others.items
+row_at choices place =
+    slice_index_or choices.firsts.items place none_kept ∷ drop (begin_at choices place) choices.others.items
 
 -- The line that is kept for a place after a run.
 abbrev pub kept_at : Choices → ℕ → ℕ → Kept
@@ -39,8 +44,11 @@ choice_at choices run place = record { cost = (kept_at choices run place).cost; 
 
 -- A line is kept for a place after a run.
 abbrev pub IsKept : Choices → ℕ → ℕ → Type 0
-IsKept choices run place = (place < length choices.firsts.items) × HasRun (row_at choices place) run × (1 ≤ run → place < length choices.begins.items)
+IsKept choices run place =
+    (place < length choices.firsts.items) × HasRun (row_at choices place) run
+    × (1 ≤ run → place < length choices.begins.items)
 
 -- The lines of a place are the last ones of the others, and are for shorter runs.
 abbrev pub IsOpen : Choices → ℕ → ℕ → Type 0
-IsOpen choices run place = AreShorter (row_at choices place) run × (slice_index_or choices.begins.items place 0 ≤ length choices.others.items)
+IsOpen choices run place =
+    AreShorter (row_at choices place) run × (begin_at choices place ≤ length choices.others.items)
