@@ -27,7 +27,7 @@ ghost use Rattle.line_division.specs.Private.Table.{IsOpen};
 
 use crate::cost::Cost;
 use crate::ladder::{hyphens_to, keeps_ladder};
-use crate::problem::{Begin, Paragraph, Problem, each_fits, widest_of};
+use crate::problem::{Begin, MeasuredParagraph, Problem, each_fits, widest_of};
 use crate::reach::{Reach, last_reach, longest_line, reach_before};
 use crate::stretch::{Stretch, widened};
 use crate::table::{Choice, Choices, Kept, begin_others, choice_at, kept_at};
@@ -535,12 +535,12 @@ fn best_lines(alloc: Global, problem: Problem) -> Result<Choices, AllocError>
 // one.
 fn best_lines_for(
     alloc: Global,
-    paragraph: Paragraph,
+    paragraph: MeasuredParagraph,
     ladder: Option<u8>,
 ) -> Result<Choices, AllocError>
     ensures { IfOk result (λ choices. AreBestWith paragraph.entry ladder choices) }
 {
-    let Paragraph {
+    let MeasuredParagraph {
         stretches,
         columns,
         last_columns,
@@ -588,7 +588,7 @@ fn best_lines_for(
 // Returns the ends of the lines of a paragraph, divided so that it costs the least.
 fn best_ends(
     alloc: Global,
-    paragraph: Paragraph,
+    paragraph: MeasuredParagraph,
     ladder: Option<u8>,
 ) -> Result<Vec<usize>, AllocError>
     ensures divides { IfOk result (λ ends. Divides paragraph.entry.stretches.now paragraph.entry.columns 0 ends.items) }
@@ -632,7 +632,7 @@ pub fn even_ends(
     ensures fits { IfOk result (λ ends. FitsIfAny stretches.now columns ends.items) }
     ensures ladder { IfOk result (λ ends. KeepsLadderIfAny stretches.now columns ladder ends.items) }
 {
-    let paragraph = Paragraph {
+    let paragraph = MeasuredParagraph {
         stretches,
         columns,
         last_columns,

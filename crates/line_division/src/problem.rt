@@ -9,7 +9,7 @@ use crate::stretch::{Stretch, widened};
 
 // A paragraph, and the columns of its lines.
 #[derive(Clone, Copy)]
-pub(crate) struct Paragraph<'s> {
+pub(crate) struct MeasuredParagraph<'s> {
     // Its stretches.
     pub(crate) stretches: &'s [Stretch],
     // The most columns of a line.

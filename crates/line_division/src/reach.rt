@@ -1,9 +1,9 @@
 //! How far lines reach.
 
-ghost use Rattle.std.specs.Prelude.{◌≡◌, ℕ, ◌+◌, ◌-◌, ◌^◌, ◌<◌, ◌≤◌, true, MatchBool, length, sum_by, slice_range};
-ghost use Rattle.line_division.specs.Lines.{stretch_at, line_width, joined_width};
+ghost use Rattle.std.specs.Prelude.{◌≡◌, ℕ, ◌+◌, ◌-◌, ◌^◌, ◌<◌, ◌≤◌, true, MatchBool, length};
+ghost use Rattle.line_division.specs.Lines.{line_width, joined_width};
 ghost use Rattle.line_division.specs.Greedy.{IsFurthest};
-ghost use Rattle.line_division.specs.Private.Reaches.{IsReach};
+ghost use Rattle.line_division.specs.Private.Reaches.{IsReach, columns_before};
 
 use crate::problem::Problem;
 use crate::stretch::{Stretch, widened};
@@ -111,8 +111,7 @@ pub(crate) struct Longest {
 pub(crate) fn longest_line(problem: Problem, start: usize, reach: Reach) -> Longest
     requires { IsReach problem.stretches.now problem.columns start reach }
     ensures furthest { IsFurthest problem.entry.stretches.now problem.entry.columns start (result.last + 1) }
-    ensures joined { result.joined ≡ (stretch_at problem.entry.stretches.now start).opening
-        + sum_by joined_width (slice_range problem.entry.stretches.now start result.last) }
+    ensures joined { result.joined ≡ columns_before problem.entry.stretches.now start result.last }
     ensures wide { result.wide ≡ line_width problem.entry.stretches.now start (result.last + 1) }
     ensures small { result.joined < 2 ^ 33 }
     ensures narrow { result.wide < 2 ^ 34 }

@@ -64,7 +64,7 @@ pub record AreBest (stretches : List Stretch) (columns last_columns : ℕ) (ladd
 abbrev pub over_cost : Option ℕ → ℕ → Cost
 over_cost ladder hyphens = record { excess = 0; over = line_over ladder hyphens; spent = 0 }
 
--- What an end costs at which that many hyphens are in a row, with the lines to a row of ends after it. It is all but
+-- The cost of an end at which that many hyphens are in a row, with the lines to a row of ends after it. It is all but
 -- what its own line spends and has too many.
 abbrev pub end_cost : List Stretch → ℕ → ℕ → Option ℕ → ℕ → ℕ → List ℕ → Cost
 end_cost stretches columns last_columns ladder hyphens end row =

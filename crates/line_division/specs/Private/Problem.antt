@@ -1,7 +1,7 @@
 -- The best lines of a paragraph that is to be divided.
 use Rattle.std.specs.Prelude.{◌≡◌, ℕ, ◌+◌, ◌-◌, ◌<◌, ◌≤◌, Option, List, length}
 use Rattle.line_division.specs.declared.cost.Cost.{Cost}
-use Rattle.line_division.specs.declared.problem.Paragraph.{Paragraph}
+use Rattle.line_division.specs.declared.problem.MeasuredParagraph.{MeasuredParagraph}
 use Rattle.line_division.specs.declared.problem.Problem.{Problem}
 use Rattle.line_division.specs.declared.table.Choice.{Choice}
 use Rattle.line_division.specs.declared.table.Choices.{Choices}
@@ -29,17 +29,17 @@ abbrev pub AreBestFrom : Problem → Choices → ℕ → Type 0
 AreBestFrom problem choices low = AreBestOf problem choices low (runs problem.ladder)
 
 -- The choices for all places of a paragraph are the best ones with a ladder.
-abbrev pub AreBestWith : Paragraph → Option ℕ → Choices → Type 0
+abbrev pub AreBestWith : MeasuredParagraph → Option ℕ → Choices → Type 0
 AreBestWith paragraph ladder choices =
     AreBest paragraph.stretches.now paragraph.columns paragraph.last_columns ladder choices 0 (runs ladder)
 
 -- No division of a paragraph costs less with a ladder than a row of ends.
-abbrev pub CostsLeastWith : Paragraph → Option ℕ → List ℕ → Type 0
+abbrev pub CostsLeastWith : MeasuredParagraph → Option ℕ → List ℕ → Type 0
 CostsLeastWith paragraph ladder row =
     CostsLeast paragraph.stretches.now paragraph.columns paragraph.last_columns ladder row
 
 -- A row of ends keeps to a ladder, if there is a division of the paragraph that does and whose lines fit.
-abbrev pub KeepsLadderWith : Paragraph → Option ℕ → List ℕ → Type 0
+abbrev pub KeepsLadderWith : MeasuredParagraph → Option ℕ → List ℕ → Type 0
 KeepsLadderWith paragraph ladder row = KeepsLadderIfAny paragraph.stretches.now paragraph.columns ladder row
 
 -- A choice is the best one after a run, at a start. It is made of a line and the best lines after it, and its cost is

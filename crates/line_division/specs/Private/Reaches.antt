@@ -13,6 +13,11 @@ pub record IsReach (stretches : List Stretch) (columns start : ℕ) (reach : Rea
   pub beyond : (k : ℕ) → reach.last < k → k < length stretches
       → columns < sum_by joined_width (slice_range stretches start k) + (stretch_at stretches k).width
 
+-- The columns of a line from a start, before its last stretch.
+abbrev pub columns_before : List Stretch → ℕ → ℕ → ℕ
+columns_before stretches start last =
+    (stretch_at stretches start).opening + sum_by joined_width (slice_range stretches start last)
+
 -- No closing has more columns.
 abbrev pub IsMostClosing : List Stretch → ℕ → Type 0
 IsMostClosing stretches most = (k : ℕ) → (stretch_at stretches k).closing ≤ most
