@@ -10,17 +10,18 @@ use Rattle.paragraphs.specs.Parts.{Style, parts_of, ArePlain}
 use Rattle.paragraphs.specs.declared.setting.Aim.{Aim}
 use Rattle.paragraphs.specs.declared.setting.Aim.TheVariants.{Full, Even}
 
--- Each line holds as much as fits. In an orderly paragraph no division whose lines fit has fewer lines, and where there is
--- one, these lines fit.
+-- Each line holds as much as fits. In an orderly paragraph no division whose lines fit has fewer lines, and where there
+-- is one, these lines fit.
 pub record IsFull (stretches : List Stretch) (columns : ℕ) (row : List ℕ) : Type 0 where
   pub divides : Divides stretches columns 0 row
   pub furthest : AreFurthest stretches columns 0 row
   pub fewest : IsOrderly stretches → IsFewest stretches columns row
   pub fits : IsOrderly stretches → FitsIfAny stretches columns row
 
--- No division costs less. Where there is one whose lines fit, these do. Where these can keep to a ladder, they do: no more
--- of them in a row end in a hyphen.
-pub record IsEven (stretches : List Stretch) (columns last_columns : ℕ) (ladder : Option ℕ) (row : List ℕ) : Type 0 where
+-- No division costs less. Where there is one whose lines fit, these do. Where these can keep to a ladder, they do: no
+-- more of them in a row end in a hyphen.
+pub record IsEven (stretches : List Stretch) (columns last_columns : ℕ) (ladder : Option ℕ) (row : List ℕ)
+    : Type 0 where
   pub divides : Divides stretches columns 0 row
   pub least : CostsLeast stretches columns last_columns ladder row
   pub fits : FitsIfAny stretches columns row
@@ -31,8 +32,8 @@ abbrev pub IsAimedAt : Aim → List Stretch → ℕ → List ℕ → Type 0
 IsAimedAt Full stretches columns row = IsFull stretches columns row
 IsAimedAt (Even last_columns ladder) stretches columns row = IsEven stretches columns last_columns ladder row
 
--- These are lines of a paragraph's parts, to ends as an aim asks for them. Nothing is lost: as they would be in one line, they
--- join to the whole paragraph.
+-- These are lines of a paragraph's parts, to ends as an aim asks for them. Nothing is lost: as they would be in one
+-- line, they join to the whole paragraph.
 pub record IsSet (aim : Aim) (parts : List Setting) (columns : ℕ) (lines : List (List ℕ)) : Type 0 where
   pub row : List ℕ
   pub aimed : IsAimedAt aim (map stretch_of parts) columns row

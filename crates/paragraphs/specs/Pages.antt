@@ -9,9 +9,10 @@ use Rattle.paragraphs.specs.Aims.{IsSet, IsOrderlyIfPlain}
 use Rattle.paragraphs.specs.Settings.{IsTooLong}
 use Rattle.paragraphs.specs.Parts.{Style, parts_of, KeepWords}
 
--- These are lines of a paragraph, as an aim asks for them, and no word of it is lost. Where no break changes letters, the
--- paragraph is orderly.
-pub record IsFilled (aim : Aim) (breaks_of : List ℕ → List Break) (style : Style) (columns : ℕ) (text : List ℕ) (lines : List (List ℕ)) : Type 0 where
+-- These are lines of a paragraph, as an aim asks for them, and no word of it is lost. Where no break changes letters,
+-- the paragraph is orderly.
+pub record IsFilled (aim : Aim) (breaks_of : List ℕ → List Break) (style : Style) (columns : ℕ)
+    (text : List ℕ) (lines : List (List ℕ)) : Type 0 where
   pub set : IsSet aim (parts_of breaks_of style (words text)) columns lines
   pub keeps : KeepWords breaks_of style (words text)
   pub orderly : IsOrderlyIfPlain breaks_of style (words text)
@@ -34,7 +35,8 @@ page [] = []
 page (first ∷ others) = first ++ flat_map apart others
 
 -- These are the lines of all paragraphs of a text.
-pub record IsPage (aim : Aim) (breaks_of : List ℕ → List Break) (style : Style) (columns : ℕ) (text : List ℕ) (lines : List (List ℕ)) : Type 0 where
+pub record IsPage (aim : Aim) (breaks_of : List ℕ → List Break) (style : Style) (columns : ℕ)
+    (text : List ℕ) (lines : List (List ℕ)) : Type 0 where
   pub rows : List (List (List ℕ))
   pub each : AreFilled aim breaks_of style columns (paragraphs text) rows
   pub whole : lines ≡ page rows

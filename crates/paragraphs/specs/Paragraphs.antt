@@ -1,5 +1,6 @@
 -- The paragraphs of a text.
-use Rattle.std.specs.Prelude.{◌≡◌, ℕ, ◌<◌, ◌==◌, Bool, false, not, if◌then◌else◌, List, [], ◌∷◌, ◌++◌, All, IsTrue, length, chars}
+use Rattle.std.specs.Prelude.{◌≡◌, ℕ, ◌<◌, ◌==◌, Bool, false, not, if◌then◌else◌, List, [], ◌∷◌, ◌++◌, All, IsTrue}
+use Rattle.std.specs.Prelude.{length, chars}
 use Rattle.std.specs.List.{flat_map, list_all, slice_split}
 use Rattle.paragraphs.specs.Words.{is_gap, if_any}
 
@@ -19,8 +20,8 @@ is_blank line = list_all is_gap (chars line)
 abbrev pub ended : List ℕ → List ℕ
 ended line = line ++ 10 ∷ []
 
--- The paragraphs of lines, where this much of the first one is before them. A blank line ends a paragraph, and any other
--- line goes on with it.
+-- The paragraphs of lines, where this much of the first one is before them. A blank line ends a paragraph, and any
+-- other line goes on with it.
 abbrev pub gather : List ℕ → List (List ℕ) → List (List ℕ)
 gather gathered [] = if_any gathered
 gather gathered (line ∷ lines) =

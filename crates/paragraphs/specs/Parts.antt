@@ -1,5 +1,6 @@
 -- The words of a paragraph, and where they may be broken.
-use Rattle.std.specs.Prelude.{◌≡◌, ℕ, ◌+◌, ◌&&◌, nat_lt, Bool, None, All, if◌then◌else◌, List, [], ◌∷◌, ◌++◌, length, map, drop, slice_range}
+use Rattle.std.specs.Prelude.{◌≡◌, ℕ, ◌+◌, ◌&&◌, nat_lt, Bool, None, All, if◌then◌else◌, List, [], ◌∷◌, ◌++◌, length}
+use Rattle.std.specs.Prelude.{map, drop, slice_range}
 use Rattle.std.specs.List.{flat_map}
 use Rattle.addresses.specs.Addresses.{is_address}
 use Rattle.unicode_segmentation.specs.Segments.{with_offsets}
@@ -44,8 +45,8 @@ part_at style word opening from b = record {
   price = style.price;
 }
 
--- The parts of a word from a place on, where the first one has this opening. There is one up to each break, and the last one,
--- with a space between it and the next word.
+-- The parts of a word from a place on, where the first one has this opening. There is one up to each break, and the
+-- last one, with a space between it and the next word.
 abbrev pub parts_from : Style → List ℕ → List ℕ → ℕ → List Break → List Setting
 parts_from style word opening from [] =
     record { opening = opening; text = drop from word; joint = space ∷ []; closing = []; price = 0 } ∷ []

@@ -1,12 +1,14 @@
 -- The parts of a paragraph, its lines, and their columns.
-use Rattle.std.specs.Prelude.{◌≡◌, ℕ, ◌-◌, ◌^◌, ◌≤◌, ◌⊎◌, ◌==◌, ◌&&◌, nat_lt, Bool, false, not, List, [], ◌∷◌, ◌++◌, length, filter, slice_range, chars}
+use Rattle.std.specs.Prelude.{◌≡◌, ℕ, ◌-◌, ◌^◌, ◌≤◌, ◌⊎◌, ◌==◌, ◌&&◌, nat_lt, Bool, false, not, List, [], ◌∷◌, ◌++◌}
+use Rattle.std.specs.Prelude.{length, filter, slice_range, chars}
 use Rattle.std.specs.List.{slice_index_or, flat_map, list_all}
 use Rattle.std.specs.Str.{encode_utf8_all}
 use Rattle.unicode_width.specs.Width.{str_width}
 use Rattle.line_division.specs.declared.stretch.Stretch.{Stretch}
 
--- A part of a paragraph, as texts. One is set before it where a line begins with it, and then comes its own text. One is
--- between it and the next part of a line, and one is set after it where a line ends with it. The price is that of this end.
+-- A part of a paragraph, as texts. One is set before it where a line begins with it, and then comes its own text. One
+-- is between it and the next part of a line, and one is set after it where a line ends with it. The price is that of
+-- this end.
 pub record Setting : Type 0 where
   pub opening : List ℕ
   pub text : List ℕ
@@ -57,8 +59,8 @@ shown_text part = shown part.text ++ shown part.joint
 abbrev pub last_text : Setting → List ℕ
 last_text part = shown part.text ++ part.closing
 
--- The line from a start to an end after it. It is the opening of its first part, all but the last one with their joints, and
--- the last one with its closing.
+-- The line from a start to an end after it. It is the opening of its first part, all but the last one with their
+-- joints, and the last one with its closing.
 abbrev pub line_text : List Setting → ℕ → ℕ → List ℕ
 line_text parts start end =
     (setting_at parts start).opening ++ flat_map shown_text (slice_range parts start (end - 1))
@@ -69,8 +71,8 @@ abbrev pub lines_to : List Setting → ℕ → List ℕ → List (List ℕ)
 lines_to parts start [] = []
 lines_to parts start (end ∷ ends) = line_text parts start end ∷ lines_to parts end ends
 
--- The same lines as they would be if the paragraph were one line: with all joints and soft hyphens, and without openings and
--- closings.
+-- The same lines as they would be if the paragraph were one line: with all joints and soft hyphens, and without
+-- openings and closings.
 abbrev pub unbroken_to : List Setting → ℕ → List ℕ → List (List ℕ)
 unbroken_to parts start [] = []
 unbroken_to parts start (end ∷ ends) = flat_map joined_text (slice_range parts start end) ∷ unbroken_to parts end ends

@@ -1,5 +1,6 @@
 -- The words of a text.
-use Rattle.std.specs.Prelude.{◌≡◌, ℕ, ◌==◌, ◌&&◌, ◌||◌, Bool, not, if◌then◌else◌, List, [], ◌∷◌, ◌++◌, length, chars, encode_utf8}
+use Rattle.std.specs.Prelude.{◌≡◌, ℕ, ◌==◌, ◌&&◌, ◌||◌, Bool, not, if◌then◌else◌, List, [], ◌∷◌, ◌++◌, length, chars}
+use Rattle.std.specs.Prelude.{encode_utf8}
 use Rattle.std.specs.Char.{is_whitespace}
 
 -- A no-break space: at it no line ends.

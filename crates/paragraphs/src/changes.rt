@@ -20,20 +20,20 @@ pub struct Sides<'t> {
 
 // The changes on both sides of a part. Most parts have none. Then they take no memory but their place.
 #[derive(Debug, Drop)]
-pub struct Changes<'t> {
+pub struct PartChanges<'t> {
     sides: Option<Box<Sides<'t>>>,
 }
 
-impl<'t> Changes<'t> {
+impl<'t> PartChanges<'t> {
     // No change.
     #[inline(always)]
-    pub(crate) fn none() -> Changes<'t>
+    pub(crate) fn none() -> PartChanges<'t>
         ensures after { after_bytes result ≡ [] }
         ensures joint { joint_bytes result true ≡ [] }
         ensures space { joint_bytes result false ≡ space ∷ [] }
         ensures before { before_bytes result ≡ [] }
     {
-        Changes { sides: None }
+        PartChanges { sides: None }
     }
 
     // Makes them of the texts on both sides of a part.
@@ -42,7 +42,7 @@ impl<'t> Changes<'t> {
         after: String,
         joint: &'t str,
         before: String,
-    ) -> Result<Changes<'t>, AllocError>
+    ) -> Result<PartChanges<'t>, AllocError>
         ensures after { IfOk result (λ changes. after_bytes changes ≡ string_bytes after) }
         ensures joint { IfOk result (λ changes. (broken : Bool) → joint_bytes changes broken ≡ joint.now) }
         ensures before { IfOk result (λ changes. before_bytes changes ≡ string_bytes before) }
@@ -52,7 +52,7 @@ impl<'t> Changes<'t> {
             joint,
             before,
         };
-        Ok(Changes {
+        Ok(PartChanges {
             sides: Some(Box::new(alloc, sides)?),
         })
     }
@@ -64,29 +64,29 @@ impl<'t> Changes<'t> {
         after: String,
         joint: &'t str,
         before: &str,
-    ) -> Result<Changes<'t>, AllocError>
+    ) -> Result<PartChanges<'t>, AllocError>
         ensures after { IfOk result (λ changes. after_bytes changes ≡ string_bytes after) }
         ensures joint { IfOk result (λ changes. joint_bytes changes true ≡ joint.now) }
         ensures before { IfOk result (λ changes. before_bytes changes ≡ before.now) }
     {
         if after.is_empty() && joint.is_empty() && before.is_empty() {
-            return Ok(Changes::none());
+            return Ok(PartChanges::none());
         }
         let owned = String::from_str(alloc, before)?;
-        Changes::of(alloc, after, joint, owned)
+        PartChanges::of(alloc, after, joint, owned)
     }
 
     // Makes those of the last part of a word.
     #[inline(always)]
-    pub(crate) fn at_end(alloc: Global, after: String) -> Result<Changes<'t>, AllocError>
+    pub(crate) fn at_end(alloc: Global, after: String) -> Result<PartChanges<'t>, AllocError>
         ensures after { IfOk result (λ changes. after_bytes changes ≡ string_bytes after) }
         ensures space { IfOk result (λ changes. joint_bytes changes false ≡ space ∷ []) }
         ensures before { IfOk result (λ changes. before_bytes changes ≡ []) }
     {
         if after.is_empty() {
-            return Ok(Changes::none());
+            return Ok(PartChanges::none());
         }
-        Changes::of(alloc, after, " ", String::new(alloc))
+        PartChanges::of(alloc, after, " ", String::new(alloc))
     }
 
     // Returns the second half of the change before a part.

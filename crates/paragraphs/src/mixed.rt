@@ -16,7 +16,7 @@ ghost use Rattle.paragraphs.specs.Styles.{style_of};
 ghost use Rattle.paragraphs.specs.Parts.{word_parts, other_parts, parts_of};
 ghost use Rattle.paragraphs.specs.Words.{words};
 
-use crate::changes::Changes;
+use crate::changes::PartChanges;
 use crate::part::Part;
 use crate::parting::PlacedWord;
 use crate::placed_parts::PlacedParts;
@@ -85,7 +85,7 @@ fn push_whole<'s, 't>(
     mixed.parts.push(Part {
         style,
         text,
-        changes: Changes::none(),
+        changes: PartChanges::none(),
         // The text is a run of words already, so its place is of no use.
         start: Part::NOWHERE,
         indent: Indent::Other,

@@ -5,7 +5,7 @@ ghost use Rattle.std.specs.List.{list_all};
 ghost use Rattle.paragraphs.specs.Private.Changes.{joint_bytes};
 ghost use Rattle.paragraphs.specs.Private.Printable.{is_printable};
 
-use crate::changes::Changes;
+use crate::changes::PartChanges;
 use crate::style::{Indent, Style, indent_of};
 use std::mem::size_of;
 
@@ -27,7 +27,7 @@ pub struct Part<'s, 't> {
     // Its own text, with soft hyphens.
     pub text: &'t str,
     // The texts before it, after it, and between it and the next part, where letters are changed.
-    pub changes: Changes<'t>,
+    pub changes: PartChanges<'t>,
     // Where its text begins in the text of the paragraph, in bytes. Where its joint is not there, it is `NOWHERE`.
     pub start: u32,
     // The indent of a line that begins with it.

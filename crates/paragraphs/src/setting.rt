@@ -1,12 +1,14 @@
 //! Lines of parts.
 
-ghost use Rattle.std.specs.Prelude.{◌≡◌, ℕ, ◌+◌, ◌*◌, ◌-◌, ◌^◌, ◌<◌, ◌≤◌, ◌++◌, List, true, false, if◌then◌else◌, IfOk, IfSome, OnOk, MatchOption, length, map};
+ghost use Rattle.std.specs.Prelude.{◌≡◌, ℕ, ◌+◌, ◌*◌, ◌-◌, ◌^◌, ◌<◌, ◌≤◌, ◌++◌, List, true, false, if◌then◌else◌, IfOk};
+ghost use Rattle.std.specs.Prelude.{IfSome, OnOk, MatchOption, length, map};
 ghost use Rattle.std.specs.List.{list_all};
 ghost use Rattle.std.specs.String.{string_bytes};
 ghost use Rattle.paragraphs.specs.Aims.{IsAimedAt, IsSet};
 ghost use Rattle.paragraphs.specs.Private.Ends.{Rise};
 ghost use Rattle.paragraphs.specs.Private.Places.{StandsIn, IsSliceOf, IsPlaced, GrowsBy, slice_bytes};
-ghost use Rattle.paragraphs.specs.Private.PartSettings.{hyphen_if, joint_of, setting_of, settings_of, is_short_part, IsShort, IsBare};
+ghost use Rattle.paragraphs.specs.Private.PartSettings.{hyphen_if, joint_of, setting_of, settings_of, is_short_part};
+ghost use Rattle.paragraphs.specs.Private.PartSettings.{IsShort, IsBare};
 ghost use Rattle.paragraphs.specs.Settings.{columns_of, shown, stretch_of, shown_text, last_text, line_text, lines_to};
 
 use crate::length::is_short;

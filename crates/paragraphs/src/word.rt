@@ -8,7 +8,7 @@ ghost use Rattle.paragraphs.specs.Styles.{style_of};
 ghost use Rattle.paragraphs.specs.Parts.{set_off, breaks_in, piece_breaks, word_breaks, word_parts};
 ghost use Rattle.word_pieces.specs.Pieces.{piece_indices_left, IsSlice};
 
-use crate::changes::Changes;
+use crate::changes::PartChanges;
 use crate::part::Part;
 use crate::parting::{OpenPart, PlacedWord};
 use crate::style::Indent;
@@ -57,7 +57,7 @@ fn pass_break<'w, 's, 't, B: Break>(
     parts.push(Part {
         style: word.style,
         text: &word.text[current.from..begin],
-        changes: Changes::at_break(alloc, after, &word.text[begin..end], b.before())?,
+        changes: PartChanges::at_break(alloc, after, &word.text[begin..end], b.before())?,
         start: start_at(word.at + current.from),
         indent: current.indent,
         hyphenated: true,
@@ -186,7 +186,7 @@ pub(crate) fn push_word<'s, 't, 'h, H: Hyphenator<'h>>(
     let last = Part {
         style: word.style,
         text: &word.text[current.from..],
-        changes: Changes::at_end(alloc, current.after)?,
+        changes: PartChanges::at_end(alloc, current.after)?,
         start: last_start(word, current.from),
         indent: current.indent,
         hyphenated: false,

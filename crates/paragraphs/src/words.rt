@@ -1,6 +1,7 @@
 //! The words of a text, one by one.
 
-ghost use Rattle.std.specs.Prelude.{◌≡◌, ◌∷◌, ◌++◌, ◌<◌, ◌≤◌, [], MatchOption, IfSome, IsUtf8, chars, encode_utf8, length};
+ghost use Rattle.std.specs.Prelude.{◌≡◌, ◌∷◌, ◌++◌, ◌<◌, ◌≤◌, [], MatchOption, IfSome, IsUtf8, chars, encode_utf8};
+ghost use Rattle.std.specs.Prelude.{length};
 ghost use Rattle.paragraphs.specs.Words.{is_gap, words, EndsIn};
 ghost use Rattle.paragraphs.specs.Private.Cuts.{begins_with, is_word_part, CutsWord};
 

@@ -1,5 +1,5 @@
--- Parts of a paragraph in which some words are whole. Each part stands for a group of the paragraph's parts: a whole word
--- for all parts of the word, and any other part for itself.
+-- Parts of a paragraph in which some words are whole. Each part stands for a group of the paragraph's parts: a whole
+-- word for all parts of the word, and any other part for itself.
 use Rattle.std.specs.Prelude.{◌≡◌, ℕ, ◌+◌, ◌<◌, ◌≤◌, Bool, true, false, List, [], ◌∷◌, ◌++◌, ⊤, length, map, sum_by}
 use Rattle.std.specs.List.{slice_index_or, flat_map}
 use Rattle.line_division.specs.declared.stretch.Stretch.{Stretch}
@@ -73,15 +73,16 @@ abbrev pub HaveNarrowClosings : List Bool → List Stretch → Type 0
 HaveNarrowClosings wholes stretches = (place : ℕ) → place < length stretches → whole_at wholes (place + 1) ≡ true
     → (stretch_at stretches place).closing ≤ (stretch_at stretches place).joint
 
--- Lines to a row of ends stay the same where the whole words are broken, since none begins with a whole word. The closing
--- before a whole word is no wider than the joint.
+-- Lines to a row of ends stay the same where the whole words are broken, since none begins with a whole word. The
+-- closing before a whole word is no wider than the joint.
 pub record AreSettled (wholes : List Bool) (stretches : List Stretch) (row : List ℕ) : Type 0 where
   pub first : whole_at wholes 0 ≡ false
   pub ends : EndBeforeParts wholes row
   pub closings : HaveNarrowClosings wholes stretches
 
 -- Parts were added, which stand for these.
-pub record AddsMixed (old_wholes : List Bool) (old_parts : List Setting) (new_wholes : List Bool) (new_parts added : List Setting) : Type 0 where
+pub record AddsMixed (old_wholes : List Bool) (old_parts : List Setting) (new_wholes : List Bool)
+    (new_parts added : List Setting) : Type 0 where
   pub entries : List Entry
   pub each : AreEntries entries
   pub wholes : new_wholes ≡ old_wholes ++ wholes_in entries

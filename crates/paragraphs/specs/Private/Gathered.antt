@@ -17,6 +17,9 @@ pub record AreGathered (all : List (List ℕ)) (gathered : List ℕ) (lines : Li
   pub parted : (after : List ℕ) → words (gathered ++ after) ≡ words gathered ++ words after
 
 -- A line was passed: whatever lines follow, the paragraphs stay the same, and so do the words.
-pub record PassesLine (all : List (List ℕ)) (gathered line : List ℕ) (new_all : List (List ℕ)) (new_gathered : List ℕ) : Type 0 where
-  pub paragraphs : (others : List (List ℕ)) → new_all ++ gather new_gathered others ≡ all ++ gather gathered (line ∷ others)
-  pub worded : (lines : List (List ℕ)) → AreGathered all gathered lines → AreGathered new_all new_gathered (lines ++ line ∷ [])
+pub record PassesLine (all : List (List ℕ)) (gathered line : List ℕ) (new_all : List (List ℕ)) (new_gathered : List ℕ)
+    : Type 0 where
+  pub paragraphs : (others : List (List ℕ))
+      → new_all ++ gather new_gathered others ≡ all ++ gather gathered (line ∷ others)
+  pub worded : (lines : List (List ℕ)) → AreGathered all gathered lines
+      → AreGathered new_all new_gathered (lines ++ line ∷ [])

@@ -30,7 +30,8 @@ settings_with parts current breaks =
     (indent_of current.word.now.style.now current.indent ++ string_bytes current.after) current.from breaks
 
 -- These breaks of a word are passed: the parts that are made, and those to come, stay the same.
-pub record Passes (breaks : List Break) (old : List Part) (current : OpenPart) (new : List Part) (next : OpenPart) : Type 0 where
+pub record Passes (breaks : List Break) (old : List Part) (current : OpenPart) (new : List Part) (next : OpenPart)
+    : Type 0 where
   pub word : next.word ≡ current.word
   pub goes : (others : List Break) → settings_with new next others ≡ settings_with old current (breaks ++ others)
 

@@ -1,5 +1,6 @@
 -- Where parts are in the text of their paragraph.
-use Rattle.std.specs.Prelude.{◌≡◌, ℕ, ◌+◌, ◌-◌, ◌<◌, ◌≤◌, ◌^◌, Bool, true, List, [], ◌∷◌, ◌++◌, All, length, slice_range}
+use Rattle.std.specs.Prelude.{◌≡◌, ℕ, ◌+◌, ◌-◌, ◌<◌, ◌≤◌, ◌^◌, Bool, true, List, [], ◌∷◌, ◌++◌, All, length}
+use Rattle.std.specs.Prelude.{slice_range}
 use Rattle.std.specs.Str.{IsCharBoundary, IsUtf8}
 use Rattle.hyphenation_breaks.specs.Ascii.{space}
 use Rattle.paragraphs.specs.declared.part.Part.{Part}
@@ -35,7 +36,8 @@ AllStandIn text parts = All (StandsIn text) parts
 
 -- Where a word is in a text, the parts that were added are in it as well.
 abbrev pub KeepPlaces : PlacedWord → List Part → List Part → Type 0
-KeepPlaces word old new = (text : List ℕ) → IsSlice text (word.at, word.text.now) → AllStandIn text old → AllStandIn text new
+KeepPlaces word old new =
+    (text : List ℕ) → IsSlice text (word.at, word.text.now) → AllStandIn text old → AllStandIn text new
 
 -- A word is at a place of a text, and where it is said to be spaced, a space after it.
 pub record WordStands (text : List ℕ) (at : ℕ) (word : List ℕ) (spaced : Bool) : Type 0 where
@@ -63,4 +65,5 @@ slice_bytes text slice = slice_range text slice.start slice.end
 
 -- A line with the slice that is still to be appended has grown by a text.
 abbrev pub GrowsBy : List ℕ → List ℕ → Slice → List ℕ → Slice → List ℕ → Type 0
-GrowsBy text old old_slice new new_slice added = new ++ slice_bytes text new_slice ≡ (old ++ slice_bytes text old_slice) ++ added
+GrowsBy text old old_slice new new_slice added =
+    new ++ slice_bytes text new_slice ≡ (old ++ slice_bytes text old_slice) ++ added
