@@ -16,8 +16,8 @@ use Rattle.paragraphs.specs.declared.setting.Aim.{Aim}
 use Rattle.written_texts.specs.Prefixes.{Prefix, prefix_of, written_prefix, blank_prefix, spread_char, quote_of, lead_of, rest_of, unquoted, lead_length, mark_length, bare, is_item, signs_in}
 use Rattle.written_texts.specs.Kept.{is_white, begins_head, is_code, is_first_field, is_empty_line, is_fenced, place_in_body, place_of_words}
 use Rattle.written_texts.specs.Blocks.{Paragraph, Block, Line, Filled, State, Step, begun, with_line, is_open, joined, completed, step, step_empty, step_worded, blocks_from, start}
-use Rattle.written_texts.specs.declared.place.Place.{Place}
-use Rattle.written_texts.specs.declared.place.Place.TheVariants.{Head, Body}
+use Rattle.written_texts.specs.declared.place.LinePlace.{LinePlace}
+use Rattle.written_texts.specs.declared.place.LinePlace.TheVariants.{Head, Body}
 use Rattle.written_texts.specs.Written.{style_for, IsBlockSet, AreSet, together, IsWritten}
 use Rattle.written_texts.specs.Laws.{IsProse, IsProseLine}
 
@@ -46,14 +46,14 @@ unmarked line p =
     let none : mark_length (bare line) ≡ 0 = omega (arith, ap lead_length (unquoted_same line p) ∙ p.unled) in
     ap (nat_lt 0) none
 
-not_empty : (place : Place) (line : List ℕ) → IsProse line → is_empty_line place line ≡ false
+not_empty : (place : LinePlace) (line : List ℕ) → IsProse line → is_empty_line place line ≡ false
 not_empty place line p = and_right (not (is_fenced place)) (list_all is_white (unquoted line)) (ap (list_all is_white) (unquoted_same line p) ∙ p.dark)
 
-filled_in_body : (t : Bool) (x : Option Place) → cond t (Some Head) x ≡ None → x ≡ None
+filled_in_body : (t : Bool) (x : Option LinePlace) → cond t (Some Head) x ≡ None → x ≡ None
 filled_in_body true x is = cc
 filled_in_body false x is = is
 
-filled_within : (s t : Bool) (x : Option Place) → cond s (Some Head) (cond t (Some Body) x) ≡ None → x ≡ None
+filled_within : (s t : Bool) (x : Option LinePlace) → cond s (Some Head) (cond t (Some Body) x) ≡ None → x ≡ None
 filled_within true t x is = cc
 filled_within false true x is = cc
 filled_within false false x is = is

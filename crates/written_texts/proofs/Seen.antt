@@ -10,8 +10,8 @@ use Rattle.paragraphs.specs.Paragraphs.{ended}
 use Rattle.written_texts.specs.Prefixes.{is_sign, is_indent, is_deep, signs_length, quote_length, quote_of, unquoted, indent_length, mark_length, lead_length, lead_of, rest_of, bare, is_item}
 use Rattle.written_texts.specs.Kept.{is_white, is_empty_line, place_of_words}
 use Rattle.written_texts.specs.Blocks.{Paragraph, Line, Filled, State, Step, begun, with_line, is_open, joined, block_if_any, gap_if_any, completed, shorter, gap_after_empty, step, step_empty, step_prose, step_worded, blocks_from, start, blocks}
-use Rattle.written_texts.specs.declared.place.Place.{Place}
-use Rattle.written_texts.specs.declared.place.Place.TheVariants.{Beginning, Head, Body, Fence, Tildes, Signature}
+use Rattle.written_texts.specs.declared.place.LinePlace.{LinePlace}
+use Rattle.written_texts.specs.declared.place.LinePlace.TheVariants.{Beginning, Head, Body, Fence, Tildes, Signature}
 use Rattle.written_texts.specs.Laws.{is_seen, seen, seen_in}
 
 seen-append : (xs ys : List ℕ) → seen (xs ++ ys) ≡ seen xs ++ seen ys
@@ -120,7 +120,7 @@ shorter_unseen None line unseen = quote_unseen line
 shorter_unseen (Some gap) line unseen =
     cond_both (nat_lt (length gap) (length (quote_of line))) gap (quote_of line) (λ q. seen q ≡ []) (λ _. unseen) (λ _. quote_unseen line)
 
-gap_unseen : (place : Place) (gap : Option (List ℕ)) (line : List ℕ) → IsUnseen gap → IsUnseen (gap_after_empty place gap (quote_of line))
+gap_unseen : (place : LinePlace) (gap : Option (List ℕ)) (line : List ℕ) → IsUnseen gap → IsUnseen (gap_after_empty place gap (quote_of line))
 gap_unseen Beginning gap line unseen = tt
 gap_unseen Head gap line unseen = shorter_unseen gap line unseen
 gap_unseen Body gap line unseen = shorter_unseen gap line unseen
@@ -165,7 +165,7 @@ keeps_prose state line unseen =
     record { same = seen_joined state.current line (not-true (is_item line) both.1); unseen = tt })
     (λ _. record { same = ap (λ s. s ++ seen_open (Some (begun line))) (seen_completed state unseen) ∙ ap (λ s. seen_open state.current ++ s) (append-nil (seen_in (Filled (begun line))) ∙ seen_begun line); unseen = tt })
 
-keeps_worded : (state : State) (line : List ℕ) (place : Option Place) → IsUnseen state.gap → Keeps state line (step_worded state line place)
+keeps_worded : (state : State) (line : List ℕ) (place : Option LinePlace) → IsUnseen state.gap → Keeps state line (step_worded state line place)
 keeps_worded state line None unseen = keeps_prose state line unseen
 keeps_worded state line (Some place) unseen = record {
   same =

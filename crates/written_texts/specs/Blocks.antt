@@ -1,14 +1,15 @@
 -- The blocks of a text.
-use Rattle.std.specs.Prelude.{ℕ, ◌==◌, ◌&&◌, nat_lt, Bool, true, false, not, if◌then◌else◌, List, [], ◌∷◌, ◌++◌, length, Option, Some, None}
+use Rattle.std.specs.Prelude.{ℕ, ◌==◌, ◌&&◌, nat_lt, Bool, true, false, not, if◌then◌else◌, List, [], ◌∷◌, ◌++◌, length}
+use Rattle.std.specs.Prelude.{Option, Some, None}
 use Rattle.std.specs.Str.Lines.{lines}
 use Rattle.paragraphs.specs.Paragraphs.{ended}
 use Rattle.written_texts.specs.Prefixes.{Prefix, prefix_of, quote_of, rest_of, signs_in, is_item}
 use Rattle.written_texts.specs.Kept.{place_of_words, is_empty_line}
-use Rattle.written_texts.specs.declared.place.Place.{Place}
-use Rattle.written_texts.specs.declared.place.Place.TheVariants.{Beginning, Head, Body, Fence, Tildes, Signature}
+use Rattle.written_texts.specs.declared.place.LinePlace.{LinePlace}
+use Rattle.written_texts.specs.declared.place.LinePlace.TheVariants.{Beginning, Head, Body, Fence, Tildes, Signature}
 
--- A paragraph: the prefix of its first line, that of its other lines, whether that is settled, and its text. It is settled by
--- the mark of an item, and by a second line.
+-- A paragraph: the prefix of its first line, that of its other lines, whether that is settled, and its text. It is
+-- settled by the mark of an item, and by a second line.
 pub record Paragraph : Type 0 where
   pub first : Prefix
   pub others : Prefix
@@ -22,7 +23,12 @@ pub data Block : Type 0 where
 
 -- The paragraph of one line.
 abbrev pub begun : List ℕ → Paragraph
-begun line = record { first = prefix_of line; others = prefix_of line; settled = is_item line; text = ended (rest_of line) }
+begun line = record {
+  first = prefix_of line;
+  others = prefix_of line;
+  settled = is_item line;
+  text = ended (rest_of line);
+}
 
 -- A paragraph with one line more.
 abbrev pub with_line : Paragraph → List ℕ → Paragraph
@@ -38,9 +44,10 @@ abbrev pub is_open : Option Paragraph → List ℕ → Bool
 is_open None line = false
 is_open (Some p) line = signs_in p.first.quote == signs_in (quote_of line)
 
--- The lines so far: the place after them, the paragraph that may go on, and the empty line that comes before the next line.
+-- The lines so far: the place after them, the paragraph that may go on, and the empty line that comes before the next
+-- line.
 pub record State : Type 0 where
-  pub place : Place
+  pub place : LinePlace
   pub current : Option Paragraph
   pub gap : Option (List ℕ)
 
@@ -69,7 +76,7 @@ pub record Step : Type 0 where
   pub state : State
 
 -- The place after an empty line. It ends a head and a signature.
-abbrev pub place_after_empty : Place → Place
+abbrev pub place_after_empty : LinePlace → LinePlace
 place_after_empty Beginning = Beginning
 place_after_empty Head = Body
 place_after_empty Body = Body
@@ -78,7 +85,7 @@ place_after_empty Tildes = Body
 place_after_empty Signature = Body
 
 -- The empty line that is to come, after one with these quote signs. At the beginning of a text there is none.
-abbrev pub gap_after_empty : Place → Option (List ℕ) → List ℕ → Option (List ℕ)
+abbrev pub gap_after_empty : LinePlace → Option (List ℕ) → List ℕ → Option (List ℕ)
 gap_after_empty Beginning gap quote = None
 gap_after_empty Head gap quote = Some (shorter gap quote)
 gap_after_empty Body gap quote = Some (shorter gap quote)
@@ -110,7 +117,7 @@ step_prose state line =
     else record { blocks = completed state; state = record { place = Body; current = Some (begun line); gap = None } }
 
 -- A line that stays, after which this is the place, or a line of prose.
-abbrev pub step_worded : State → List ℕ → Option Place → Step
+abbrev pub step_worded : State → List ℕ → Option LinePlace → Step
 step_worded state line None = step_prose state line
 step_worded state line (Some place) = record {
   blocks = completed state ++ Line line ∷ [];

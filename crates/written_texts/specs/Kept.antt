@@ -1,5 +1,6 @@
 -- Lines that stay as they are.
-use Rattle.std.specs.Prelude.{ℕ, ◌-◌, ◌==◌, ◌&&◌, ◌||◌, nat_eq, nat_lt, Bool, true, false, not, if◌then◌else◌, List, [], ◌∷◌, length, map, drop, codes, chars, Option, Some, None}
+use Rattle.std.specs.Prelude.{ℕ, ◌-◌, ◌==◌, ◌&&◌, ◌||◌, nat_eq, nat_lt, Bool, true, false, not, if◌then◌else◌, List, []}
+use Rattle.std.specs.Prelude.{◌∷◌, length, map, drop, codes, chars, Option, Some, None}
 use Rattle.std.specs.Char.{is_ascii_digit, is_ascii_graphic, is_ascii_uppercase, to_ascii_lowercase}
 use Rattle.std.specs.Char.Unicode.Alphabetic.{is_alphabetic}
 use Rattle.std.specs.Char.Unicode.Numeric.{is_numeric}
@@ -8,8 +9,8 @@ use Rattle.std.specs.Int.{is_in_range}
 use Rattle.std.specs.List.{list_all, list_any, prefix_len, take_while}
 use Rattle.hyphenation_breaks.specs.Ascii.{hash, hyphen, space}
 use Rattle.written_texts.specs.Prefixes.{begins, is_deep, unquoted, bare, rest_of}
-use Rattle.written_texts.specs.declared.place.Place.{Place}
-use Rattle.written_texts.specs.declared.place.Place.TheVariants.{Beginning, Head, Body, Fence, Tildes, Signature}
+use Rattle.written_texts.specs.declared.place.LinePlace.{LinePlace}
+use Rattle.written_texts.specs.declared.place.LinePlace.TheVariants.{Beginning, Head, Body, Fence, Tildes, Signature}
 
 -- ---- the head of a mail
 
@@ -82,10 +83,13 @@ is_signature_mark line = pointwise nat_eq (bare line) (codes "-- ") || pointwise
 abbrev pub hashes : List ℕ → ℕ
 hashes text = prefix_len (λ b. b == hash) text
 
--- A line is a heading: it has one to six hashes and a space.
+-- A text begins with one to six hashes and a space.
+abbrev pub begins_heading : List ℕ → Bool
+begins_heading text = nat_lt 0 (hashes text) && nat_lt (hashes text) 7 && begins (drop (hashes text) text) (codes " ")
+
+-- A line is a heading.
 abbrev pub is_heading : List ℕ → Bool
-is_heading line =
-    nat_lt 0 (hashes (bare line)) && nat_lt (hashes (bare line)) 7 && begins (drop (hashes (bare line)) (bare line)) (codes " ")
+is_heading line = begins_heading (bare line)
 
 -- A character is a letter or a digit.
 abbrev pub is_letter : ℕ → Bool
@@ -111,7 +115,7 @@ begins_head line = is_from_line line || is_usual_field line
 
 -- The place after a line that stays as it is; none if it does not stay. No head, and no code, begins in the middle of a
 -- paragraph, which goes on where `joins` is true.
-abbrev pub place_in_body : Bool → List ℕ → Option Place
+abbrev pub place_in_body : Bool → List ℕ → Option LinePlace
 place_in_body joins line =
     if not joins && begins_head line then Some Head
     else if not joins && is_code line then Some Body
@@ -121,7 +125,7 @@ place_in_body joins line =
     else if is_no_prose line then Some Body else None
 
 -- The same for a line with a word, at any place outside of fences.
-abbrev pub place_of_words : Place → Bool → List ℕ → Option Place
+abbrev pub place_of_words : LinePlace → Bool → List ℕ → Option LinePlace
 place_of_words Beginning joins line = if is_first_field line then Some Head else place_in_body joins line
 place_of_words Head joins line = if is_field line || goes_on line then Some Head else place_in_body joins line
 place_of_words Body joins line = place_in_body joins line
@@ -130,7 +134,7 @@ place_of_words Tildes joins line = if is_tildes line then Some Body else Some Ti
 place_of_words Signature joins line = Some Signature
 
 -- A place is within fences.
-abbrev pub is_fenced : Place → Bool
+abbrev pub is_fenced : LinePlace → Bool
 is_fenced Beginning = false
 is_fenced Head = false
 is_fenced Body = false
@@ -143,5 +147,5 @@ abbrev pub is_white : ℕ → Bool
 is_white b = b == space || is_in_range 9 13 b
 
 -- A line has nothing beside quote signs and white space, and is not within fences.
-abbrev pub is_empty_line : Place → List ℕ → Bool
+abbrev pub is_empty_line : LinePlace → List ℕ → Bool
 is_empty_line place line = not (is_fenced place) && list_all is_white (unquoted line)

@@ -11,7 +11,7 @@ use Rattle.written_texts.specs.Prefixes.{is_sign, quote_length, lead_length, wri
 use Rattle.written_texts.specs.Kept.{is_white, place_of_words}
 use Rattle.written_texts.specs.Blocks.{Paragraph, Block, Line, Filled, blocks}
 use Rattle.written_texts.specs.Written.{IsBlockSet, IsWritten}
-use Rattle.written_texts.specs.declared.place.Place.TheVariants.{Beginning}
+use Rattle.written_texts.specs.declared.place.LinePlace.TheVariants.{Beginning}
 
 -- A byte is no white space and no quote sign.
 abbrev pub is_seen : ℕ → Bool
@@ -64,8 +64,8 @@ abbrev pub LinesBegin : List ℕ → List ℕ → List (List ℕ) → Type 0
 LinesBegin first others [] = ⊤
 LinesBegin first others (line ∷ lines) = Begins first line × All (Begins others) lines
 
--- The lines of a paragraph have its prefixes, after the text that is asked for before lines. The first line has that of the
--- paragraph's first line. Each other line has that of the other lines, with spaces in place of indent and mark.
+-- The lines of a paragraph have its prefixes, after the text that is asked for before lines. The first line has that of
+-- the paragraph's first line. Each other line has that of the other lines, with spaces in place of indent and mark.
 abbrev pub LinesKeepPrefixes : Type 0
 LinesKeepPrefixes =
     (aim : Aim) (breaks_of : List ℕ → List Break) (style : Style) (columns : ℕ) (p : Paragraph) (lines : List (List ℕ))

@@ -1,5 +1,6 @@
 -- The prefix of a line: its quote signs, its indent, and the mark of an item.
-use Rattle.std.specs.Prelude.{ℕ, ◌+◌, ◌==◌, ◌&&◌, ◌||◌, nat_eq, nat_lt, Bool, if◌then◌else◌, List, [], ◌∷◌, ◌++◌, map, take, drop, codes, chars, slice_index_or}
+use Rattle.std.specs.Prelude.{ℕ, ◌+◌, ◌==◌, ◌&&◌, ◌||◌, nat_eq, nat_lt, Bool, if◌then◌else◌, List, [], ◌∷◌, ◌++◌, map}
+use Rattle.std.specs.Prelude.{take, drop, codes, chars, slice_index_or}
 use Rattle.std.specs.Char.{is_ascii_digit}
 use Rattle.std.specs.List.{count_by, flat_map, prefix_len, starts_with}
 use Rattle.std.specs.Str.{encode_utf8_all}
@@ -54,8 +55,8 @@ is_indent b = b == space || b == tab
 abbrev pub indent_length : List ℕ → ℕ
 indent_length text = prefix_len is_indent text
 
--- The bytes of the digits that a text begins with, and of the dot or the parenthesis after them; 0 if these are no number of
--- an item, which has at most three digits.
+-- The bytes of the digits that a text begins with, and of the dot or the parenthesis after them; 0 if these are no
+-- number of an item, which has at most three digits.
 abbrev pub number_length : List ℕ → ℕ
 number_length text =
     let digits = prefix_len is_ascii_digit text in

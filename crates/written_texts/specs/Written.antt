@@ -40,7 +40,8 @@ together [] = []
 together (row ∷ rows) = row ++ together rows
 
 -- These are the lines of a text: those of its blocks.
-pub record IsWritten (aim : Aim) (breaks_of : List ℕ → List Break) (style : Style) (columns : ℕ) (text : List ℕ) (lines : List (List ℕ)) : Type 0 where
+pub record IsWritten (aim : Aim) (breaks_of : List ℕ → List Break) (style : Style) (columns : ℕ)
+    (text : List ℕ) (lines : List (List ℕ)) : Type 0 where
   pub rows : List (List (List ℕ))
   pub each : AreSet aim breaks_of style columns (blocks text) rows
   pub whole : lines ≡ together rows

@@ -1,13 +1,14 @@
 //! The blocks of a text.
 
 ghost use Rattle.std.specs.Prelude.{◌≡◌, ◌++◌, false, not, if◌then◌else◌, IfOk, OnOk, Some, option_map};
-ghost use Rattle.written_texts.specs.Blocks.{begun, blocks, completed, is_open, block_if_any, joined, shorter, step, step_empty};
+ghost use Rattle.written_texts.specs.Blocks.{begun, blocks, completed, is_open, block_if_any, joined, shorter, step};
+ghost use Rattle.written_texts.specs.Blocks.{step_empty};
 ghost use Rattle.written_texts.specs.Blocks.{step_prose, step_worded, with_line};
 ghost use Rattle.written_texts.specs.Prefixes.{is_item, prefix_of, signs_in};
 ghost use Rattle.written_texts.specs.Private.Views as views;
 
 use crate::kept::{is_empty_line, place_of_words};
-use crate::place::Place;
+use crate::place::LinePlace;
 use crate::prefix::Parted;
 use std::alloc::{AllocError, Global};
 use std::mem;
@@ -38,7 +39,7 @@ pub(crate) enum Block<'t> {
 // The lines so far: the place after them, the paragraph that may go on, and the empty line that is to come.
 #[derive(Drop)]
 struct State<'t> {
-    pub place: Place,
+    pub place: LinePlace,
     pub current: Option<Paragraph<'t>>,
     pub gap: Option<&'t str>,
 }
@@ -147,11 +148,11 @@ impl<'t> State<'t> {
             all.old.items all.new.items self.new) }
     {
         self.end_paragraph(all)?;
-        if let Place::Beginning = self.place {
+        if let LinePlace::Beginning = self.place {
             self.gap = None;
         } else {
             self.gap = Some(shorter(self.gap, line.quote));
-            self.place = Place::Body;
+            self.place = LinePlace::Body;
         }
         Ok(())
     }
@@ -179,7 +180,7 @@ impl<'t> State<'t> {
             self.complete(all)?;
             self.current = Some(begin(alloc, line)?);
         }
-        self.place = Place::Body;
+        self.place = LinePlace::Body;
         self.gap = None;
         Ok(())
     }
@@ -189,7 +190,7 @@ impl<'t> State<'t> {
         &mut self,
         all: &mut Vec<Block<'t>>,
         line: &Parted<'t>,
-        place: Place,
+        place: LinePlace,
     ) -> Result<(), AllocError>
         ensures { OnOk result (views.Takes (step_worded (views.state_of self.old) line.now.text.now (Some place))
             all.old.items all.new.items self.new) }
@@ -229,7 +230,7 @@ pub(crate) fn blocks_of(alloc: Global, text: &str) -> Result<Vec<Block<'_>>, All
 {
     let mut all = Vec::new(alloc);
     let mut state = State {
-        place: Place::Beginning,
+        place: LinePlace::Beginning,
         current: None,
         gap: None,
     };

@@ -3,11 +3,14 @@
 ghost use Rattle.std.specs.Prelude.{◌≡◌, ◌≤◌, length};
 ghost use Rattle.std.specs.Char.{is_ascii_digit};
 ghost use Rattle.std.specs.List.{list_all, list_any};
-ghost use Rattle.written_texts.specs.Kept.{begins_head, goes_on, hashes, has_letters, has_two_words, is_capitalized, is_code, is_empty_line, is_fence};
-ghost use Rattle.written_texts.specs.Kept.{is_fenced, is_field, is_first_field, is_from_line, is_heading, is_hyphen, is_no_prose, is_same_name, is_tildes};
-ghost use Rattle.written_texts.specs.Kept.{is_signature_mark, is_usual_field, is_white, name_of, place_in_body, place_of_words, usual_names};
+ghost use Rattle.written_texts.specs.Kept.{begins_head, goes_on, hashes, has_letters, has_two_words, is_capitalized};
+ghost use Rattle.written_texts.specs.Kept.{is_code, is_empty_line, is_fence};
+ghost use Rattle.written_texts.specs.Kept.{is_fenced, is_field, is_first_field, is_from_line, is_heading, is_hyphen};
+ghost use Rattle.written_texts.specs.Kept.{is_no_prose, is_same_name, is_tildes};
+ghost use Rattle.written_texts.specs.Kept.{is_signature_mark, is_usual_field, is_white, name_of, place_in_body};
+ghost use Rattle.written_texts.specs.Kept.{place_of_words, usual_names};
 
-use crate::place::Place;
+use crate::place::LinePlace;
 use crate::prefix::{Parted, is_deep};
 
 // Returns the name that a line begins with, up to a colon.
@@ -186,39 +189,39 @@ fn begins_head(line: &[u8]) -> bool
 }
 
 // Returns the place after a line that stays.
-fn place_in_body(joins: bool, line: &Parted<'_>) -> Option<Place>
+fn place_in_body(joins: bool, line: &Parted<'_>) -> Option<LinePlace>
     ensures { result ≡ place_in_body joins line.now.text.now }
 {
     if !joins && begins_head(line.text.as_bytes()) {
-        Some(Place::Head)
+        Some(LinePlace::Head)
     } else if !joins && is_code(line) {
-        Some(Place::Body)
+        Some(LinePlace::Body)
     } else if is_fence(line) {
-        Some(Place::Fence)
+        Some(LinePlace::Fence)
     } else if is_tildes(line) {
-        Some(Place::Tildes)
+        Some(LinePlace::Tildes)
     } else if is_signature_mark(line) {
-        Some(Place::Signature)
+        Some(LinePlace::Signature)
     } else if is_no_prose(line) {
-        Some(Place::Body)
+        Some(LinePlace::Body)
     } else {
         None
     }
 }
 
 // Returns the place after a line that stays, where it is at this place.
-pub(crate) fn place_of_words(place: Place, joins: bool, line: &Parted<'_>) -> Option<Place>
+pub(crate) fn place_of_words(place: LinePlace, joins: bool, line: &Parted<'_>) -> Option<LinePlace>
     ensures { result ≡ place_of_words place joins line.now.text.now }
 {
     let bytes = line.text.as_bytes();
     match place {
-        Place::Beginning if is_first_field(bytes) => Some(Place::Head),
-        Place::Head if is_field(bytes) || goes_on(bytes) => Some(Place::Head),
-        Place::Fence if is_fence(line) => Some(Place::Body),
-        Place::Fence => Some(Place::Fence),
-        Place::Tildes if is_tildes(line) => Some(Place::Body),
-        Place::Tildes => Some(Place::Tildes),
-        Place::Signature => Some(Place::Signature),
+        LinePlace::Beginning if is_first_field(bytes) => Some(LinePlace::Head),
+        LinePlace::Head if is_field(bytes) || goes_on(bytes) => Some(LinePlace::Head),
+        LinePlace::Fence if is_fence(line) => Some(LinePlace::Body),
+        LinePlace::Fence => Some(LinePlace::Fence),
+        LinePlace::Tildes if is_tildes(line) => Some(LinePlace::Body),
+        LinePlace::Tildes => Some(LinePlace::Tildes),
+        LinePlace::Signature => Some(LinePlace::Signature),
         _ => place_in_body(joins, line),
     }
 }
@@ -238,14 +241,14 @@ fn are_white(text: &[u8]) -> bool
 }
 
 // Reports whether a place is within fences.
-fn is_fenced(place: Place) -> bool
+fn is_fenced(place: LinePlace) -> bool
     ensures { result ≡ is_fenced place }
 {
-    matches!(place, Place::Fence | Place::Tildes)
+    matches!(place, LinePlace::Fence | LinePlace::Tildes)
 }
 
 // Reports whether a line has nothing beside quote signs and white space, where it is at this place.
-pub(crate) fn is_empty_line(place: Place, line: &Parted<'_>) -> bool
+pub(crate) fn is_empty_line(place: LinePlace, line: &Parted<'_>) -> bool
     ensures { result ≡ is_empty_line place line.now.text.now }
 {
     !is_fenced(place) && are_white(line.unquoted.as_bytes())

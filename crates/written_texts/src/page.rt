@@ -183,8 +183,8 @@ pub fn fill_written<'h, H: Hyphenator<'h>>(
     columns: u16,
     aim: Aim,
 ) -> Result<Vec<String>, FillError>
-    ensures written { IfOk result (λ page.
-        IsWritten aim (H.breaks_of dictionary.now) (style_of style.now) columns text.now (map string_bytes page.items)) }
+    ensures written { IfOk result (λ page. IsWritten aim (H.breaks_of dictionary.now) (style_of style.now) columns
+        text.now (map string_bytes page.items)) }
     ensures too_long { IfErr result (λ e. e ≡ FillError.TooLong →
         HasTooLong (H.breaks_of dictionary.now) (style_of style.now) (blocks text.now)) }
 {

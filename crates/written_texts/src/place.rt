@@ -2,7 +2,7 @@
 
 /// Where a line is in a text.
 #[derive(Clone, Copy, Debug)]
-pub enum Place {
+pub enum LinePlace {
     /// Before the first line.
     Beginning,
     /// In the head of a mail.

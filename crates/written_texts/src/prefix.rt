@@ -4,7 +4,8 @@ ghost use Rattle.std.specs.Prelude.{◌≡◌, ◌≤◌, drop, length};
 ghost use Rattle.std.specs.Char.{is_ascii_digit};
 ghost use Rattle.std.specs.List.{prefix_len};
 ghost use Rattle.written_texts.specs.Private.Cuts.{EndsInAscii};
-ghost use Rattle.written_texts.specs.Prefixes.{is_deep, is_indent, is_item, indent_length, lead_length, mark_length, number_length};
+ghost use Rattle.written_texts.specs.Prefixes.{is_deep, is_indent, is_item, indent_length, lead_length, mark_length};
+ghost use Rattle.written_texts.specs.Prefixes.{number_length};
 ghost use Rattle.written_texts.specs.Prefixes.{quote_length, sign_length, signs_length, lead_of, quote_of, rest_of};
 ghost use Rattle.written_texts.specs.Prefixes as parts;
 

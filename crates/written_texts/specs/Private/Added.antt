@@ -13,7 +13,8 @@ abbrev pub texts_of : {Z : Type 0} → List (String Z) → List (List ℕ)
 texts_of lines = map string_bytes lines
 
 -- The lines of a block were added.
-pub record AddsBlock (aim : Aim) (breaks_of : List ℕ → List Break) (style : Style) (columns : ℕ) (block : Block) (old new : List (List ℕ)) : Type 0 where
+pub record AddsBlock (aim : Aim) (breaks_of : List ℕ → List Break) (style : Style) (columns : ℕ)
+    (block : Block) (old new : List (List ℕ)) : Type 0 where
   pub row : List (List ℕ)
   pub set : IsBlockSet aim breaks_of style columns block row
   pub added : new ≡ old ++ row
