@@ -1,8 +1,10 @@
 -- How the program `hyphenate-lines` reads its arguments.
-use Rattle.std.specs.Prelude.{◌≡◌, ℕ, ◌==◌, ◌&&◌, not, Bool, true, false, if◌then◌else◌, is_some, List, [], ◌∷◌, map, codes, Option, Some, None, Result, Ok, Err, unwrap_or}
+use Rattle.std.specs.Prelude.{◌≡◌, ℕ, ◌==◌, ◌&&◌, not, Bool, true, false, if◌then◌else◌, is_some, List, [], ◌∷◌, map}
+use Rattle.std.specs.Prelude.{codes, Option, Some, None, Result, Ok, Err, unwrap_or}
 use Rattle.std.specs.Borrow.{Bor}
 use Rattle.hyphenation_breaks.specs.Borrowed.{texts_now}
-use Rattle.command_line.specs.Options.{GivenOption, ReadArguments, RefusedArgument, refused, after_step, read_arguments, is_given, last_value, number_given}
+use Rattle.command_line.specs.Options.{GivenOption, ReadArguments, RefusedArgument, refused, after_step, read_arguments}
+use Rattle.command_line.specs.Options.{is_given, last_value, number_given}
 use Rattle.command_line.specs.declared.options.Expected.TheVariants.{EvenLines, Operand}
 use Rattle.command_line.specs.declared.options.OptionForm.{OptionForm}
 use Rattle.paragraphs.specs.Parts.{Style}
@@ -10,9 +12,9 @@ use Rattle.paragraphs.specs.declared.setting.Aim.{Aim}
 use Rattle.paragraphs.specs.declared.setting.Aim.TheVariants.{Full, Even}
 use Rattle.text_results.specs.Targets.{inputs_of}
 
--- The options: whether texts are only paragraphs; the columns of a line; whether lines are even; the columns below which the
--- last line of a paragraph is too short; how many lines in a row may end in a hyphen, if it is limited; the cost of a hyphen;
--- the text before the first line, if it has its own; the text before the others.
+-- The options: whether texts are only paragraphs; the columns of a line; whether lines are even; the columns below
+-- which the last line of a paragraph is too short; how many lines in a row may end in a hyphen, if it is limited; the
+-- cost of a hyphen; the text before the first line, if it has its own; the text before the others.
 pub record ParsedOptions : Type 0 where
   pub plain : Bool
   pub columns : ℕ

@@ -1,5 +1,6 @@
 -- The output and the statuses of the program `hyphenate-lines`.
-use Rattle.std.specs.Prelude.{◌≡◌, ◌⊎◌, ℕ, Bool, not, true, false, List, [], ◌∷◌, if◌then◌else◌, Option, None, Result, Ok, Err, ⊤}
+use Rattle.std.specs.Prelude.{◌≡◌, ◌⊎◌, ℕ, Bool, not, true, false, List, [], ◌∷◌, if◌then◌else◌, Option, None, Result}
+use Rattle.std.specs.Prelude.{Ok, Err, ⊤}
 use Rattle.std.specs.Borrow.{Bor}
 use Rattle.std.specs.List.{concat, flat_map, list_any}
 use Rattle.std.specs.String.{string_bytes}
@@ -57,7 +58,8 @@ ArePagesOf options dictionary (text ∷ texts) (page ∷ pages) =
 ArePagesOf options dictionary _ _ = ⊥
 
 -- An output has the pages of these inputs, one after the other, by a dictionary.
-pub record HasPages (options : ParsedOptions) (dictionary : AnyDictionary) (bytes_of : KnownFiles) (left : Option (List ℕ)) (names : List (List ℕ)) (output : List ℕ) : Type 0 where
+pub record HasPages (options : ParsedOptions) (dictionary : AnyDictionary) (bytes_of : KnownFiles)
+    (left : Option (List ℕ)) (names : List (List ℕ)) (output : List ℕ) : Type 0 where
   pub texts : List (List ℕ)
   pub read : AreTextsOf bytes_of left names texts
   pub pages : List (List ℕ)
@@ -65,7 +67,8 @@ pub record HasPages (options : ParsedOptions) (dictionary : AnyDictionary) (byte
   pub whole : output ≡ concat pages
 
 -- An output is what arguments ask for: the pages of their inputs, by the dictionary that they name.
-pub record IsResult (parsed : ParsedArgs) (bytes_of : KnownFiles) (folders : List (List ℕ)) (left : Option (List ℕ)) (output : List ℕ) : Type 0 where
+pub record IsResult (parsed : ParsedArgs) (bytes_of : KnownFiles) (folders : List (List ℕ)) (left : Option (List ℕ))
+    (output : List ℕ) : Type 0 where
   pub dictionary : AnyDictionary
   pub named : IsOfArgument bytes_of folders parsed.dictionary dictionary
   pub plain : PlainIfStandard (kind_by dictionary) (breaks_by dictionary)
@@ -90,7 +93,8 @@ abbrev pub left_after : Option (List ℕ) → List ℕ → Option (List ℕ)
 left_after left name = if is_standard_input name then None else left
 
 -- One of some inputs fails so, and each one before it has a text.
-abbrev pub IsFailureAmong : ParsedOptions → AnyDictionary → KnownFiles → Option (List ℕ) → List (List ℕ) → Failure → Type 0
+abbrev pub IsFailureAmong : ParsedOptions → AnyDictionary → KnownFiles → Option (List ℕ) → List (List ℕ) → Failure
+    → Type 0
 IsFailureAmong options dictionary bytes_of left [] failure = ⊥
 IsFailureAmong options dictionary bytes_of left (name ∷ names) failure =
     IsFailureOfText options dictionary bytes_of left name failure
@@ -103,8 +107,8 @@ IsFailureOfInputs parsed bytes_of folders left failure = (dictionary : AnyDictio
     × IsOfArgument bytes_of folders parsed.dictionary dictionary
     × IsFailureAmong parsed.options dictionary bytes_of left parsed.inputs failure
 
--- The program fails so for arguments: the dictionary is refused or not found, an input fails, the output can't be written,
--- or memory was refused.
+-- The program fails so for arguments: the dictionary is refused or not found, an input fails, the output can't be
+-- written, or memory was refused.
 abbrev pub IsFailureFor : ParsedArgs → KnownFiles → List (List ℕ) → Option (List ℕ) → Failure → Type 0
 IsFailureFor parsed bytes_of folders left (failed.Dictionary path cause) =
     IsFailureOf bytes_of folders parsed.dictionary (failed.Dictionary path cause)
@@ -124,13 +128,13 @@ WritesResult parsed bytes_of folders left contents old new =
     (page : List ℕ) × IsResult parsed bytes_of folders left page × AppendsTo contents old new page
 
 -- The program ends for a failure. The output is as it was, unless it is the output that failed.
-abbrev pub EndsFailed : {W : Type 0} → ParsedArgs → KnownFiles → List (List ℕ) → Option (List ℕ) → (End → Type 0) → W → W
-    → Type 0
+abbrev pub EndsFailed : {W : Type 0} → ParsedArgs → KnownFiles → List (List ℕ) → Option (List ℕ)
+    → (End → Type 0) → W → W → Type 0
 EndsFailed parsed bytes_of folders left EndsSo old new = (failure : Failure) × EndsSo (Fails failure)
     × IsFailureFor parsed bytes_of folders left failure × ((failure ≡ failed.Output) ⊎ (new ≡ old))
 
--- How the program ends for its arguments. If one is refused, it says which, or memory was refused. Else it is done, and what
--- they ask for was written, or it fails.
+-- How the program ends for its arguments. If one is refused, it says which, or memory was refused. Else it is done, and
+-- what they ask for was written, or it fails.
 abbrev pub EndsFor : {W : Type 0} → Result ParsedArgs RefusedArgument → KnownFiles → List (List ℕ) → Option (List ℕ)
     → (End → Type 0) → (W → Option (List ℕ)) → W → W → Type 0
 EndsFor (Err refused) bytes_of folders left EndsSo contents old new =
@@ -144,10 +148,10 @@ abbrev pub names_files_alone : Result ParsedArgs RefusedArgument → Bool
 names_files_alone (Ok parsed) = not (list_any is_standard_input parsed.inputs)
 names_files_alone (Err refused) = true
 
--- If no help was asked for, the program ends so for its arguments. Standard input is then left as it was if it is none of
--- the inputs.
-abbrev pub EndsUnlessAsked : {W I : Type 0} → List (Bor (List ℕ)) → KnownFiles → List (List ℕ) → (I → Option (List ℕ)) → I → I
-    → (End → Type 0) → (W → Option (List ℕ)) → W → W → Type 0
+-- If no help was asked for, the program ends so for its arguments. Standard input is then left as it was if it is none
+-- of the inputs.
+abbrev pub EndsUnlessAsked : {W I : Type 0} → List (Bor (List ℕ)) → KnownFiles → List (List ℕ)
+    → (I → Option (List ℕ)) → I → I → (End → Type 0) → (W → Option (List ℕ)) → W → W → Type 0
 EndsUnlessAsked args bytes_of folders remaining before after EndsSo contents old new =
     asked_text args ≡ None → (parsed : Result ParsedArgs RefusedArgument) × IsParsed args parsed
     × EndsFor parsed bytes_of folders (remaining before) EndsSo contents old new

@@ -67,9 +67,9 @@ pub fn usage_names_options()
 /// | 5 | an input can't be read, or the result can't be written |
 /// | 6 | memory was refused |
 ///
-/// With any status but 0 exactly its message is written to `errors`, except if the text of `--help` or `--version` can't
-/// be written. The output is as it was unless the status is 0, or the output can't be written. Standard input is read only
-/// if it is one of the inputs, and not with status 3.
+/// With any status but 0 exactly its message is written to `errors`, except if the text of `--help` or `--version`
+/// can't be written. The output is as it was unless the status is 0, or the output can't be written. Standard input is
+/// read only if it is one of the inputs, and not with status 3.
 ///
 /// ```text
 /// let args = ["--width", "40", "examples/firkin.txt", "letter.txt"];

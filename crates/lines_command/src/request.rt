@@ -252,8 +252,8 @@ fn by_forms<'w>(
 }
 
 impl<'w> Request<'w> {
-    /// Parses arguments `[OPTION..] DICTIONARY [FILE..]`. The error is the first that is refused, or says that memory was
-    /// refused.
+    /// Parses arguments `[OPTION..] DICTIONARY [FILE..]`. The error is the first that is refused, or says that memory
+    /// was refused.
     pub fn from_args(alloc: Global, args: &'w [&'w str]) -> Result<Request<'w>, ReadError<'w>>
         ensures parsed { IfOk result (λ request. IsParsed args.now (Ok (parsed_request request))) }
         ensures refused { IfErr result (AreRefused args.now) }

@@ -8,7 +8,8 @@ ghost use Rattle.command_line.specs.Inputs.{is_standard_input};
 ghost use Rattle.hyphenation_breaks.specs.Borrowed.{texts_now};
 ghost use Rattle.lines_command.specs.Arguments.{aim_for, style_for};
 ghost use Rattle.lines_command.specs.Private.Requests.{parsed_options, parsed_request};
-ghost use Rattle.lines_command.specs.Private.Runs.{AddsTo, AreLinesBy, BeforeReading, HasAllPages, IsLongParagraph, IsTooLongBy, WritesRequest};
+ghost use Rattle.lines_command.specs.Private.Runs.{AddsTo, AreLinesBy, BeforeReading, HasAllPages, IsLongParagraph};
+ghost use Rattle.lines_command.specs.Private.Runs.{IsTooLongBy, WritesRequest};
 ghost use Rattle.lines_command.specs.Written.{AreLines, HasLongParagraph, PlainIfStandard};
 ghost use Rattle.lines_command.specs.Written.{HasPages, IsFailureOfText, IsFailureAmong, IsFailureFor, WritesResult};
 ghost use Rattle.paragraphs.specs.Paragraphs.{ended};
@@ -98,7 +99,8 @@ fn push_line(line: &str, page: &mut String) -> Result<(), AllocError>
 
 // Appends lines to a page, each with a line feed after it.
 fn push_lines(lines: &[String], page: &mut String) -> Result<(), AllocError>
-    ensures { OnOk result (string_bytes page.new ≡ string_bytes page.old ++ flat_map ended (map string_bytes lines.now)) }
+    ensures { OnOk result
+        (string_bytes page.new ≡ string_bytes page.old ++ flat_map ended (map string_bytes lines.now)) }
 {
     page.reserve(bytes_of(lines))?;
     for line in lines {
@@ -181,8 +183,8 @@ fn standard_breaks_are_plain(dictionary: &AnyDictionary)
 
 /// Writes the lines of all inputs of a request, once all of them are made.
 ///
-/// The dictionary is loaded first, then the inputs are read in their order. The first step that fails gives the failure.
-/// After [`Failure::Output`] a beginning may be written; after any other nothing is.
+/// The dictionary is loaded first, then the inputs are read in their order. The first step that fails gives the
+/// failure. After [`Failure::Output`] a beginning may be written; after any other nothing is.
 #[tactic(auto, using(crate::proofs::Runs::dictionary_fails, crate::proofs::Runs::before_reading))]
 pub fn run<F: NamedFiles, I: Read, O: Write>(
     files: &F,
@@ -194,8 +196,8 @@ pub fn run<F: NamedFiles, I: Read, O: Write>(
 ) -> Result<(), Failure>
     ensures written { OnOk result (WritesRequest request.now (F.bytes files.now) folders.now
         (I.remaining input.old) O.contents output.old output.new) }
-    ensures failure { IfErr result (IsFailureFor (parsed_request request.now) (F.bytes files.now) (texts_now folders.now)
-        (I.remaining input.old)) }
+    ensures failure { IfErr result (IsFailureFor (parsed_request request.now) (F.bytes files.now)
+        (texts_now folders.now) (I.remaining input.old)) }
     ensures unread { list_any is_standard_input (texts_now request.now.inputs.items) ≡ false → input.new ≡ input.old }
     ensures dictionary_first { IfErr result (BeforeReading (input.new ≡ input.old)) }
     ensures untouched { IfErr result (λ failure. (failure ≡ Failure.Output) ⊎ (output.new ≡ output.old)) }

@@ -16,10 +16,12 @@ use Rattle.lines_command.specs.Arguments.{ParsedOptions, aim_for, style_for}
 use Rattle.lines_command.specs.Private.Requests.{parsed_options, parsed_request}
 use Rattle.lines_command.specs.declared.request.Options.{Options}
 use Rattle.lines_command.specs.declared.request.Request.{Request}
-use Rattle.lines_command.specs.Written.{AreLines, HasLongParagraph, IsPageOf, ArePagesOf, HasPages, IsFailureAmong, WritesResult}
+use Rattle.lines_command.specs.Written.{AreLines, HasLongParagraph, IsPageOf, ArePagesOf, HasPages, IsFailureAmong}
+use Rattle.lines_command.specs.Written.{WritesResult}
 
 -- The page of an input was appended to a text.
-pub record AddsPage (options : ParsedOptions) (dictionary : AnyDictionary) (bytes_of : KnownFiles) (left : Option (List ℕ)) (name old new : List ℕ) : Type 0 where
+pub record AddsPage (options : ParsedOptions) (dictionary : AnyDictionary) (bytes_of : KnownFiles)
+    (left : Option (List ℕ)) (name old new : List ℕ) : Type 0 where
   pub text : List ℕ
   pub read : IsTextOf bytes_of left name text
   pub page : List ℕ
@@ -27,14 +29,14 @@ pub record AddsPage (options : ParsedOptions) (dictionary : AnyDictionary) (byte
   pub whole : new ≡ old ++ page
 
 -- The same of two strings.
-abbrev pub AddsTo : {Z : Type 0} → ParsedOptions → AnyDictionary → KnownFiles → Option (List ℕ) → List ℕ → String Z → String Z
-    → Type 0
+abbrev pub AddsTo : {Z : Type 0} → ParsedOptions → AnyDictionary → KnownFiles → Option (List ℕ) → List ℕ
+    → String Z → String Z → Type 0
 AddsTo options dictionary bytes_of left name old new =
     AddsPage options dictionary bytes_of left name (string_bytes old) (string_bytes new)
 
 -- A string has the pages of the inputs of some names.
-abbrev pub HasAllPages : {Z : Type 0} → ParsedOptions → AnyDictionary → KnownFiles → Option (List ℕ) → List (Bor (List ℕ))
-    → String Z → Type 0
+abbrev pub HasAllPages : {Z : Type 0} → ParsedOptions → AnyDictionary → KnownFiles → Option (List ℕ)
+    → List (Bor (List ℕ)) → String Z → Type 0
 HasAllPages options dictionary bytes_of left names page =
     HasPages options dictionary bytes_of left (texts_now names) (string_bytes page)
 
@@ -68,9 +70,11 @@ BeforeReading P _ = ⊤
 
 -- Where the inputs that are left have their pages, all have theirs on a page that goes on with these. Where one of them
 -- fails, that one fails of all.
-pub record GoesOn (options : ParsedOptions) (dictionary : AnyDictionary) (bytes_of : KnownFiles) (first : Option (List ℕ)) (all : List (List ℕ))
-    (left : Option (List ℕ)) (names : List (List ℕ)) (page : List ℕ) : Type 0 where
-  pub pages : (texts pages : List (List ℕ)) → AreTextsOf bytes_of left names texts → ArePagesOf options dictionary texts pages
+pub record GoesOn (options : ParsedOptions) (dictionary : AnyDictionary) (bytes_of : KnownFiles)
+    (first : Option (List ℕ)) (all : List (List ℕ)) (left : Option (List ℕ)) (names : List (List ℕ)) (page : List ℕ)
+    : Type 0 where
+  pub pages : (texts pages : List (List ℕ)) → AreTextsOf bytes_of left names texts
+      → ArePagesOf options dictionary texts pages
       → HasPages options dictionary bytes_of first all (page ++ concat pages)
   pub fails : (failure : Failure) → IsFailureAmong options dictionary bytes_of left names failure
       → IsFailureAmong options dictionary bytes_of first all failure
