@@ -1,11 +1,11 @@
 -- Values stand apart, and texts lie in their drawing.
-use Rattle.std.proofs.Common.{◌≡◌, ℕ, zero, suc, ◌+◌, ◌-◌, ◌*◌, ◌<◌, ◌≤◌, List, [], ◌∷◌, ◌++◌, length, replicate, slice_index, Bool, true, false, cond, refl, ap, ◌∙◌, arith, inl, inr, max, nat_lt, slice_set, All}
+use Rattle.std.proofs.Common.{◌≡◌, ℕ, zero, suc, ◌+◌, ◌-◌, ◌*◌, ◌<◌, ◌≤◌, List, [], ◌∷◌, ◌++◌, length, replicate, slice_index, Bool, true, false, cond, refl, ap, ◌∙◌, arith, get_or, inl, inr, max, nat_lt, slice_set, All}
 use Rattle.std.specs.Char.{len_utf8}
 use Rattle.std.proofs.Math.Nat.{le-max_left, le-max_right}
 use Rattle.std.proofs.lemmas.Bool.{cases_eq, cases_lt}
-use Rattle.std.proofs.lemmas.Bool.Decides.{nat_tests}
-use Rattle.std.proofs.lemmas.List.{get_or-append_right, get_or-set_other, get_or-set_same, length-replicate, length-set}
+use Rattle.std.proofs.lemmas.List.{get_or-append_right, get_or-set_other, get_or-set_same, length-replicate, length-set, set_past}
 use Rattle.std.proofs.lemmas.List.Elements.{All-cons, All-nil, All-weaker}
+use Rattle.std.proofs.lemmas.List.Recursion.{max_bounds}
 use Rattle.std.proofs.lemmas.Str.{len_utf8_bounds}
 use Rattle.hyphenation_breaks.specs.declared.entry.Entry.{Entry}
 use Rattle.explanations.specs.Columns.{begins_from, column_past, value_columns, with_room_at, with_room_for, with_room_for_entries}
@@ -70,43 +70,28 @@ fits_more old new place value grow fits = λ lt. omega (arith, grow.more place, 
 grow_twice : (a b c : List ℕ) → Grow a b → Grow b c → Grow a c
 grow_twice a b c first second = record { long = second.long ∙ first.long; more = λ k. omega (arith, first.more k, second.more k) }
 
--- Room is made at a place of the columns.
-set_is : (columns : List ℕ) (place value : ℕ) → place < length columns
-    → with_room_at columns place value ≡ slice_set columns place (max (slice_index columns place) (value_columns value))
-set_is columns place value lt =
-    let is : nat_lt place (length columns) ≡ true = grind (arith, nat_tests) in
-    ap (λ (b : Bool). cond b (slice_set columns place (max (slice_index columns place) (value_columns value))) columns) is
-
 fits_at : (columns : List ℕ) (place value : ℕ) → place < length columns → value_columns value ≤ slice_index (with_room_at columns place value) place
-fits_at columns place value lt =
-    let most : ℕ = max (slice_index columns place) (value_columns value) in
-    omega (arith, ap (λ (xs : List ℕ). slice_index xs place) (set_is columns place value lt), get_or-set_same columns place most 0 lt, le-max_right (slice_index columns place) (value_columns value))
+fits_at columns place value lt = omega (
+  arith,
+  get_or-set_same columns place (max (slice_index columns place) (value_columns value)) 0 lt,
+  le-max_right (slice_index columns place) (value_columns value),
+)
 
 grow_at : (columns : List ℕ) (place value : ℕ) → Grow columns (with_room_at columns place value)
-grow_at columns place value = elim (cases_lt place (length columns)) [
-  | inl lt ↦
-      let most : ℕ = max (slice_index columns place) (value_columns value) in
-      let is = set_is columns place value lt in
-      record {
-        long = ap (λ (xs : List ℕ). length xs) is ∙ length-set columns place most;
-        more = λ k. elim (cases_eq k place) [
-          | inl same ↦
-              omega (
-                arith,
-                ap (λ (i : ℕ). slice_index columns i) same,
-                ap (λ (i : ℕ). slice_index (with_room_at columns place value) i) same,
-                ap (λ (xs : List ℕ). slice_index xs place) is,
-                get_or-set_same columns place most 0 lt,
-                le-max_left (slice_index columns place) (value_columns value),
-              )
-          | inr other ↦ omega (arith, ap (λ (xs : List ℕ). slice_index xs k) is, get_or-set_other columns place k most 0 other)
-        ];
-      }
-  | inr le ↦
-      let not : nat_lt place (length columns) ≡ false = grind (arith, nat_tests) in
-      let is : with_room_at columns place value ≡ columns = ap (λ (b : Bool). cond b (slice_set columns place (max (slice_index columns place) (value_columns value))) columns) not in
-      record { long = ap (λ (xs : List ℕ). length xs) is; more = λ k. omega (arith, ap (λ (xs : List ℕ). slice_index xs k) is) }
-]
+grow_at columns place value =
+    let most : ℕ = max (slice_index columns place) (value_columns value) in
+    let new : List ℕ = slice_set columns place most in
+    record {
+      long = length-set columns place most;
+      more = λ k. elim (cases_eq k place) [
+        | inl same ↦ elim (cases_lt place (length columns)) [
+          | inl lt ↦ let read = get_or-set_same columns place most 0 lt in
+              omega (arith, read, ap (slice_index columns) same, ap (slice_index new) same, le-max_left (slice_index columns place) (value_columns value))
+          | inr past ↦ omega (arith, ap (λ (xs : List ℕ). slice_index xs k) (set_past columns place most past))
+        ]
+        | inr other ↦ omega (arith, get_or-set_other columns place k most 0 other)
+      ];
+    }
 
 module _ {C : Type 0} (start : ℕ) where
   grow_entries : (columns : List ℕ) (entries : List (Entry C)) → Grow columns (with_room_for_entries start columns entries)
@@ -141,21 +126,11 @@ fits_rows columns (row ∷ rows) =
     (λ e fits. fits_more next last (row.start + e.place) e.value (grow_rows next rows) fits) row.entries (fits_entries row.start columns row.entries))
     (fits_rows next rows)
 
-texts_end_before : (texts : List Placed) → All (EndsBefore (texts_end texts + 12)) texts
-texts_end_before [] = All-nil _
-texts_end_before (text ∷ texts) =
-    let here : ℕ = x_by text.class text.column text.columns + 9 * length text.bytes in
-    let end : ℕ = max here (texts_end texts) in
-    All-cons (EndsBefore (end + 12)) text texts (omega (arith, le-max_left here (texts_end texts)))
-    (All-weaker (EndsBefore (texts_end texts + 12)) (EndsBefore (end + 12)) (λ t h. omega (arith, h, le-max_right here (texts_end texts))) texts (texts_end_before texts))
-
 pub rows_end_before : (rows : List PlacedRow) → All (λ row. All (EndsBefore (rows_end rows + 12)) row.texts) rows
-rows_end_before [] = All-nil _
-rows_end_before (row ∷ rows) =
-    let end : ℕ = max (texts_end row.texts) (rows_end rows) in
-    let wider : (less : ℕ) → less ≤ end → (texts : List Placed) → All (EndsBefore (less + 12)) texts → All (EndsBefore (end + 12)) texts =
-    λ less le texts h. All-weaker (EndsBefore (less + 12)) (EndsBefore (end + 12)) (λ t e. omega (arith, e, le)) texts h in
-    All-cons (λ (r : PlacedRow). All (EndsBefore (end + 12)) r.texts) row rows
-    (wider (texts_end row.texts) (le-max_left (texts_end row.texts) (rows_end rows)) row.texts (texts_end_before row.texts))
-    (All-weaker (λ (r : PlacedRow). All (EndsBefore (rows_end rows + 12)) r.texts) (λ (r : PlacedRow). All (EndsBefore (end + 12)) r.texts)
-    (λ r h. wider (rows_end rows) (le-max_right (texts_end row.texts) (rows_end rows)) r.texts h) rows (rows_end_before rows))
+rows_end_before rows = λ i row lt j text within.
+    let texts : List Placed = (get_or rows i row).texts in
+    omega (
+      arith,
+      max_bounds texts_end (λ (t : Placed). x_by t.class t.column t.columns + 9 * length t.bytes) refl (λ t ts. refl) texts j text within,
+      max_bounds rows_end (λ (r : PlacedRow). texts_end r.texts) refl (λ r rs. refl) rows i row lt,
+    )

@@ -4,6 +4,4 @@ pub mod Fielding
 pub mod Escaping
 pub mod Walks
 pub mod Scores
-pub mod Drawings
-pub mod Mapped
 pub mod HavingRoom

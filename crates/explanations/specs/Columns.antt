@@ -23,9 +23,7 @@ single_columns framed = map column_before framed ++ 1 ∷ []
 
 -- Columns with room for a value at a place, if they have that place.
 abbrev pub with_room_at : List ℕ → ℕ → ℕ → List ℕ
-with_room_at columns place value =
-    if nat_lt place (length columns) then slice_set columns place (max (slice_index columns place) (value_columns value))
-    else columns
+with_room_at columns place value = slice_set columns place (max (slice_index columns place) (value_columns value))
 
 -- Columns with room for the values of a row that starts at this place and has these entries.
 abbrev pub with_room_for_entries : {C : Type 0} → ℕ → List ℕ → List (Entry C) → List ℕ

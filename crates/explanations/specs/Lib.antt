@@ -1,5 +1,6 @@
 pub mod Rows
 pub mod Decisions
+pub mod Facts
 pub mod Fields
 pub mod Lines
 pub mod Columns

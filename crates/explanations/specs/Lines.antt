@@ -3,6 +3,7 @@ use Rattle.std.specs.Prelude.{ℕ, ◌+◌, List, [], ◌∷◌, ◌++◌, codes
 use Rattle.hyphenation_breaks.specs.Break.{Break, Change}
 use Rattle.hyphenation_breaks.specs.declared.entry.Entry.{Entry}
 use Rattle.hyphenation_score.specs.Scoring.{Scored}
+use Rattle.explanations.specs.Facts.{Facts}
 use Rattle.explanations.specs.Fields.{field_text}
 use Rattle.explanations.specs.Rows.{PatternRow}
 use Rattle.explanations.specs.declared.facts.Decision.{Decision}
@@ -78,3 +79,25 @@ decision_name SoftHyphens = codes "soft-hyphens"
 decision_name TooShort = codes "minima"
 decision_name Exception = codes "exception"
 decision_name Patterns = codes "patterns"
+
+-- The lines of a word, its patterns and its scores.
+abbrev pub word_lines : {C : Type 0} → (C → Option Change) → Facts C → List ℕ
+word_lines change_of facts =
+    text_line (codes "word") facts.word ++ (text_line (codes "folded") facts.folded
+    ++ (flat_map (pattern_line change_of facts.framed) facts.rows ++ score_line facts.scores))
+
+-- The lines of where the minima and soft hyphens allow breaks.
+abbrev pub limit_lines : {C : Type 0} → Facts C → List ℕ
+limit_lines facts =
+    places_line (codes "minima") (facts.minima.0 ∷ facts.minima.1 ∷ []) ++ (bounds_line facts.bounds
+    ++ places_line (codes "soft-hyphens") facts.soft_hyphens)
+
+-- The lines of the fact that decides.
+abbrev pub reason_lines : {C : Type 0} → Facts C → List ℕ
+reason_lines facts = exception_line facts.listed ++ text_line (codes "decided-by") (decision_name facts.decision)
+
+-- The lines for programs.
+abbrev pub lines_of : {C : Type 0} → (C → Option Change) → Facts C → List ℕ
+lines_of change_of facts =
+    word_lines change_of facts ++ (limit_lines facts ++ (reason_lines facts
+    ++ (places_line (codes "breaks") facts.places ++ text_line (codes "hyphenated") facts.hyphenated)))

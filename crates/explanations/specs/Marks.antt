@@ -31,14 +31,14 @@ pattern_mark (Some greatest) value = record { value = value; wins = greatest == 
 abbrev pub no_marks : List ℕ → List (Option Mark)
 no_marks framed = replicate (length framed + 1) None
 
--- The value of a row at one of its places.
+-- The value of a row at a place of the frame.
 abbrev pub mark_of : {C : Type 0} → List ℕ → List Scored → PatternRow C → ℕ → Option Mark
 mark_of folded scores row place =
-    option_map (pattern_mark (score_value folded scores (row.start + place - 1))) (entry_value row.entries place)
+    option_map (pattern_mark (score_value folded scores (place - 1))) (entry_value row.entries (place - row.start))
 
--- The values of a row, at each of its places.
+-- The values of a row, at each place of the frame from its start to its end.
 abbrev pub row_marks : {C : Type 0} → List ℕ → List Scored → PatternRow C → List (Option Mark)
-row_marks folded scores row = map (mark_of folded scores row) (range_with_len 0 (row.bytes + 1))
+row_marks folded scores row = map (mark_of folded scores row) (range_with_len row.start (row.bytes + 1))
 
 -- The greatest value of each place.
 abbrev pub score_marks : List ℕ → List Scored → List (Option Mark)

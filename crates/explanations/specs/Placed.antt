@@ -1,13 +1,12 @@
 -- The rows of a picture: texts, each at its column. The picture for people and the drawing have these rows.
-use Rattle.std.specs.Prelude.{ℕ, ◌+◌, ◌-◌, ◌==◌, nat_lt, nat_le, ◌&&◌, ◌||◌, not, Bool, if◌then◌else◌, false, is_none, List, [], ◌∷◌, ◌++◌, length, chars, Option, Some, None, decimal, drop, flat_map, slice_index, slice_get, slice_range, unwrap_or}
+use Rattle.std.specs.Prelude.{ℕ, ◌+◌, ◌-◌, ◌==◌, nat_lt, nat_le, ◌&&◌, ◌||◌, not, Bool, if◌then◌else◌, false, is_none, List, [], ◌∷◌, ◌++◌, length, chars, Option, Some, None, decimal, drop, flat_map, map, slice_index, slice_index_or, slice_range}
 use Rattle.unicode_width.specs.Width.{str_width}
 use Rattle.hyphenation_breaks.specs.Break.{Change}
-use Rattle.hyphenation_score.specs.Scoring.{Scored}
 use Rattle.explanations.specs.Columns.{Columns, value_columns, letter_column, line_begin, note_column}
+use Rattle.explanations.specs.Facts.{Facts}
 use Rattle.explanations.specs.Marks.{no_marks, row_marks, score_marks}
 use Rattle.explanations.specs.Notes.{entry_note, scores_note, decision_text}
 use Rattle.explanations.specs.Rows.{PatternRow}
-use Rattle.explanations.specs.declared.facts.Decision.{Decision}
 use Rattle.explanations.specs.declared.marks.Mark.{Mark}
 use Rattle.explanations.specs.declared.placed.Class.{Class}
 use Rattle.explanations.specs.declared.placed.Class.TheVariants.{Letter, Value, Word, Note}
@@ -41,7 +40,7 @@ letter_text columns place bytes = text_at Letter (letter_column columns place)
 
 -- The value of a place.
 abbrev pub mark_at : List (Option Mark) → ℕ → Option Mark
-mark_at marks place = unwrap_or (slice_get marks place) None
+mark_at marks place = slice_index_or marks place None
 
 -- A character begins with this byte.
 abbrev pub begins_char : ℕ → Bool
@@ -94,20 +93,26 @@ abbrev pub frame_row : Columns → List ℕ → PlacedRow
 frame_row columns framed = letters_row columns 0 framed (no_marks framed) []
 
 -- The row of a pattern: its text with its values, below the frame, and then their changes.
-abbrev pub pattern_row : {C : Type 0} → (C → Option Change) → Columns → List ℕ → List ℕ → List Scored → PatternRow C → PlacedRow
-pattern_row change_of columns framed folded scores row =
-    letters_row columns row.start (slice_range framed row.start (row.start + row.bytes)) (row_marks folded scores row)
+abbrev pub pattern_row : {C : Type 0} → (C → Option Change) → Columns → Facts C → PatternRow C → PlacedRow
+pattern_row change_of columns facts row =
+    letters_row columns row.start (slice_range facts.framed row.start (row.start + row.bytes)) (row_marks facts.folded facts.scores row)
     (note_texts (letter_column columns (row.start + row.bytes)) (flat_map (entry_note change_of) row.entries))
 
 -- The row of the scores: the word with the greatest value of each place, and the changes of these.
-abbrev pub scores_row : Columns → List ℕ → List Scored → PlacedRow
-scores_row columns folded scores = letters_row columns 1 folded (score_marks folded scores)
-    (note_texts (note_column columns 0) (scores_note scores))
+abbrev pub scores_row : {C : Type 0} → Columns → Facts C → PlacedRow
+scores_row columns facts = letters_row columns 1 facts.folded (score_marks facts.folded facts.scores)
+    (note_texts (note_column columns 0) (scores_note facts.scores))
 
 -- The row of a word with its breaks, below the first letter of the word, and the fact that decides.
-abbrev pub breaks_row : Columns → List ℕ → Decision → ℕ × ℕ → PlacedRow
-breaks_row columns hyphenated decision minima = record {
+abbrev pub breaks_row : {C : Type 0} → Columns → Facts C → PlacedRow
+breaks_row columns facts = record {
   begin = line_begin columns 1;
-  texts = text_at Word (letter_column columns 1) (str_width false (chars hyphenated)) hyphenated
-      ∷ note_texts (note_column columns (str_width false (chars hyphenated))) (decision_text decision minima);
+  texts = text_at Word (letter_column columns 1) (str_width false (chars facts.hyphenated)) facts.hyphenated
+      ∷ note_texts (note_column columns (str_width false (chars facts.hyphenated))) (decision_text facts.decision facts.minima);
 }
+
+-- The rows of the picture, by its columns.
+abbrev pub rows_at : {C : Type 0} → (C → Option Change) → Columns → Facts C → List PlacedRow
+rows_at change_of columns facts =
+    frame_row columns facts.framed ∷ (map (pattern_row change_of columns facts) facts.rows
+    ++ (scores_row columns facts ∷ breaks_row columns facts ∷ []))

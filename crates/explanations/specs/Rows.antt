@@ -16,11 +16,15 @@ pub record PatternRow (C : Type 0) : Type 0 where
 abbrev pub row_of : {C : Type 0} → Row C → PatternRow C
 row_of row = record { start = row.start; bytes = row.bytes; entries = row.entries.now }
 
+-- The row lies within the text.
+abbrev pub LiesWithin : {C : Type 0} → List ℕ → PatternRow C → Type 0
+LiesWithin text row = row.start + row.bytes ≤ length text
+
 -- The row shows an occurrence of a key in the text. It has a byte at least, the text there is a key, and its entries are those
 -- of the key.
 pub record IsOccurrence {C : Type 0} (keys : Patterns C) (text : List ℕ) (row : PatternRow C) : Type 0 where
   pub not_empty : 0 < row.bytes
-  pub within : row.start + row.bytes ≤ length text
+  pub within : LiesWithin text row
   pub key : keys (slice_range text row.start (row.start + row.bytes)) ≡ Some row.entries
 
 -- One row comes before another: its start is less, or equal and it has fewer bytes.

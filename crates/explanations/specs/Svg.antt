@@ -31,18 +31,12 @@ escaped text = escaped_after 0 0 text
 abbrev pub is_markup : ℕ → Bool
 is_markup byte = (byte == 60) || ((byte == 62) || (byte == 34))
 
--- The class of a value: odd or even.
-abbrev pub parity : ℕ → List ℕ
-parity value = if value % 2 == 1 then codes "odd" else codes "even"
-
--- The class of a value that is the greatest of its place, after another class; nothing for one that is not.
-abbrev pub winning : Bool → List ℕ
-winning wins = if wins then codes " wins" else []
-
--- The class of a text as an attribute.
+-- The class of a text as an attribute: for a value its parity, and whether it is the greatest of its place.
 abbrev pub class_text : Class → List ℕ
 class_text Letter = []
-class_text (Value mark) = codes " class='" ++ (parity mark.value ++ (winning mark.wins ++ codes "'"))
+class_text (Value mark) =
+    if mark.value % 2 == 1 then (if mark.wins then codes " class='odd wins'" else codes " class='odd'")
+    else (if mark.wins then codes " class='even wins'" else codes " class='even'")
 class_text Word = codes " class='word'"
 class_text Note = codes " class='note'"
 
@@ -109,30 +103,13 @@ abbrev pub groups : ℕ → List Drawn → List ℕ
 groups above [] = []
 groups above (drawing ∷ drawings) = group above drawing.svg ++ groups (above + (drawing.rows + 1)) drawings
 
--- The beginning of a document, up to its size.
-unfoldable pub document_open : List ℕ
-document_open = codes "<svg xmlns='http://www.w3.org/2000/svg' viewBox='0 0 "
-
--- The title of a document, after its size and up to its style sheet.
-unfoldable pub document_title : List ℕ
-document_title =
-    codes "' role='img' xml:space='preserve'><title>Why words break where they do</title><style>"
-
--- The style sheet of a document. It is that of the code, of which a law says that it ends no element.
-unfoldable pub style_sheet : List ℕ
-style_sheet = STYLE.now
-
--- The background of a document, after its style sheet.
-unfoldable pub background : List ℕ
-background = codes "</style><rect width='100%' height='100%' fill='#fff'/>\n"
-
--- The title, the style sheet and the background of a document, after its size.
-unfoldable pub document_style : List ℕ
-document_style = document_title ++ (style_sheet ++ background)
-
--- The beginning of a document of this width and height.
-abbrev pub document_begin : ℕ → ℕ → List ℕ
-document_begin width height = document_open ++ (decimal width ++ (codes " " ++ (decimal height ++ document_style)))
+-- The beginning of a document of this width and height, with its title, style sheet and background. The style sheet is that of
+-- the code, of which a law says that it ends no element.
+unfoldable pub document_begin : ℕ → ℕ → List ℕ
+document_begin width height =
+    codes "<svg xmlns='http://www.w3.org/2000/svg' viewBox='0 0 " ++ (decimal width ++ (codes " " ++ (decimal height
+    ++ (codes "' role='img' xml:space='preserve'><title>Why words break where they do</title><style>"
+    ++ (STYLE.now ++ codes "</style><rect width='100%' height='100%' fill='#fff'/>\n")))))
 
 -- The document of drawings. Its size is that of all of them.
 abbrev pub document_of : List Drawn → List ℕ

@@ -2,6 +2,7 @@
 
 ghost use Rattle.std.specs.Prelude.{◌≡◌, map, option_copied, IfOk};
 ghost use Rattle.std.specs.FinMap as finite;
+ghost use Rattle.std.specs.List.{All};
 ghost use Rattle.std.specs.String.{string_bytes};
 ghost use Rattle.hyphenation_breaks.specs.Dictionary.{entries_of_keys};
 ghost use Rattle.hyphenation_hyphenator.specs.Boundaries.{boundaries};
@@ -10,7 +11,7 @@ ghost use Rattle.hyphenation_hyphenator.specs.Opportunities.{rules_of};
 ghost use Rattle.hyphenation_hyphenator.specs.SoftHyphens.{soft_hyphens};
 ghost use Rattle.hyphenation_score.specs.Scoring.{frame, winners};
 ghost use Rattle.explanations.specs.Decisions.{decision_by, decision_from};
-ghost use Rattle.explanations.specs.Rows.{row_of, AreAllOccurrences};
+ghost use Rattle.explanations.specs.Rows.{row_of, AreAllOccurrences, LiesWithin};
 
 use crate::pattern_rows::{Row, rows};
 use hyphenation_breaks::breaks::Break;
@@ -55,6 +56,8 @@ pub struct Explanation<'d, C, B> {
     pub rows: Vec<Row<'d, C>>,
     /// The entry that wins each place of the folded word, from place 1 on, or `None` where the value is 0.
     pub winners: Vec<Option<&'d Entry<C>>>,
+    // Each row lies within the frame.
+    ghost within: { All (λ row. LiesWithin (string_bytes framed) (row_of row)) rows.items },
 }
 
 // Returns the places of a word's soft hyphens, or the empty list. The only error is out of memory.

@@ -1,11 +1,12 @@
 //! Texts in the fields of lines for programs. Functions named `push_..` append to a text.
 
-ghost use Rattle.std.specs.Prelude.{◌≡◌, ◌++◌, ◌<◌, List, OnOk, ℕ, false, slice_index};
+ghost use Rattle.std.specs.Prelude.{◌≡◌, ◌++◌, ◌<◌, List, OnOk, ℕ, false};
 ghost use Rattle.std.specs.Char.{digit_char, is_ascii_control};
 ghost use Rattle.std.specs.List.{All};
 ghost use Rattle.std.specs.Char.Escape.{escape_unicode};
 ghost use Rattle.explanations.specs.Fields.{are_control, control_escape, field_byte, field_text};
 
+use crate::numbers::item_at;
 use std::alloc::AllocError;
 
 // Returns a digit of base 16, in small letters.
@@ -68,20 +69,13 @@ fn push_field_byte(text: &mut Vec<u8>, before: u8, byte: u8, after: u8) -> Resul
     }
 }
 
-// Returns the byte of a text at a place, or 0 past the end.
-pub(crate) fn byte_at(bytes: &[u8], place: usize) -> u8
-    ensures { result ≡ slice_index bytes.now place }
-{
-    if place < bytes.len() { bytes[place] } else { 0 }
-}
-
 // Appends a text in a field.
 pub(crate) fn push_field_text(text: &mut Vec<u8>, bytes: &[u8]) -> Result<(), AllocError>
     ensures { OnOk result (text.new.items ≡ text.old.items ++ field_text bytes.now) }
 {
     let mut before = 0;
     for (index, byte) in bytes.iter().enumerate() {
-        push_field_byte(text, before, *byte, byte_at(bytes, index + 1))?;
+        push_field_byte(text, before, *byte, item_at(bytes, index + 1, 0))?;
         before = *byte;
     }
     Ok(())

@@ -2,13 +2,13 @@
 
 ghost use Rattle.std.specs.Prelude.{◌≡◌, chars, map, slice_index, IfOk, OnOk};
 ghost use Rattle.explanations.specs.Columns.{begins_from, column_before, columns_above, frame_columns};
-ghost use Rattle.explanations.specs.Columns.{letter_column, line_begin, note_column, shown_columns};
+ghost use Rattle.explanations.specs.Columns.{letter_column, line_begin, note_column};
 ghost use Rattle.explanations.specs.Columns.{single_columns, value_columns, with_room_at, with_room_for};
 ghost use Rattle.explanations.specs.Columns.{with_room_for_entries};
 ghost use Rattle.explanations.specs.Private.Drawing.{held_columns};
 ghost use Rattle.explanations.specs.Rows.{row_of};
 
-use crate::numbers::sum;
+use crate::numbers::{item_at, sum};
 use crate::pattern_rows::Row;
 use hyphenation_breaks::entry::Entry;
 use std::alloc::{AllocError, Global};
@@ -25,17 +25,6 @@ pub(crate) struct Layout {
     values: Vec<usize>,
     // The column at which the value of each place begins.
     begins: Vec<usize>,
-}
-
-// Returns the column of a place, or 0 past the end.
-fn column_at(columns: &[usize], place: usize) -> usize
-    ensures { result ≡ slice_index columns.now place }
-{
-    if place < columns.len() {
-        columns[place]
-    } else {
-        0
-    }
 }
 
 // The number of columns of a value.
@@ -103,16 +92,6 @@ fn make_room_for<C>(values: &mut Vec<usize>, rows: &[Row<'_, C>]) -> Result<(), 
     Ok(())
 }
 
-// The number of columns of a character.
-fn shown_columns(c: char) -> usize
-    ensures { result ≡ shown_columns c }
-{
-    match c.width() {
-        Some(columns) => columns,
-        None => 1,
-    }
-}
-
 // Returns the column at which the value of each place begins, by the characters of a frame. The only error is out of memory.
 fn begins_of_chars(
     alloc: Global,
@@ -126,8 +105,8 @@ fn begins_of_chars(
     let mut column = 0;
     for letter in letters {
         begins.push(column)?;
-        let letter_column = sum(column, column_at(values, place))?;
-        column = sum(letter_column, shown_columns(*letter))?;
+        let letter_column = sum(column, item_at(values, place, 0))?;
+        column = sum(letter_column, letter.width().unwrap_or(1))?;
         let bytes = sum(begins.len(), letter.len_utf8() - 1)?;
         begins.resize(bytes, column)?;
         place = sum(place, letter.len_utf8())?;
@@ -163,21 +142,21 @@ impl Layout {
     fn width(&self) -> usize
         ensures { result ≡ frame_columns (held_columns self.now) }
     {
-        column_at(&self.begins, self.begins.len().saturating_sub(1))
+        item_at(&self.begins, self.begins.len().saturating_sub(1), 0)
     }
 
     // Returns the column at which the value of a place begins.
     pub(crate) fn begin(&self, place: usize) -> usize
         ensures { result ≡ slice_index (held_columns self.now).begins place }
     {
-        column_at(&self.begins, place)
+        item_at(&self.begins, place, 0)
     }
 
     // Returns the column of the letter at a place. The only error is out of memory.
     pub(crate) fn letter_column(&self, place: usize) -> Result<usize, AllocError>
         ensures { IfOk result (λ column. column ≡ letter_column (held_columns self.now) place) }
     {
-        sum(self.begin(place), column_at(&self.values, place))
+        sum(self.begin(place), item_at(&self.values, place, 0))
     }
 
     // Returns the column at which the line of a row begins, by the place at which the row starts.

@@ -15,6 +15,7 @@
 
 mod facts;
 mod fields;
+mod known;
 mod layout;
 mod lines;
 mod marks;

@@ -1,20 +1,22 @@
 //! The lines for programs, field by field. Functions named `push_..` append to a text.
 
-ghost use Rattle.std.specs.Prelude.{◌≡◌, ◌++◌, ◌∷◌, [], OnOk, codes, flat_map, map, option_copied};
+ghost use Rattle.std.specs.Prelude.{◌≡◌, ◌++◌, IfOk, OnOk, codes, flat_map, map, option_copied};
+ghost use Rattle.std.specs.List.{All};
 ghost use Rattle.std.specs.Option.{option_map};
-ghost use Rattle.hyphenation_score.specs.Scoring.{score_of_winner};
 ghost use Rattle.explanations.specs.Lines.{bounds_line, change_numbers, change_text, decision_name, entry_field};
-ghost use Rattle.explanations.specs.Lines.{exception_line, number_field, pattern_line, places_line, score_fields, score_line};
-ghost use Rattle.explanations.specs.Lines.{text_line, value_field};
-ghost use Rattle.explanations.specs.Private.Drawing.{scores_by};
-ghost use Rattle.explanations.specs.Rows.{row_of};
+ghost use Rattle.explanations.specs.Lines.{exception_line, limit_lines, lines_of, number_field, pattern_line, places_line};
+ghost use Rattle.explanations.specs.Lines.{reason_lines, score_line, text_line, value_field, word_lines};
+ghost use Rattle.explanations.specs.Private.Drawing.{facts_in, scores_by};
+ghost use Rattle.explanations.specs.Rows.{row_of, LiesWithin};
 
 use crate::facts::Decision;
 use crate::fields::push_field_text;
+use crate::known::Known;
+use crate::marks::score_of;
 use crate::pattern_rows::{Row, letters_of};
 use hyphenation_breaks::entry::{Entry, Listing, Payload};
 use hyphenation_breaks::extended::Subregion;
-use std::alloc::AllocError;
+use std::alloc::{AllocError, Global};
 
 // Appends a field of a number.
 fn push_number_field(text: &mut Vec<u8>, number: usize) -> Result<(), AllocError>
@@ -79,22 +81,24 @@ fn push_pattern<C: Payload>(
     framed: &[u8],
     row: &Row<'_, C>,
 ) -> Result<(), AllocError>
+    requires { LiesWithin framed.now (row_of row.now) }
     ensures { OnOk result (text.new.items ≡ text.old.items ++ pattern_line C.change_of framed.now (row_of row.now)) }
 {
     let (start, bytes) = (row.start, row.bytes);
     let numbers = format!(in *text.allocator(); "pattern\t{start}\t{bytes}\t")?;
     text.extend_from_slice(numbers.as_bytes())?;
-    push_field_text(text, letters_of(framed, row)?)?;
+    push_field_text(text, letters_of(framed, row))?;
     push_entries(text, row.entries)?;
     text.extend_from_slice(b"\n")
 }
 
 // Appends the lines of the patterns that occur in the frame.
-pub(crate) fn push_patterns<C: Payload>(
+fn push_patterns<C: Payload>(
     text: &mut Vec<u8>,
     framed: &[u8],
     rows: &[Row<'_, C>],
 ) -> Result<(), AllocError>
+    requires { All (λ row. LiesWithin framed.now (row_of row)) rows.now }
     ensures { OnOk result (text.new.items
         ≡ text.old.items ++ flat_map (pattern_line C.change_of framed.now) (map row_of rows.now)) }
 {
@@ -104,23 +108,8 @@ pub(crate) fn push_patterns<C: Payload>(
     Ok(())
 }
 
-// Appends the field of the score at a place, by its winner.
-fn push_score<C: Payload>(
-    text: &mut Vec<u8>,
-    place: usize,
-    winner: Option<&Entry<C>>,
-) -> Result<(), AllocError>
-    ensures { OnOk result (text.new.items ≡ text.old.items
-        ++ score_fields place (score_of_winner C.change_of (option_copied winner.entry) ∷ [])) }
-{
-    match winner {
-        Some(entry) => push_value_field(text, place, entry.value, entry.change.as_change()),
-        None => push_value_field(text, place, 0, None),
-    }
-}
-
 // Appends the line of the scores of all places, by their winners.
-pub(crate) fn push_scores<C: Payload>(
+fn push_scores<C: Payload>(
     text: &mut Vec<u8>,
     winners: &[Option<&Entry<C>>],
 ) -> Result<(), AllocError>
@@ -128,17 +117,14 @@ pub(crate) fn push_scores<C: Payload>(
 {
     text.extend_from_slice(b"score")?;
     for (index, winner) in winners.iter().enumerate() {
-        push_score(text, index + 1, *winner)?;
+        let (value, change) = score_of(*winner);
+        push_value_field(text, index + 1, value, change)?;
     }
     text.extend_from_slice(b"\n")
 }
 
 // Appends a line of a name and places.
-pub(crate) fn push_places(
-    text: &mut Vec<u8>,
-    name: &[u8],
-    places: &[usize],
-) -> Result<(), AllocError>
+fn push_places(text: &mut Vec<u8>, name: &[u8], places: &[usize]) -> Result<(), AllocError>
     ensures { OnOk result (text.new.items ≡ text.old.items ++ places_line name.now places.now) }
 {
     text.extend_from_slice(name)?;
@@ -149,10 +135,7 @@ pub(crate) fn push_places(
 }
 
 // Appends the line of the bounds.
-pub(crate) fn push_bounds(
-    text: &mut Vec<u8>,
-    bounds: Option<(usize, usize)>,
-) -> Result<(), AllocError>
+fn push_bounds(text: &mut Vec<u8>, bounds: Option<(usize, usize)>) -> Result<(), AllocError>
     ensures { OnOk result (text.new.items ≡ text.old.items ++ bounds_line bounds) }
 {
     match bounds {
@@ -162,10 +145,7 @@ pub(crate) fn push_bounds(
 }
 
 // Appends the line of the listed breaks, or nothing if the word is no exception.
-pub(crate) fn push_exception<B: Listing>(
-    text: &mut Vec<u8>,
-    listed: Option<&[B]>,
-) -> Result<(), AllocError>
+fn push_exception<B: Listing>(text: &mut Vec<u8>, listed: Option<&[B]>) -> Result<(), AllocError>
     ensures { OnOk result (text.new.items
         ≡ text.old.items ++ exception_line (option_map (map B.meaning) (option_copied listed.entry))) }
 {
@@ -181,7 +161,7 @@ pub(crate) fn push_exception<B: Listing>(
 }
 
 // Returns the name of the fact that decides.
-pub(crate) fn name_of(decision: Decision) -> &'static str
+fn name_of(decision: Decision) -> &'static str
     ensures { result.now ≡ decision_name decision }
 {
     match decision {
@@ -193,15 +173,70 @@ pub(crate) fn name_of(decision: Decision) -> &'static str
 }
 
 // Appends a line of a name and one field, which has a text.
-pub(crate) fn push_text_line(
-    text: &mut Vec<u8>,
-    name: &[u8],
-    field: &[u8],
-) -> Result<(), AllocError>
+fn push_text_line(text: &mut Vec<u8>, name: &[u8], field: &[u8]) -> Result<(), AllocError>
     ensures { OnOk result (text.new.items ≡ text.old.items ++ text_line name.now field.now) }
 {
     text.extend_from_slice(name)?;
     text.extend_from_slice(b"\t")?;
     push_field_text(text, field)?;
     text.extend_from_slice(b"\n")
+}
+
+// Appends the lines of a word, its patterns and its scores.
+fn push_word_lines<C: Payload, B: Listing>(
+    text: &mut Vec<u8>,
+    known: &Known<'_, '_, C, B>,
+) -> Result<(), AllocError>
+    ensures { OnOk result (text.new.items
+        ≡ text.old.items ++ word_lines C.change_of (facts_in C.change_of B.meaning known.now)) }
+{
+    let facts = &known.facts;
+    push_text_line(text, b"word", known.word.as_bytes())?;
+    push_text_line(text, b"folded", facts.folded.as_bytes())?;
+    push_patterns(text, facts.framed.as_bytes(), &facts.rows)?;
+    push_scores(text, &facts.winners)
+}
+
+// Appends the lines of where the minima and soft hyphens allow breaks.
+fn push_limit_lines<C: Payload, B: Listing>(
+    text: &mut Vec<u8>,
+    known: &Known<'_, '_, C, B>,
+) -> Result<(), AllocError>
+    ensures { OnOk result (text.new.items
+        ≡ text.old.items ++ limit_lines (facts_in C.change_of B.meaning known.now)) }
+{
+    let facts = &known.facts;
+    let (left, right) = known.minima;
+    push_places(text, b"minima", &[left, right])?;
+    push_bounds(text, facts.bounds)?;
+    push_places(text, b"soft-hyphens", &facts.soft_hyphens)
+}
+
+// Appends the lines of the fact that decides.
+fn push_reason_lines<C: Payload, B: Listing>(
+    text: &mut Vec<u8>,
+    known: &Known<'_, '_, C, B>,
+) -> Result<(), AllocError>
+    ensures { OnOk result (text.new.items
+        ≡ text.old.items ++ reason_lines (facts_in C.change_of B.meaning known.now)) }
+{
+    let facts = &known.facts;
+    push_exception(text, facts.listed)?;
+    push_text_line(text, b"decided-by", name_of(facts.decision).as_bytes())
+}
+
+// Returns the lines for programs of what is known of a word. The only error is out of memory.
+pub(crate) fn lines_of<C: Payload, B: Listing>(
+    alloc: Global,
+    known: &Known<'_, '_, C, B>,
+) -> Result<Vec<u8>, AllocError>
+    ensures { IfOk result (λ text. text.items ≡ lines_of C.change_of (facts_in C.change_of B.meaning known.now)) }
+{
+    let mut text = Vec::new(alloc);
+    push_word_lines(&mut text, known)?;
+    push_limit_lines(&mut text, known)?;
+    push_reason_lines(&mut text, known)?;
+    push_places(&mut text, b"breaks", &known.places)?;
+    push_text_line(&mut text, b"hyphenated", known.hyphenated.as_bytes())?;
+    Ok(text)
 }

@@ -1,8 +1,8 @@
 //! The values of a drawing: what is at each place of a row.
 
-ghost use Rattle.std.specs.Prelude.{◌≡◌, IfOk, length, option_copied, option_map};
+ghost use Rattle.std.specs.Prelude.{◌≡◌, ◌+◌, ◌<◌, ◌^◌, IfOk, option_copied, option_map};
 ghost use Rattle.hyphenation_breaks.specs.Break.{is_boundary};
-ghost use Rattle.hyphenation_score.specs.Scoring.{value_of};
+ghost use Rattle.hyphenation_score.specs.Scoring.{score_of_winner, scored_pair};
 ghost use Rattle.explanations.specs.Marks.{entry_value, mark_of, no_marks, pattern_mark, row_marks, score_mark, score_marks, score_value};
 ghost use Rattle.explanations.specs.Private.Drawing.{scores_by};
 ghost use Rattle.explanations.specs.Rows.{row_of};
@@ -10,6 +10,7 @@ ghost use Rattle.explanations.specs.Rows.{row_of};
 use crate::numbers::sum;
 use crate::pattern_rows::Row;
 use hyphenation_breaks::entry::{Entry, Payload};
+use hyphenation_breaks::extended::Subregion;
 use std::alloc::{AllocError, Global};
 
 // A value that is drawn.
@@ -32,13 +33,13 @@ fn entry_value<C>(entries: &[Entry<C>], place: usize) -> Option<u8>
     None
 }
 
-// Returns the value that a winner has.
-fn value_of<C>(winner: Option<&Entry<C>>) -> u8
-    ensures { result ≡ value_of (option_copied winner.entry) }
+// Returns the value of a winner, with its change.
+pub(crate) fn score_of<C: Payload>(winner: Option<&Entry<C>>) -> (u8, Option<&Subregion>)
+    ensures { scored_pair result ≡ score_of_winner C.change_of (option_copied winner.entry) }
 {
     match winner {
-        Some(entry) => entry.value,
-        None => 0,
+        Some(entry) => (entry.value, entry.change.as_change()),
+        None => (0, None),
     }
 }
 
@@ -62,7 +63,7 @@ fn score_value<C: Payload>(word: &str, winners: &[Option<&Entry<C>>], place: usi
     if winners.len() < place {
         return None;
     }
-    Some(value_of(winners[place - 1]))
+    Some(score_of(winners[place - 1]).0)
 }
 
 // Returns no value for each place of a frame. The only error is out of memory.
@@ -78,49 +79,40 @@ pub(crate) fn no_marks(alloc: Global, framed: &[u8]) -> Result<Vec<Option<Mark>>
 fn pattern_mark(greatest: Option<u8>, value: u8) -> Mark
     ensures { result ≡ pattern_mark greatest value }
 {
-    match greatest {
-        Some(greatest) => Mark {
-            value,
-            wins: greatest == value,
-        },
-        None => Mark { value, wins: false },
+    Mark {
+        value,
+        wins: greatest == Some(value),
     }
 }
 
-// Returns the value of a row at one of its places. The only error is out of memory.
+// Returns the value of a row at a place of the frame.
 fn row_mark<C: Payload>(
     word: &str,
     winners: &[Option<&Entry<C>>],
     row: &Row<'_, C>,
     place: usize,
-) -> Result<Option<Mark>, AllocError>
-    ensures { IfOk result (λ mark. mark ≡ mark_of word.now (scores_by C.change_of winners.now) (row_of row.now) place) }
+) -> Option<Mark>
+    ensures { result ≡ mark_of word.now (scores_by C.change_of winners.now) (row_of row.now) place }
 {
-    let at = sum(row.start, place)?.saturating_sub(1);
-    let greatest = score_value(word, winners, at);
-    match entry_value(row.entries, place) {
-        Some(value) => Ok(Some(pattern_mark(greatest, value))),
-        None => Ok(None),
-    }
+    let greatest = score_value(word, winners, place.saturating_sub(1));
+    let value = entry_value(row.entries, place.saturating_sub(row.start))?;
+    Some(pattern_mark(greatest, value))
 }
 
-// Returns the values of a row at each of its places, by its letters. The only error is out of memory.
+// Returns the values of a row at each of its places. The only error is out of memory.
 pub(crate) fn row_marks<C: Payload>(
     alloc: Global,
     word: &str,
     winners: &[Option<&Entry<C>>],
     row: &Row<'_, C>,
-    letters: &[u8],
 ) -> Result<Vec<Option<Mark>>, AllocError>
-    requires { row.now.bytes ≡ length letters.now }
+    requires { row.now.start + row.now.bytes < 2 ^ 63 }
     ensures { IfOk result (λ marks. marks.items
         ≡ row_marks word.now (scores_by C.change_of winners.now) (row_of row.now)) }
 {
-    let mut marks = Vec::new(alloc);
-    for place in 0..letters.len() + 1 {
-        marks.push(row_mark(word, winners, row, place)?)?;
-    }
-    Ok(marks)
+    (row.start..row.start + row.bytes + 1)
+        .map(|place| row_mark(word, winners, row, place))
+        .collect(alloc)
 }
 
 // Returns the greatest value of a place, if it has one.

@@ -2,11 +2,11 @@
 
 ghost use Rattle.std.specs.Prelude.{◌≡◌, ◌++◌, IfOk, OnOk, flat_map, option_copied};
 ghost use Rattle.std.specs.String.{string_bytes};
-ghost use Rattle.hyphenation_score.specs.Scoring.{score_of_winner};
-ghost use Rattle.explanations.specs.Notes.{change_note, decision_text, entry_note, score_note, scores_note};
+ghost use Rattle.explanations.specs.Notes.{change_note, decision_text, entry_note, scores_note};
 ghost use Rattle.explanations.specs.Private.Drawing.{scores_by};
 
 use crate::facts::Decision;
+use crate::marks::score_of;
 use hyphenation_breaks::breaks::Break;
 use hyphenation_breaks::entry::{Entry, Payload};
 use hyphenation_breaks::extended::Subregion;
@@ -25,20 +25,6 @@ fn push_change(text: &mut Vec<u8>, value: u8, change: Option<&Subregion>) -> Res
     let alloc = *text.allocator();
     let note = format!(in alloc; "  {value}: {before}-{after} for {left}+{right} bytes")?;
     text.extend_from_slice(note.as_bytes())
-}
-
-// Appends the change of a winner.
-fn push_score_note<C: Payload>(
-    text: &mut Vec<u8>,
-    winner: Option<&Entry<C>>,
-) -> Result<(), AllocError>
-    ensures { OnOk result (text.new.items
-        ≡ text.old.items ++ score_note (score_of_winner C.change_of (option_copied winner.entry))) }
-{
-    match winner {
-        Some(entry) => push_change(text, entry.value, entry.change.as_change()),
-        None => Ok(()),
-    }
 }
 
 // Returns the note of a row with these entries. The only error is out of memory.
@@ -65,7 +51,8 @@ pub(crate) fn scores_note<C: Payload>(
     let mut note = Vec::new(alloc);
     note.extend_from_slice(b"the greatest value of each place")?;
     for winner in winners {
-        push_score_note(&mut note, *winner)?;
+        let (value, change) = score_of(*winner);
+        push_change(&mut note, value, change)?;
     }
     Ok(note)
 }

@@ -1,6 +1,7 @@
-//! Sums and products that may not fit, and numbers in decimal. On overflow the error is that of refused memory.
+//! Sums and products that may not fit, numbers in decimal, and items that may not be there. On overflow the error is that of
+//! refused memory.
 
-ghost use Rattle.std.specs.Prelude.{◌≡◌, ◌+◌, ◌*◌, ◌++◌, IfOk, OnOk, decimal};
+ghost use Rattle.std.specs.Prelude.{◌≡◌, ◌+◌, ◌*◌, ◌++◌, IfOk, OnOk, decimal, slice_index_or};
 
 use std::alloc::AllocError;
 
@@ -24,4 +25,15 @@ pub(crate) fn push_number(text: &mut Vec<u8>, number: usize) -> Result<(), Alloc
 {
     let digits = number.to_string(*text.allocator())?;
     text.extend_from_slice(digits.as_bytes())
+}
+
+// Returns the item at a place, or the other one past the end.
+pub(crate) fn item_at<T: Copy>(items: &[T], place: usize, other: T) -> T
+    ensures { result ≡ slice_index_or items.now place other }
+{
+    if place < items.len() {
+        items[place]
+    } else {
+        other
+    }
 }

@@ -6,10 +6,9 @@
 ghost use Rattle.std.specs.Prelude.{◌≡◌, ◌+◌, ◌-◌, ◌*◌, ◌<◌, ◌≤◌, ◌^◌, ℕ, length, map, slice_range, IfOk, OnOk};
 ghost use Rattle.hyphenation_breaks.specs.Dictionary.{entries_of_keys};
 ghost use Rattle.hyphenation_trie.specs.Trie.{node_text, entries_of_key, EachBeginsKey};
-ghost use Rattle.explanations.specs.Rows.{row_of, AreAllOccurrences, NoKeyIsLonger, LooksUpWithin};
+ghost use Rattle.explanations.specs.Rows.{row_of, AreAllOccurrences, LiesWithin, LooksUpWithin, NoKeyIsLonger};
 ghost use Rattle.explanations.specs.Private.Walking.{AreOccurrencesUpTo};
 
-use crate::numbers::sum;
 use hyphenation_breaks::breaks::Break;
 use hyphenation_breaks::entry::{Entry, Payload};
 use hyphenation_dictionary::dictionary::Dictionary;
@@ -31,17 +30,12 @@ pub struct Row<'d, C> {
     pub entries: &'d [Entry<C>],
 }
 
-// Returns the bytes of a text at which a row lies. The only error is out of memory; each row of a frame lies within it.
-pub(crate) fn letters_of<'t, C>(framed: &'t [u8], row: &Row<'_, C>) -> Result<&'t [u8], AllocError>
-    ensures letters { IfOk result (λ letters.
-        letters.now ≡ slice_range framed.now row.now.start (row.now.start + row.now.bytes)) }
-    ensures bytes { IfOk result (λ letters. length letters.now ≡ row.now.bytes) }
+// Returns the bytes of a text at which a row lies.
+pub(crate) fn letters_of<'t, C>(text: &'t [u8], row: &Row<'_, C>) -> &'t [u8]
+    requires { LiesWithin text.now (row_of row.now) }
+    ensures { result.now ≡ slice_range text.now row.now.start (row.now.start + row.now.bytes) }
 {
-    let end = sum(row.start, row.bytes)?;
-    if end > framed.len() {
-        return Err(AllocError);
-    }
-    Ok(&framed[row.start..end])
+    &text[row.start..row.start + row.bytes]
 }
 
 // Adds a row if the text from `start` up to the byte number `at`, which is that of the node, is a key.

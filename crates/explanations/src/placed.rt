@@ -3,12 +3,12 @@
 ghost use Rattle.std.specs.Prelude.{◌≡◌, ◌++◌, ◌∷◌, [], IfOk, OnOk, drop, map};
 ghost use Rattle.explanations.specs.Drawings.{placed};
 ghost use Rattle.explanations.specs.Placed.{begins_letter, letter_from, letter_texts};
-ghost use Rattle.explanations.specs.Placed.{mark_at, note_texts, text_at, texts_from, value_texts};
+ghost use Rattle.explanations.specs.Placed.{note_texts, text_at, texts_from, value_texts};
 ghost use Rattle.explanations.specs.Private.Drawing.{held_columns};
 
 use crate::layout::{Layout, columns_of_value};
 use crate::marks::Mark;
-use crate::numbers::sum;
+use crate::numbers::{item_at, sum};
 use std::alloc::{AllocError, Global};
 
 // The class of a text.
@@ -71,17 +71,6 @@ fn push_mark(
     push_text(texts, Class::Value(mark), column, columns, bytes)
 }
 
-// Returns the value of a place.
-fn mark_at(marks: &[Option<Mark>], place: usize) -> Option<Mark>
-    ensures { result ≡ mark_at marks.now place }
-{
-    if place < marks.len() {
-        marks[place]
-    } else {
-        None
-    }
-}
-
 // Reports whether a letter begins at a place of a text. The only error is out of memory.
 fn begins_letter(
     layout: &Layout,
@@ -114,7 +103,7 @@ fn letter_bytes(
     let mut bytes = Vec::new(alloc);
     for place in first..letters.len() {
         let byte = letters[place];
-        let begins = begins_letter(layout, start, place, byte, mark_at(marks, place))?;
+        let begins = begins_letter(layout, start, place, byte, item_at(marks, place, None))?;
         if first < place && begins {
             return Ok(bytes);
         }

@@ -1,19 +1,20 @@
 //! The rows of a picture.
 
 ghost use Rattle.std.specs.Prelude.{◌≡◌, ◌++◌, ◌∷◌, [], IfOk, OnOk, map};
+ghost use Rattle.std.specs.String.{string_bytes};
 ghost use Rattle.explanations.specs.Drawings.{placed_row};
-ghost use Rattle.explanations.specs.Placed.{breaks_row, frame_row};
-ghost use Rattle.explanations.specs.Private.Drawing.{first_rows, held_columns, last_rows, shown_row, shown_scores};
-ghost use Rattle.explanations.specs.Rows.{row_of};
+ghost use Rattle.explanations.specs.Placed.{breaks_row, frame_row, pattern_row, scores_row};
+ghost use Rattle.explanations.specs.Private.Drawing.{facts_in, held_columns};
+ghost use Rattle.explanations.specs.Rows.{row_of, LiesWithin};
+ghost use Rattle.explanations.specs.Texts.{picture_rows};
 
-use crate::facts::Decision;
+use crate::known::Known;
 use crate::layout::Layout;
 use crate::marks::{no_marks, row_marks, score_marks};
 use crate::notes::{decision_note, row_note, scores_note};
-use crate::numbers::sum;
 use crate::pattern_rows::{Row, letters_of};
 use crate::placed::{Class, Text, push_note, push_text, texts_of};
-use hyphenation_breaks::entry::{Entry, Payload};
+use hyphenation_breaks::entry::{Listing, Payload};
 use std::alloc::{AllocError, Global};
 use unicode_width::UnicodeWidthStr;
 
@@ -23,18 +24,6 @@ pub(crate) struct PictureRow {
     // The column at which its line begins in the picture for people.
     pub(crate) begin: usize,
     pub(crate) texts: Vec<Text>,
-}
-
-// A folded word, with all that its rows are drawn by.
-#[derive(Drop)]
-pub(crate) struct Shown<'a, C> {
-    // The columns of the frame's places.
-    pub(crate) layout: &'a Layout,
-    // The folded word, and the word between two dots.
-    pub(crate) word: &'a str,
-    pub(crate) framed: &'a [u8],
-    // The entry that wins each place.
-    pub(crate) winners: &'a [Option<&'a Entry<C>>],
 }
 
 // Appends a row.
@@ -58,73 +47,65 @@ fn frame_row(alloc: Global, layout: &Layout, framed: &[u8]) -> Result<PictureRow
 }
 
 // Returns the row of a pattern that occurs in the frame. The only error is out of memory.
-fn pattern_row<C: Payload>(
+fn pattern_row<C: Payload, B: Listing>(
     alloc: Global,
-    shown: &Shown<'_, C>,
+    layout: &Layout,
+    known: &Known<'_, '_, C, B>,
     row: &Row<'_, C>,
 ) -> Result<PictureRow, AllocError>
-    ensures { IfOk result (λ placed. placed_row placed ≡ shown_row C.change_of shown.now (row_of row.now)) }
+    requires { LiesWithin (string_bytes known.now.facts.framed) (row_of row.now) }
+    ensures { IfOk result (λ it. placed_row it
+        ≡ pattern_row C.change_of (held_columns layout.now) (facts_in C.change_of B.meaning known.now) (row_of row.now)) }
 {
-    let letters = letters_of(shown.framed, row)?;
-    let marks = row_marks(alloc, shown.word, shown.winners, row, letters)?;
-    let mut texts = texts_of(alloc, shown.layout, row.start, letters, &marks)?;
-    let column = shown.layout.letter_column(sum(row.start, row.bytes)?)?;
+    let facts = &known.facts;
+    let letters = letters_of(facts.framed.as_bytes(), row);
+    let marks = row_marks(alloc, &facts.folded, &facts.winners, row)?;
+    let mut texts = texts_of(alloc, layout, row.start, letters, &marks)?;
+    let column = layout.letter_column(row.start + row.bytes)?;
     push_note(&mut texts, column, row_note(alloc, row.entries)?)?;
     Ok(PictureRow {
-        begin: shown.layout.line_begin(row.start),
+        begin: layout.line_begin(row.start),
         texts,
     })
 }
 
-// Appends the row of the frame, and those of the patterns that occur in it.
-pub(crate) fn push_first_rows<C: Payload>(
-    alloc: Global,
-    placed: &mut Vec<PictureRow>,
-    shown: &Shown<'_, C>,
-    rows: &[Row<'_, C>],
-) -> Result<(), AllocError>
-    ensures { OnOk result (map placed_row placed.new.items
-        ≡ map placed_row placed.old.items ++ first_rows C.change_of shown.now (map row_of rows.now)) }
-{
-    push_row(placed, frame_row(alloc, shown.layout, shown.framed)?)?;
-    for row in rows {
-        push_row(placed, pattern_row(alloc, shown, row)?)?;
-    }
-    Ok(())
-}
-
 // Returns the row of the scores. The only error is out of memory.
-fn scores_row<C: Payload>(alloc: Global, shown: &Shown<'_, C>) -> Result<PictureRow, AllocError>
-    ensures { IfOk result (λ row. placed_row row ≡ shown_scores C.change_of shown.now) }
+fn scores_row<C: Payload, B: Listing>(
+    alloc: Global,
+    layout: &Layout,
+    known: &Known<'_, '_, C, B>,
+) -> Result<PictureRow, AllocError>
+    ensures { IfOk result (λ row. placed_row row
+        ≡ scores_row (held_columns layout.now) (facts_in C.change_of B.meaning known.now)) }
 {
-    let marks = score_marks(alloc, shown.word, shown.winners)?;
-    let mut texts = texts_of(alloc, shown.layout, 1, shown.word.as_bytes(), &marks)?;
-    let column = shown.layout.note_column(0)?;
-    push_note(&mut texts, column, scores_note(alloc, shown.winners)?)?;
+    let facts = &known.facts;
+    let marks = score_marks(alloc, &facts.folded, &facts.winners)?;
+    let mut texts = texts_of(alloc, layout, 1, facts.folded.as_bytes(), &marks)?;
+    let column = layout.note_column(0)?;
+    push_note(&mut texts, column, scores_note(alloc, &facts.winners)?)?;
     Ok(PictureRow {
-        begin: shown.layout.line_begin(1),
+        begin: layout.line_begin(1),
         texts,
     })
 }
 
 // Returns the row of a word with its breaks, and the fact that decides. The only error is out of memory.
-fn breaks_row(
+fn breaks_row<C: Payload, B: Listing>(
     alloc: Global,
     layout: &Layout,
-    hyphenated: &str,
-    decision: Decision,
-    minima: (usize, usize),
+    known: &Known<'_, '_, C, B>,
 ) -> Result<PictureRow, AllocError>
     ensures { IfOk result (λ row. placed_row row
-        ≡ breaks_row (held_columns layout.now) hyphenated.now decision minima) }
+        ≡ breaks_row (held_columns layout.now) (facts_in C.change_of B.meaning known.now)) }
 {
+    let hyphenated = known.hyphenated.as_str();
     let columns = hyphenated.width();
     let bytes = String::from_str(alloc, hyphenated)?.into_bytes();
     let mut texts = Vec::new(alloc);
     let column = layout.letter_column(1)?;
     push_text(&mut texts, Class::Word, column, columns, bytes)?;
     let column = layout.note_column(columns)?;
-    let note = decision_note(alloc, decision, minima)?.into_bytes();
+    let note = decision_note(alloc, known.facts.decision, known.minima)?.into_bytes();
     push_note(&mut texts, column, note)?;
     Ok(PictureRow {
         begin: layout.line_begin(1),
@@ -132,19 +113,25 @@ fn breaks_row(
     })
 }
 
-// Appends the row of the scores, and that of a word with its breaks.
-pub(crate) fn push_last_rows<C: Payload>(
+// Returns the rows of the picture. The only error is out of memory.
+pub(crate) fn picture_rows<C: Payload, B: Listing>(
     alloc: Global,
-    placed: &mut Vec<PictureRow>,
-    shown: &Shown<'_, C>,
-    hyphenated: &str,
-    decision: Decision,
-    minima: (usize, usize),
-) -> Result<(), AllocError>
-    ensures { OnOk result (map placed_row placed.new.items
-        ≡ map placed_row placed.old.items ++ last_rows C.change_of shown.now hyphenated.now decision minima) }
+    known: &Known<'_, '_, C, B>,
+) -> Result<Vec<PictureRow>, AllocError>
+    ensures { IfOk result (λ rows. map placed_row rows.items
+        ≡ picture_rows C.change_of (facts_in C.change_of B.meaning known.now)) }
 {
-    push_row(placed, scores_row(alloc, shown)?)?;
-    let last = breaks_row(alloc, shown.layout, hyphenated, decision, minima)?;
-    push_row(placed, last)
+    let facts = &known.facts;
+    let layout = Layout::new(alloc, &facts.framed, &facts.rows)?;
+    let mut rows = Vec::new(alloc);
+    push_row(
+        &mut rows,
+        frame_row(alloc, &layout, facts.framed.as_bytes())?,
+    )?;
+    for row in &facts.rows {
+        push_row(&mut rows, pattern_row(alloc, &layout, known, row)?)?;
+    }
+    push_row(&mut rows, scores_row(alloc, &layout, known)?)?;
+    push_row(&mut rows, breaks_row(alloc, &layout, known)?)?;
+    Ok(rows)
 }

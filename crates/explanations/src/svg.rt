@@ -2,15 +2,14 @@
 
 ghost use Rattle.std.specs.Prelude.{List, ℕ, false, ◌≡◌, ◌+◌, ◌++◌, IfOk, OnOk, flat_map, map};
 ghost use Rattle.std.specs.List.{All};
-ghost use Rattle.std.specs.String.{string_bytes};
 ghost use Rattle.explanations.specs.Drawings.{placed, placed_row};
-ghost use Rattle.explanations.specs.Svg.{class_text, elements_from, escaped, escaped_byte, is_markup, parity};
-ghost use Rattle.explanations.specs.Svg.{row_element, rows_end, span, texts_end, winning, word_title, x_by};
+ghost use Rattle.explanations.specs.Svg.{class_text, elements_from, escaped, escaped_byte, is_markup, row_element};
+ghost use Rattle.explanations.specs.Svg.{rows_end, span, texts_end, word_title, x_by};
 
 use crate::numbers::{product, sum};
 use crate::placed::{Class, Text};
 use crate::placed_rows::PictureRow;
-use std::alloc::{AllocError, Global};
+use std::alloc::AllocError;
 
 // Appends a byte as XML has it, after the two bytes before it.
 fn push_escaped_byte(text: &mut Vec<u8>, first: u8, second: u8, byte: u8) -> Result<(), AllocError>
@@ -47,32 +46,18 @@ fn push_escaped(text: &mut Vec<u8>, bytes: &[u8]) -> Result<(), AllocError>
     Ok(())
 }
 
-// Returns the class of a value's parity.
-fn parity(value: u8) -> &'static str
-    ensures { result.now ≡ parity value }
-{
-    if value % 2 == 1 { "odd" } else { "even" }
-}
-
-// Returns the class of a value that wins, after another one, or nothing.
-fn winning(wins: bool) -> &'static str
-    ensures { result.now ≡ winning wins }
-{
-    if wins { " wins" } else { "" }
-}
-
-// Returns the class of a text as an attribute. The only error is out of memory.
-fn class_text(alloc: Global, class: Class) -> Result<String, AllocError>
-    ensures { IfOk result (λ text. string_bytes text ≡ class_text class) }
+// Returns the class of a text as an attribute, or nothing for a letter.
+fn class_text(class: Class) -> &'static str
+    ensures { result.now ≡ class_text class }
 {
     match class {
-        Class::Letter => String::from_str(alloc, ""),
-        Class::Value(mark) => {
-            let (parity, winning) = (parity(mark.value), winning(mark.wins));
-            format!(in alloc; " class='{parity}{winning}'")
-        }
-        Class::Word => String::from_str(alloc, " class='word'"),
-        Class::Note => String::from_str(alloc, " class='note'"),
+        Class::Letter => "",
+        Class::Value(mark) if mark.value % 2 == 1 && mark.wins => " class='odd wins'",
+        Class::Value(mark) if mark.value % 2 == 1 => " class='odd'",
+        Class::Value(mark) if mark.wins => " class='even wins'",
+        Class::Value(_) => " class='even'",
+        Class::Word => " class='word'",
+        Class::Note => " class='note'",
     }
 }
 
@@ -90,10 +75,9 @@ fn x_by(class: Class, column: usize, columns: usize) -> Result<usize, AllocError
 fn push_span(out: &mut Vec<u8>, text: &Text) -> Result<(), AllocError>
     ensures { OnOk result (out.new.items ≡ out.old.items ++ span (placed text.now)) }
 {
-    let alloc = *out.allocator();
     let x = x_by(text.class, text.column, text.columns)?;
-    let class = class_text(alloc, text.class)?;
-    out.extend_from_slice(format!(in alloc; "<tspan{class} x='{x}'>")?.as_bytes())?;
+    let class = class_text(text.class);
+    out.extend_from_slice(format!(in *out.allocator(); "<tspan{class} x='{x}'>")?.as_bytes())?;
     push_escaped(out, &text.bytes)?;
     out.extend_from_slice(b"</tspan>")
 }

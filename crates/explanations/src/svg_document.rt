@@ -2,8 +2,7 @@
 
 ghost use Rattle.std.specs.Prelude.{◌≡◌, ◌+◌, ◌++◌, IfOk, OnOk, map};
 ghost use Rattle.explanations.specs.Drawings.{drawn};
-ghost use Rattle.explanations.specs.Svg.{all_rows, background, document_begin, document_of, document_open};
-ghost use Rattle.explanations.specs.Svg.{document_style, document_title, group, groups, style_sheet, widest};
+ghost use Rattle.explanations.specs.Svg.{all_rows, document_begin, document_of, group, groups, widest};
 
 use crate::numbers::{product, push_number, sum};
 use std::alloc::{AllocError, Global};
@@ -76,59 +75,17 @@ fn push_groups(text: &mut Vec<u8>, drawings: &[Drawing]) -> Result<(), AllocErro
     Ok(())
 }
 
-// Appends the beginning of a document, up to its size.
-#[tactic(auto, unfolding(crate::specs::Svg::document_open))]
-fn push_document_open(text: &mut Vec<u8>) -> Result<(), AllocError>
-    ensures { OnOk result (text.new.items ≡ text.old.items ++ document_open) }
-{
-    text.extend_from_slice(b"<svg xmlns='http://www.w3.org/2000/svg' viewBox='0 0 ")
-}
-
-// Appends the title of a document, after its size.
-#[tactic(auto, unfolding(crate::specs::Svg::document_title))]
-fn push_document_title(text: &mut Vec<u8>) -> Result<(), AllocError>
-    ensures { OnOk result (text.new.items ≡ text.old.items ++ document_title) }
-{
-    text.extend_from_slice(
-        b"' role='img' xml:space='preserve'><title>Why words break where they do</title><style>",
-    )
-}
-
-// Appends the style sheet of a document.
-#[tactic(auto, unfolding(crate::specs::Svg::style_sheet))]
-fn push_style_sheet(text: &mut Vec<u8>) -> Result<(), AllocError>
-    ensures { OnOk result (text.new.items ≡ text.old.items ++ style_sheet) }
-{
-    text.extend_from_slice(STYLE.as_bytes())
-}
-
-// Appends the background of a document.
-#[tactic(auto, unfolding(crate::specs::Svg::background))]
-fn push_background(text: &mut Vec<u8>) -> Result<(), AllocError>
-    ensures { OnOk result (text.new.items ≡ text.old.items ++ background) }
-{
-    text.extend_from_slice(b"</style><rect width='100%' height='100%' fill='#fff'/>\n")
-}
-
-// Appends the title, the style sheet and the background of a document, after its size.
-#[tactic(auto, unfolding(crate::specs::Svg::document_style))]
-fn push_document_style(text: &mut Vec<u8>) -> Result<(), AllocError>
-    ensures { OnOk result (text.new.items ≡ text.old.items ++ document_style) }
-{
-    push_document_title(text)?;
-    push_style_sheet(text)?;
-    push_background(text)
-}
-
 // Appends the beginning of a document of this width and height.
+#[tactic(auto, unfolding(crate::specs::Svg::document_begin))]
 fn push_document_begin(text: &mut Vec<u8>, width: usize, height: usize) -> Result<(), AllocError>
     ensures { OnOk result (text.new.items ≡ text.old.items ++ document_begin width height) }
 {
-    push_document_open(text)?;
-    push_number(text, width)?;
-    text.extend_from_slice(b" ")?;
-    push_number(text, height)?;
-    push_document_style(text)
+    let begin = format!(in *text.allocator();
+        "<svg xmlns='http://www.w3.org/2000/svg' viewBox='0 0 {width} {height}' role='img' xml:space='preserve'>\
+        <title>Why words break where they do</title><style>{STYLE}</style>\
+        <rect width='100%' height='100%' fill='#fff'/>\n"
+    )?;
+    text.extend_from_slice(begin.as_bytes())
 }
 
 /// Returns one standalone document in SVG of these drawings, each below the one before.

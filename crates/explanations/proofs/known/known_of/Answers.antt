@@ -1,7 +1,7 @@
 use Rattle.std.proofs.Common.{◌∙◌, ap, map, refl, option_map}
 use Rattle.hyphenation_score.specs.Scoring.{score_of_winner}
-use Rattle.explanations.specs.Texts.{place_of}
-use Rattle.explanations.proofs.texts.known_of.Goals as goal
+use Rattle.explanations.specs.Facts.{place_of}
+use Rattle.explanations.proofs.known.known_of.Goals as goal
 
 pub returns : goal.returns
 returns g c =
