@@ -5,8 +5,8 @@ use Rattle.std.specs.String.{string_bytes}
 use Rattle.hyphenation_grammar.specs.Messages.{error_text}
 use Rattle.command_line.specs.declared.failure.Failure.{Failure}
 use Rattle.command_line.specs.declared.failure.Failure.TheVariants as failed
-use Rattle.command_line.specs.declared.failure.Refusal.{Refusal}
-use Rattle.command_line.specs.declared.failure.Refusal.TheVariants.{NotUtf8, LongParagraph}
+use Rattle.command_line.specs.declared.failure.InputRefusal.{InputRefusal}
+use Rattle.command_line.specs.declared.failure.InputRefusal.TheVariants.{NotUtf8, LongParagraph}
 
 -- The status with which a program ends for a failure.
 abbrev pub status_of : Failure → ℕ
@@ -19,7 +19,7 @@ status_of failed.Output = 5
 status_of failed.Memory = 6
 
 -- The words for why an input is refused.
-abbrev pub refusal_words : Refusal → List ℕ
+abbrev pub refusal_words : InputRefusal → List ℕ
 refusal_words (NotUtf8 valid line) =
     codes "not UTF-8: line " ++ (decimal line ++ (codes ", after " ++ (decimal valid ++ codes " bytes")))
 refusal_words LongParagraph = codes "a paragraph is too long"

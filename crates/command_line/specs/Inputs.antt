@@ -8,7 +8,7 @@ use Rattle.named_files.specs.Files.{known_bytes}
 use Rattle.command_line.specs.Dictionaries.{KnownFiles}
 use Rattle.command_line.specs.declared.failure.Failure.{Failure}
 use Rattle.command_line.specs.declared.failure.Failure.TheVariants as failed
-use Rattle.command_line.specs.declared.failure.Refusal.TheVariants.{NotUtf8}
+use Rattle.command_line.specs.declared.failure.InputRefusal.TheVariants.{NotUtf8}
 
 -- The name is that of standard input.
 abbrev pub is_standard_input : List ℕ → Bool

@@ -11,7 +11,7 @@ use std::io::Write;
 
 /// Why an input is refused.
 #[derive(Clone, Copy)]
-pub enum Refusal {
+pub enum InputRefusal {
     /// It is UTF-8 up to that many bytes, and not beyond; that place is in the line of this number, from 1.
     NotUtf8 { valid: usize, line: usize },
     /// A paragraph of it is too long.
@@ -26,7 +26,7 @@ pub enum Failure {
     /// No folder has a dictionary of this language.
     NoDictionary { language: String },
     /// The input of this name is refused.
-    Refused { input: String, cause: Refusal },
+    Refused { input: String, cause: InputRefusal },
     /// The input of this name can't be read.
     Reading { input: String },
     /// The output of this name can't be written.
@@ -49,7 +49,7 @@ impl From<AllocError> for Failure {
 }
 
 /// Writes the words for why an input is refused, as `not UTF-8: line 2, after 17 bytes`.
-impl Display for Refusal {
+impl Display for InputRefusal {
     ghost use Rattle.std.specs.Prelude.{Some};
     ghost use Rattle.command_line.specs.Failures.{refusal_words};
 
@@ -57,10 +57,10 @@ impl Display for Refusal {
 
     fn fmt<W: fmt::Write>(&self, f: &mut Formatter<W>) -> fmt::Result {
         match self {
-            Refusal::NotUtf8 { valid, line } => {
+            InputRefusal::NotUtf8 { valid, line } => {
                 write!(f, "not UTF-8: line {line}, after {valid} bytes")
             }
-            Refusal::LongParagraph => f.write_str("a paragraph is too long"),
+            InputRefusal::LongParagraph => f.write_str("a paragraph is too long"),
         }
     }
 }

@@ -11,7 +11,7 @@ ghost use Rattle.command_line.specs.Inputs.{is_standard_input, input_bytes, show
 ghost use Rattle.command_line.specs.Inputs.{IsFailureOfInput, IsNotUtf8From, IsReadingOf, IsTextOf};
 ghost use Rattle.command_line.specs.Private.Failures.{IsRefusedText};
 
-use crate::failure::{Failure, Refusal};
+use crate::failure::{Failure, InputRefusal};
 use hyphenation_load::{is_out_of_memory, read_all};
 use named_files::NamedFiles;
 use std::alloc::Global;
@@ -58,7 +58,7 @@ fn not_utf8(alloc: Global, name: &str, bytes: &[u8], valid: usize) -> Failure
     ensures { IsRefusedText name.now bytes.now result }
 {
     let ended = bytes[..valid].iter().filter(|byte| **byte == b'\n').count();
-    let cause = Refusal::NotUtf8 {
+    let cause = InputRefusal::NotUtf8 {
         valid,
         line: ended + 1,
     };

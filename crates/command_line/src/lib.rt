@@ -15,7 +15,7 @@ mod messages;
 pub mod options;
 
 pub use about::write_help_or_version;
-pub use failure::{Failure, Refusal, report};
+pub use failure::{Failure, InputRefusal, report};
 use hyphenation_load::is_out_of_memory;
 pub use messages::{Messages, done};
 pub use named_files::{Listed, NamedFiles};

@@ -166,27 +166,27 @@ pub(crate) fn language_value<'t>(form: PageForm, attributes: &[Attribute<'t>]) -
 
 // A language as it is written, whose references, if it may have some, are read when it is asked for.
 #[derive(Clone, Copy)]
-pub(crate) struct Language<'t> {
+pub(crate) struct LanguageValue<'t> {
     pub(crate) written: &'t [u8],
     pub(crate) has_references: bool,
 }
 
 // The language that a value names, whose references are read.
-fn language_read(value: &[u8]) -> Language<'_>
+fn language_read(value: &[u8]) -> LanguageValue<'_>
     ensures { held_language result.has_references result.written.now ≡ read_value value.now }
 {
-    Language {
+    LanguageValue {
         written: value,
         has_references: has_ampersand(value),
     }
 }
 
 // The language that a value names.
-pub(crate) fn language_by(value: &[u8]) -> Language<'_>
+pub(crate) fn language_by(value: &[u8]) -> LanguageValue<'_>
     ensures { held_language result.has_references result.written.now ≡ language_by value.now }
 {
     if value.len() > LONGEST_LANGUAGE {
-        Language {
+        LanguageValue {
             written: value,
             has_references: false,
         }
@@ -200,13 +200,13 @@ fn language_of<'t>(
     form: PageForm,
     attributes: &[Attribute<'t>],
     around: Element<'t>,
-) -> Language<'t>
+) -> LanguageValue<'t>
     ensures { held_language result.has_references result.written.now
         ≡ language_of form (map as_attribute attributes.now) (as_element around.entry).language }
 {
     match language_value(form, attributes) {
         Some(value) => language_by(value),
-        None => Language {
+        None => LanguageValue {
             written: around.language,
             has_references: around.has_references,
         },

@@ -8,7 +8,7 @@ ghost use Rattle.html_pieces.specs.Pieces.{as_piece};
 ghost use Rattle.html_pieces.specs.Private.Languages.{as_language, HasThese};
 
 use crate::bytes::PageForm;
-use crate::elements::{Language, language_by, language_value};
+use crate::elements::{LanguageValue, language_by, language_value};
 use crate::forms::is_start;
 use crate::references::read;
 use crate::tags::attributes;
@@ -21,7 +21,7 @@ fn language_named<'t>(
     alloc: Global,
     form: PageForm,
     piece: Piece<'t>,
-) -> Result<Option<Language<'t>>, AllocError>
+) -> Result<Option<LanguageValue<'t>>, AllocError>
     ensures { IfOk result (λ named. option_map as_language named ≡ language_named form (as_piece piece.entry)) }
 {
     if !is_start(piece.kind) {
@@ -63,7 +63,7 @@ fn push_named(
     all: &mut Vec<String>,
     set: &mut BTreeSet<String>,
     alloc: Global,
-    named: Option<Language<'_>>,
+    named: Option<LanguageValue<'_>>,
 ) -> Result<(), AllocError>
     requires { HasThese all.old.items set.old }
     ensures pushed { OnOk result (map string_bytes all.new.items

@@ -118,8 +118,9 @@ impl FrozenLevel {
         self.has_changes
     }
 
-    // Makes the table by which words are read faster, if there is none yet and there can be one. A level with many nodes has
-    // had its own since it was loaded, or can have none. The only error is out of memory; the level can be used on as it was.
+    // Makes the table by which words are read faster, if there is none yet and there can be one. A level with many
+    // nodes has had its own since it was loaded, or can have none. The only error is out of memory; the level can be
+    // used on as it was.
     pub(crate) fn make_table(&mut self, alloc: Global) -> Result<(), AllocError>
         ensures { self.new ≡ self.old }
     {
@@ -143,7 +144,8 @@ pub(crate) struct GrowingLevel {
     pattern: Vec<StoredPattern>,
     // The nodes along the key of the line before.
     trail: Trail,
-    // For each slot the node of a key whose pattern may have the digits looked for. It guides a search and proves nothing.
+    // For each slot the node of a key whose pattern may have the digits looked for. It guides a search and proves
+    // nothing.
     known: Vec<u32>,
 }
 
@@ -174,8 +176,8 @@ impl GrowingLevel {
         })
     }
 
-    // Adds one more line of a file. A comment adds nothing, and what follows a byte 0 is not seen. The only error is out of
-    // memory.
+    // Adds one more line of a file. A comment adds nothing, and what follows a byte 0 is not seen. The only error is
+    // out of memory.
     #[inline(always)]
     pub(crate) fn add_line(
         &mut self,
@@ -207,8 +209,8 @@ impl GrowingLevel {
         Ok(())
     }
 
-    // Adds one more line, which is no comment and has no byte 0. The last line of each setting counts. The only error is out
-    // of memory.
+    // Adds one more line, which is no comment and has no byte 0. The last line of each setting counts. The only error
+    // is out of memory.
     fn add_text(&mut self, alloc: Global, utf8: bool, line: &[u8]) -> Result<(), AllocError>
         requires { IsGrowing self.old }
         ensures added { OnOk result (level_in self.new ≡ with_text utf8 (level_in self.old) line.now) }
@@ -239,8 +241,8 @@ impl GrowingLevel {
         Ok(())
     }
 
-    // Adds the pattern without a change that a text spells. A key of an earlier pattern with these digits has it in common with
-    // the new one, so that it takes no more memory. The only error is out of memory.
+    // Adds the pattern without a change that a text spells. A key of an earlier pattern with these digits has it in
+    // common with the new one, so that it takes no more memory. The only error is out of memory.
     #[inline(always)]
     fn add_spelt(&mut self, alloc: Global, spelt: &[u8]) -> Result<(), AllocError>
         requires { IsGrowing self.old }
@@ -266,8 +268,8 @@ impl GrowingLevel {
         Ok(())
     }
 
-    // Adds a pattern, whose key has `count` bytes and is at the front of its buffer. The last pattern of a key counts; the
-    // empty key never does. The only error is out of memory.
+    // Adds a pattern, whose key has `count` bytes and is at the front of its buffer. The last pattern of a key
+    // counts; the empty key never does. The only error is out of memory.
     #[inline(always)]
     fn add_pattern(&mut self, count: usize, pattern: StoredPattern) -> Result<(), AllocError>
         requires growing { IsGrowing self.old }

@@ -159,8 +159,8 @@ fn spell(spelt: &[u8], key: &mut [u8], digits: &mut [u8]) -> Spelt
     Spelt { count, hash }
 }
 
-// Writes the key and the digits that a text spells to the fronts of their buffers, and returns the length of the key. The
-// only error is out of memory.
+// Writes the key and the digits that a text spells to the fronts of their buffers, and returns the length of the key.
+// The only error is out of memory.
 #[inline(always)]
 pub(crate) fn spell_into(spelt: &[u8], spelling: &mut Spelling) -> Result<Spelt, AllocError>
     ensures key_within { IfOk result (λ found. found.count ≤ length spelling.new.key.items) }
@@ -174,8 +174,8 @@ pub(crate) fn spell_into(spelt: &[u8], spelling: &mut Spelling) -> Result<Spelt,
     Ok(found)
 }
 
-// Writes the key that a text spells to the front of a buffer, and returns the length of the key, and the digits. The only
-// error is out of memory.
+// Writes the key that a text spells to the front of a buffer, and returns the length of the key, and the digits. The
+// only error is out of memory.
 pub(crate) fn key_and_digits(
     alloc: Global,
     spelt: &[u8],
@@ -421,8 +421,8 @@ fn drop_digit_before_dot(key: &[u8], digits: &mut Vec<u8>)
     }
 }
 
-// Writes the key of a line to the front of a buffer, and returns the length of the key, and the pattern without it. The only
-// error is out of memory.
+// Writes the key of a line to the front of a buffer, and returns the length of the key, and the pattern without it.
+// The only error is out of memory.
 pub(crate) fn pattern_of(
     alloc: Global,
     utf8: bool,

@@ -36,19 +36,22 @@ const UNKNOWN: [u8; 16] = [255; 16];
 // The greatest number of vectors.
 const MOST: usize = 4096;
 
-// The number of slots by which an equal vector is found: twice that of vectors, so that a search soon comes to a free one.
+// The number of slots by which an equal vector is found: twice that of vectors, so that a search soon comes to a free
+// one.
 const SLOTS: usize = 8192;
 
-// The number of slots that a search reads at most. A vector that is not found by then is added once more, which is no error.
+// The number of slots that a search reads at most. A vector that is not found by then is added once more, which is no
+// error.
 const TRIES: usize = 64;
 
 // A free slot holds this, which is the number of no vector.
 const FREE: u32 = u32::MAX;
 
-/// The vectors of all nodes. A vector has the digits that a node's own pattern gives to the 16 last places, counted from 0.
+/// The vectors of all nodes. A vector has the digits that a node's own pattern gives to the 16 last places, counted
+/// from 0.
 ///
-/// If the first lane is 10 or more, nothing is known of the node's pattern. Otherwise it changes no letters, and has no digits
-/// but those of the vector.
+/// If the first lane is 10 or more, nothing is known of the node's pattern. Otherwise it changes no letters, and has
+/// no digits but those of the vector.
 #[derive(Drop)]
 pub struct NodeVectors {
     /// For each node the number of its vector.
@@ -134,8 +137,8 @@ fn first_slot(vector: &[u8; 16]) -> usize
     (mixed.wrapping_mul(0xd6e8feb86659fd93) >> 51) as usize
 }
 
-// Returns the number of an equal vector, or else the slot for a new one. A slot is a hint: the vector that it leads to is
-// compared.
+// Returns the number of an equal vector, or else the slot for a new one. A slot is a hint: the vector that it leads
+// to is compared.
 fn find_vector(vectors: &[[u8; 16]], slots: &[u32], vector: &[u8; 16]) -> Result<usize, usize>
     requires slots { length slots.now ≡ 8192 }
     ensures found { IfOk result (λ number.
@@ -157,8 +160,8 @@ fn find_vector(vectors: &[[u8; 16]], slots: &[u32], vector: &[u8; 16]) -> Result
     Err(first)
 }
 
-// Returns the number of a vector, which is added if no vector is equal. Where there are too many, it is the number of the one
-// that says nothing. The only error is out of memory.
+// Returns the number of a vector, which is added if no vector is equal. Where there are too many, it is the number of
+// the one that says nothing. The only error is out of memory.
 fn find_or_add(
     vectors: &mut Vec<[u8; 16]>,
     slots: &mut [u32],
@@ -219,7 +222,8 @@ fn numbered_vectors(
     alloc: Global,
     patterns: &Automaton<StoredPattern>,
 ) -> Result<Numbered, AllocError>
-    ensures { IfOk result (λ n. AreNodesNumbered patterns.now n.numbers.items n.vectors.items (length patterns.now.texts)) }
+    ensures { IfOk result
+        (λ n. AreNodesNumbered patterns.now n.numbers.items n.vectors.items (length patterns.now.texts)) }
 {
     patterns.invariant();
     let nodes = patterns.nodes();

@@ -27,8 +27,8 @@ use libhyphen_files::bytes::{before_nul, continues};
 use libhyphen_files::minima::Minima;
 use std::alloc::{AllocError, Global};
 
-/// The least numbers of letters before and after a break that a caller asks for. Those of the dictionary count where they are
-/// greater.
+/// The least numbers of letters before and after a break that a caller asks for. Those of the dictionary count where
+/// they are greater.
 #[derive(Debug, Clone, Copy)]
 pub struct CallMinima {
     /// Before a break of the word. Below 1 it is 2.
@@ -41,8 +41,8 @@ pub struct CallMinima {
     pub compound_right: i32,
 }
 
-/// The answer of a call: for each character of the word, the digit and the change of the place behind it. In other charsets than UTF-8
-/// each byte is a character.
+/// The answer of a call: for each character of the word, the digit and the change of the place behind it. In other
+/// charsets than UTF-8 each byte is a character.
 #[derive(Debug, Drop)]
 pub struct CallAnswer<'d> {
     /// The digits, from `b'0'` to `b'9'`; an odd one allows a break. Beside a text without breaks is a byte 0, where
@@ -165,8 +165,8 @@ fn without_right<'d>(
     }
 }
 
-// Returns what both levels find in the first bytes of a text, a word, without the places that are too near to its ends. The only
-// error is out of memory.
+// Returns what both levels find in the first bytes of a text, a word, without the places that are too near to its
+// ends. The only error is out of memory.
 #[tactic(auto, unfolding(crate::specs::Calls::found_by_call))]
 fn found_by_call<'d>(
     alloc: Global,
@@ -304,7 +304,8 @@ fn take_kept(
     text: &[u8],
     digits: &mut [u8],
 )
-    ensures { digits.new ≡ digits_beside dictionary.now.top.no_hyphen (taken_digit minima) (before_nul text.now) digits.old }
+    ensures { digits.new
+        ≡ digits_beside dictionary.now.top.no_hyphen (taken_digit minima) (before_nul text.now) digits.old }
 {
     let instead = match minima {
         None => b'0',
@@ -329,7 +330,8 @@ fn kept_digits(
     size: usize,
 ) -> Result<Option<Vec<u8>>, AllocError>
     requires { size ≤ length text.now }
-    ensures kept { IfOk result (λ found. IfSome found (λ digits. KeepsDigits dictionary.now minima text.now size digits.items)) }
+    ensures kept { IfOk result (λ found. IfSome found
+        (λ digits. KeepsDigits dictionary.now minima text.now size digits.items)) }
     ensures digits { IfOk result (λ found. IfSome found (λ digits. length digits.items ≡ size)) }
 {
     if all_ordinary(dictionary, text) {
@@ -393,8 +395,8 @@ fn keep_digits(utf8: bool, ascii: bool, word: &[u8], digits: &mut [u8]) -> usize
     }
 }
 
-/// Writes the digits of a word's characters to the front of a list, and returns how many there are; `None`, with anything in
-/// the list, where [`hyphenate`] must be asked. No memory is taken.
+/// Writes the digits of a word's characters to the front of a list, and returns how many there are; `None`, with
+/// anything in the list, where [`hyphenate`] must be asked. No memory is taken.
 ///
 /// The answer of [`hyphenate`] has these digits then, and no changes. The word has at most 64 bytes, and the list a
 /// place for each. The result is `None` if the text has a digit or the first byte of a text without breaks. It is also
@@ -414,7 +416,8 @@ pub fn short_digits(
     requires within { size ≤ length text.now }
     requires short { size ≤ 64 }
     requires digits { length digits.old ≡ size }
-    ensures answer { IfSome result (λ count. Some (plain_answer (take count digits.new)) ≡ answer_of dictionary.now minima text.now size) }
+    ensures answer { IfSome result
+        (λ count. Some (plain_answer (take count digits.new)) ≡ answer_of dictionary.now minima text.now size) }
     ensures count { IfSome result (λ count. count ≤ size) }
     ensures digits { length digits.new ≡ size }
 {
@@ -447,8 +450,8 @@ fn changes_in_characters<'d>(
     changes_of_characters(alloc, &text[..size], &ended, changes)
 }
 
-// Returns the answer for the characters of a word, the first bytes of a text, by the digits and the changes of its bytes. The only
-// error is out of memory.
+// Returns the answer for the characters of a word, the first bytes of a text, by the digits and the changes of its
+// bytes. The only error is out of memory.
 fn answer_in_characters<'d>(
     alloc: Global,
     text: &[u8],
@@ -460,7 +463,8 @@ fn answer_in_characters<'d>(
     requires within { size ≤ length text.now }
     requires digits { length digits.items ≡ size }
     requires changes { length changes.items ≡ size }
-    ensures digits { IfOk result (λ answer. answer.digits.items ≡ digits_of_characters (take size text.now) digits.items) }
+    ensures digits { IfOk result
+        (λ answer. answer.digits.items ≡ digits_of_characters (take size text.now) digits.items) }
     ensures changes { IfOk result (λ answer. placed_all answer.changes.items
         ≡ changes_in_characters text.now size (placed_all changes.entry.items)) }
     ensures made { IfOk result (λ answer. answer.made ≡ made) }
@@ -505,12 +509,12 @@ fn unchanged_answer<'d>(
     })
 }
 
-/// Breaks a word: the first bytes of a text. The text behind it counts for minima and texts without breaks, as it does for
-/// libhyphen.
+/// Breaks a word: the first bytes of a text. The text behind it counts for minima and texts without breaks, as it
+/// does for libhyphen.
 ///
-/// Without minima of the caller those of the dictionary count, as in libhyphen's `hnj_hyphen_hyphenate2`; with them of each the greater
-/// one, as in `hnj_hyphen_hyphenate3`. The result is `None` if the word is to be UTF-8 and begins within a character. The only error
-/// is out of memory.
+/// Without minima of the caller those of the dictionary count, as in libhyphen's `hnj_hyphen_hyphenate2`; with them
+/// of each the greater one, as in `hnj_hyphen_hyphenate3`. The result is `None` if the word is to be UTF-8 and begins
+/// within a character. The only error is out of memory.
 ///
 /// ```text
 /// let dictionary = load(alloc, b"UTF-8\nr5kin\n")?;
@@ -597,8 +601,8 @@ fn inner_digit(digits: &[u8], byte: usize) -> u8
     }
 }
 
-// Returns digits without those of the places behind the first byte, behind the last but one, and behind the last. The only error is
-// out of memory.
+// Returns digits without those of the places behind the first byte, behind the last but one, and behind the last. The
+// only error is out of memory.
 fn inner_digits(alloc: Global, digits: &[u8]) -> Result<Vec<u8>, AllocError>
     ensures { IfOk result (λ inner. inner.items ≡ inner_digits digits.now) }
 {

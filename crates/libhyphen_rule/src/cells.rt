@@ -170,8 +170,8 @@ fn note_cut<'d>(cells: &mut [Cell<'d>], change: Option<&'d StoredChange>, begin:
     }
 }
 
-// Takes a pattern that counts. Its key begins at the place `start` of the frame; the start of its region is counted from
-// the place `first`.
+// Takes a pattern that counts. Its key begins at the place `start` of the frame; the start of its region is counted
+// from the place `first`.
 #[inline(always)]
 pub(crate) fn take_pattern<'d>(
     cells: &mut [Cell<'d>],

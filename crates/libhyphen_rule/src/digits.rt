@@ -57,8 +57,8 @@ fn digits_given(pattern: &StoredPattern, most: usize, plain: bool) -> &[u8]
     first_digits(pattern, most)
 }
 
-// Finds the digits of a word's places: for each byte of the word that of the place behind it. If `plain` is set, patterns that
-// change letters give no digits.
+// Finds the digits of a word's places: for each byte of the word that of the place behind it. If `plain` is set,
+// patterns that change letters give no digits.
 #[inline(always)]
 pub(crate) fn read_digits(
     patterns: &Automaton<StoredPattern>,

@@ -141,8 +141,8 @@ fn read_changes<'d>(
     Ok(())
 }
 
-/// Finds the digits and the changes of a word's places by one level: for each byte of the word those of the place behind
-/// it.
+/// Finds the digits and the changes of a word's places by one level: for each byte of the word those of the place
+/// behind it.
 ///
 /// Both lists have one item for each byte, and each item is written. The only error is out of memory; what the lists
 /// then contain is not known. A level without changes takes no memory.

@@ -336,8 +336,8 @@ fn has_odd(list: &[u8; 96], count: usize) -> bool
     false
 }
 
-// Puts the digits of a short word's places, by the list in which they are counted from 0. The place behind the last byte
-// has none. Returns whether some digit is odd, with anything in the list.
+// Puts the digits of a short word's places, by the list in which they are counted from 0. The place behind the last
+// byte has none. Returns whether some digit is odd, with anything in the list.
 #[inline(always)]
 fn put_short(list: &mut [u8; 96], digits: &mut [u8]) -> bool
     requires short { length digits.old ≤ 64 }
@@ -388,8 +388,8 @@ fn read_short_frame(
     Some(put_short(&mut list, digits))
 }
 
-// Finds the digits of a word's places by some patterns, in one pass over the word's frame. Returns whether some digit is
-// odd; `None` where a pattern counts that may change letters. The word has no digits.
+// Finds the digits of a word's places by some patterns, in one pass over the word's frame. Returns whether some digit
+// is odd; `None` where a pattern counts that may change letters. The word has no digits.
 #[inline(always)]
 fn read_any_frame(
     patterns: &Automaton<StoredPattern>,
@@ -436,8 +436,8 @@ pub(crate) fn may_count(level: &FrozenLevel, word: &[u8]) -> bool
 }
 
 // Finds the digits of a word's places by one level: for each byte of the word that of the place behind it. Returns
-// whether some digit is odd; `None`, with anything in the lists, where a pattern counts that may change letters. The word
-// has no digits.
+// whether some digit is odd; `None`, with anything in the lists, where a pattern counts that may change letters. The
+// word has no digits.
 //
 // The first list is room to work in, 18 bytes longer than the word or more.
 #[inline(always)]

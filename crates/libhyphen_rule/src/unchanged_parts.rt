@@ -121,9 +121,11 @@ fn unchanged_in(
     requires list { length asked.text.now + 18 ≤ length list.old }
     requires digits { length digits.old ≡ length asked.text.now }
     ensures found { IfSome result (λ _.
-        IsUnchanged (found_in levels.entry.dictionary.now (minima_of levels.entry) depth parts (asked_in asked.entry)) digits.new) }
+        IsUnchanged (found_in levels.entry.dictionary.now (minima_of levels.entry) depth parts (asked_in asked.entry))
+        digits.new) }
     ensures parts { IfSome result (λ left.
-        (found_in levels.entry.dictionary.now (minima_of levels.entry) depth parts (asked_in asked.entry)).parts ≡ left) }
+        (found_in levels.entry.dictionary.now (minima_of levels.entry) depth parts (asked_in asked.entry)).parts
+        ≡ left) }
     ensures list_length { length list.new ≡ length list.old }
     ensures digits_length { length digits.new ≡ length digits.old }
 {

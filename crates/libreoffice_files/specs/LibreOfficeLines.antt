@@ -81,27 +81,27 @@ lines_in first text = lines_from first (slice_split (λ b. b == line_feed) text)
 
 -- The settings for all levels: the least numbers of letters before and after a break, and texts: no break is directly before or
 -- after them.
-pub record Settings : Type 0 where
+pub record FileSettings : Type 0 where
   pub left : Option (List ℕ)
   pub right : Option (List ℕ)
   pub no_hyphen : Option (List ℕ)
 
 -- No setting.
-abbrev pub nothing_set : Settings
+abbrev pub nothing_set : FileSettings
 nothing_set = record { left = None; right = None; no_hyphen = None }
 
 -- The setting of one more line. If a setting comes several times, the last one counts.
-abbrev pub set_by : LineKind → List ℕ → Settings → Settings
+abbrev pub set_by : LineKind → List ℕ → FileSettings → FileSettings
 set_by Left text settings = record settings { left = Some text }
 set_by Right text settings = record settings { right = Some text }
 set_by NoHyphen text settings = record settings { no_hyphen = Some text }
 set_by kind text settings = settings
 
-abbrev pub with_line : Settings → DicLine → Settings
+abbrev pub with_line : FileSettings → DicLine → FileSettings
 with_line settings line = set_by line.kind line.text settings
 
 -- The settings of lines.
-abbrev pub settings_of : List DicLine → Settings
+abbrev pub settings_of : List DicLine → FileSettings
 settings_of lines = fold with_line nothing_set lines
 
 -- The number from 0 to 255 that LEFTHYPHENMIN or RIGHTHYPHENMIN has.

@@ -21,7 +21,8 @@ use crate::dic_patterns::{
     push_fitting,
 };
 use crate::lines::{
-    Line, LineKind, Settings, line_fault, line_of, lines_of, minimum_of, minimum_set, settings_of,
+    FileSettings, Line, LineKind, line_fault, line_of, lines_of, minimum_of, minimum_set,
+    settings_of,
 };
 use hyphenation_breaks::entry::{Listing, Payload};
 use hyphenation_breaks::language::Language;
@@ -138,7 +139,7 @@ fn all_patterns(
     alloc: Global,
     noted: &mut PatternNotes,
     lines: &[Line<'_>],
-    settings: Settings<'_>,
+    settings: FileSettings<'_>,
 ) -> Result<Vec<(Vec<u8>, Pattern)>, AllocError>
     requires { settings_view settings ≡ settings_of (map line_view lines.now) }
     ensures { IfOk result (λ patterns. map keyed_view patterns.items ≡ all_patterns (map line_view lines.now)) }

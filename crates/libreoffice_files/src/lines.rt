@@ -156,7 +156,7 @@ pub(crate) fn lines_of(alloc: Global, first: usize, text: &str) -> Result<Vec<Li
 
 // The settings for all levels, as texts.
 #[derive(Clone, Copy)]
-pub(crate) struct Settings<'a> {
+pub(crate) struct FileSettings<'a> {
     pub left: Option<&'a str>,
     pub right: Option<&'a str>,
     // Texts with commas between them; no break is directly before or after them.
@@ -164,20 +164,20 @@ pub(crate) struct Settings<'a> {
 }
 
 // Adds the setting of one more line. If a setting comes several times, the last one counts.
-fn with_line<'a>(settings: Settings<'a>, line: Line<'a>) -> Settings<'a>
+fn with_line<'a>(settings: FileSettings<'a>, line: Line<'a>) -> FileSettings<'a>
     ensures { settings_view result ≡ with_line (settings_view settings.entry) (line_view line.entry) }
 {
     let text = Some(line.text);
     match line.kind {
-        LineKind::Left => Settings {
+        LineKind::Left => FileSettings {
             left: text,
             ..settings
         },
-        LineKind::Right => Settings {
+        LineKind::Right => FileSettings {
             right: text,
             ..settings
         },
-        LineKind::NoHyphen => Settings {
+        LineKind::NoHyphen => FileSettings {
             no_hyphen: text,
             ..settings
         },
@@ -186,10 +186,10 @@ fn with_line<'a>(settings: Settings<'a>, line: Line<'a>) -> Settings<'a>
 }
 
 // The settings that lines have.
-pub(crate) fn settings_of<'a>(lines: &[Line<'a>]) -> Settings<'a>
+pub(crate) fn settings_of<'a>(lines: &[Line<'a>]) -> FileSettings<'a>
     ensures { settings_view result ≡ settings_of (map line_view lines.now) }
 {
-    let mut settings = Settings {
+    let mut settings = FileSettings {
         left: None,
         right: None,
         no_hyphen: None,

@@ -12,7 +12,7 @@ use Rattle.command_line.specs.Failures.{status_of}
 use Rattle.command_line.specs.Inputs.{is_standard_input, IsTextOf, AreTextsOf}
 use Rattle.command_line.specs.declared.failure.Failure.{Failure}
 use Rattle.command_line.specs.declared.failure.Failure.TheVariants as failed
-use Rattle.command_line.specs.declared.failure.Refusal.TheVariants.{NotUtf8, LongParagraph}
+use Rattle.command_line.specs.declared.failure.InputRefusal.TheVariants.{NotUtf8, LongParagraph}
 use Rattle.lines_command.specs.Arguments.{ParsedArgs, ParsedOptions}
 use Rattle.lines_command.specs.Private.Runs.{AddsPage, BeforeReading, GoesOn}
 use Rattle.lines_command.specs.Written.{HasPages, IsFailureOfText, IsFailureAmong, IsFailureFor, left_after}

@@ -18,7 +18,7 @@ use Rattle.command_line.specs.Options.{RefusedArgument}
 use Rattle.command_line.specs.declared.TheConstants.{VERSION}
 use Rattle.command_line.specs.declared.failure.Failure.{Failure}
 use Rattle.command_line.specs.declared.failure.Failure.TheVariants as failed
-use Rattle.command_line.specs.declared.failure.Refusal.TheVariants.{LongParagraph}
+use Rattle.command_line.specs.declared.failure.InputRefusal.TheVariants.{LongParagraph}
 use Rattle.paragraphs.specs.Pages.{IsPage, HasTooLong}
 use Rattle.paragraphs.specs.Parts.{Style, ArePlain}
 use Rattle.paragraphs.specs.Paragraphs.{ended, paragraphs}

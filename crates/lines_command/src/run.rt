@@ -18,7 +18,7 @@ use crate::request::{Options, Request};
 use any_dictionary::AnyDictionary;
 use command_line::dictionaries::load_dictionary;
 use command_line::inputs::{read_text, shown_name};
-use command_line::{Failure, NamedFiles, Refusal};
+use command_line::{Failure, InputRefusal, NamedFiles};
 use hyphenation_hyphenator::hyphenator::Hyphenator;
 use paragraphs::{Aim, FillError, fill_text};
 use std::alloc::{AllocError, Global};
@@ -116,7 +116,7 @@ fn long_paragraph(alloc: Global, name: &str) -> Failure
     match String::from_str(alloc, shown_name(name)) {
         Ok(input) => Failure::Refused {
             input,
-            cause: Refusal::LongParagraph,
+            cause: InputRefusal::LongParagraph,
         },
         Err(_) => Failure::Memory,
     }

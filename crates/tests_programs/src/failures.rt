@@ -3,7 +3,7 @@
 use any_dictionary::AnyDictionary;
 use command_line::dictionaries::load_dictionary;
 use command_line::inputs::read_text;
-use command_line::{Failure, Listed, Messages, Refusal, report};
+use command_line::{Failure, InputRefusal, Listed, Messages, report};
 use hyphenation_load::{Cause, Error};
 use std::alloc::{AllocError, Global};
 use std::io;
@@ -65,7 +65,7 @@ fn each_other_failure_has_its_message_and_status(rt: HostRuntime) -> Result<(), 
     let alloc = rt.alloc();
     let not_utf8 = Failure::Refused {
         input: text(alloc, "standard input")?,
-        cause: Refusal::NotUtf8 { valid: 17, line: 2 },
+        cause: InputRefusal::NotUtf8 { valid: 17, line: 2 },
     };
     expect_report(
         alloc,
@@ -75,7 +75,7 @@ fn each_other_failure_has_its_message_and_status(rt: HostRuntime) -> Result<(), 
     )?;
     let long = Failure::Refused {
         input: text(alloc, "a.txt")?,
-        cause: Refusal::LongParagraph,
+        cause: InputRefusal::LongParagraph,
     };
     expect_report(
         alloc,

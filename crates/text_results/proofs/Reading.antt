@@ -10,7 +10,7 @@ use Rattle.command_line.specs.Dictionaries.{KnownFiles}
 use Rattle.command_line.specs.Inputs.{is_standard_input, IsTextOf, AreTextsOf, IsFailureOfInput}
 use Rattle.command_line.specs.declared.failure.Failure.{Failure}
 use Rattle.command_line.specs.declared.failure.Failure.TheVariants as failed
-use Rattle.command_line.specs.declared.failure.Refusal.TheVariants.{NotUtf8, LongParagraph}
+use Rattle.command_line.specs.declared.failure.InputRefusal.TheVariants.{NotUtf8, LongParagraph}
 use Rattle.text_results.specs.Private.Runs.{GoesOn}
 use Rattle.text_results.specs.Texts.{IsFailureAmong}
 

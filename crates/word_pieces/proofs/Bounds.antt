@@ -12,7 +12,7 @@ use Rattle.unicode_segmentation.specs.Segments.{Rule, chars_before, chars_from, 
 use Rattle.unicode_segmentation.specs.Word.{is_word_break, significant, starts_with_half_flag}
 use Rattle.unicode_segmentation.proofs.SegmentsLemmas.{attach, concat-segments_between}
 use Rattle.unicode_segmentation.proofs.TextLemmas.{length-slice_range, take_split, slice_range_split}
-use Rattle.word_pieces.specs.declared.kinds.Kind.TheVariants.{Letter, Space}
+use Rattle.word_pieces.specs.declared.kinds.ByteKind.TheVariants.{Letter, Space}
 use Rattle.word_pieces.specs.Pieces.{EndsBy, PassesBefore}
 use Rattle.word_pieces.specs.Private.Kinds.{kind_of_byte, is_near, verdict}
 use Rattle.word_pieces.specs.Private.Walks.{IsPlainBound}

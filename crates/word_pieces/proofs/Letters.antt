@@ -13,7 +13,7 @@ use Rattle.unicode_segmentation.specs.Segments.{segments_between}
 use Rattle.unicode_segmentation.specs.Word.{is_word_break}
 use Rattle.unicode_segmentation.proofs.SegmentsLemmas.{segments_between-same, segments_between-whole}
 use Rattle.word_pieces.specs.Pieces.{LettersAreOnePiece}
-use Rattle.word_pieces.specs.declared.kinds.Kind.TheVariants.{Letter, Beyond}
+use Rattle.word_pieces.specs.declared.kinds.ByteKind.TheVariants.{Letter, Beyond}
 use Rattle.word_pieces.specs.Private.Kinds.{kind_of_value, kind_of_byte}
 use Rattle.word_pieces.proofs.LetterRuns.{word_break-letter}
 use Rattle.word_pieces.proofs.PlainWalks.{IsPlainWalk-run, IsPlainEnd-end}

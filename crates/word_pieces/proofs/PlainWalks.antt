@@ -13,14 +13,14 @@ use Rattle.unicode_segmentation.specs.Word.{is_ah_letter, is_numeric, significan
 use Rattle.unicode_segmentation.proofs.SegmentsLemmas.{IsWalk, IsWalk-start, IsWalk-step, IsFirstEnd-at_break, IsFirstEnd-at_end}
 use Rattle.unicode_segmentation.proofs.TextLemmas.{IsCharAt-first}
 use Rattle.unicode_segmentation.proofs.WordLemmas.{significant-kept}
-use Rattle.word_pieces.specs.declared.kinds.Kind.{Kind}
-use Rattle.word_pieces.specs.declared.kinds.Kind.TheVariants.{Letter, Middle, Beyond}
+use Rattle.word_pieces.specs.declared.kinds.ByteKind.{ByteKind}
+use Rattle.word_pieces.specs.declared.kinds.ByteKind.TheVariants.{Letter, Middle, Beyond}
 use Rattle.word_pieces.specs.Private.Kinds.{kind_of_value, kind_of_byte, is_near, verdict, may_be_letter, letter_may_begin, may_join_letter, word_may_go_on, IsRun}
 use Rattle.word_pieces.specs.Private.Walks.{IsPlainEnd}
 use Rattle.word_pieces.proofs.Verdicts.{near-kept, no_flag, is_word_break-verdict, is_word_break-middle, verdict-near, near-may_not_join}
 
 -- The first piece from `start` on reaches to `at` at least, and a character of ASCII ends there, of the kind `last`.
-pub record IsPlainWalk (s : List ℕ) (start at : ℕ) (last : Kind) : Type 0 where
+pub record IsPlainWalk (s : List ℕ) (start at : ℕ) (last : ByteKind) : Type 0 where
   pub walk : IsWalk is_word_break s start (length s) at
   pub char : ℕ
   pub before : List ℕ
@@ -33,7 +33,7 @@ near_byte b =
     cond_both (nat_lt b 128) (kind_of_value (word_break b)) Beyond (λ k. is_near k ≡ true → (b < 128) × (k ≡ kind_of_value (word_break b)))
     (λ below near. (ltb-true b 128 below, refl)) (λ above near. absurd (false≢true near))
 
-no_letter-near : (k : Kind) → may_be_letter k ≡ false → is_near k ≡ true
+no_letter-near : (k : ByteKind) → may_be_letter k ≡ false → is_near k ≡ true
 no_letter-near Beyond h = absurd (false≢true (sym h))
 no_letter-near _ h = refl
 
@@ -49,7 +49,7 @@ module _ (s : List ℕ) (u : IsUtf8 s) where
       let next : i + 1 - 0 ≡ i + 1 = omega arith in
       subst (IsCharAt s i c) next (IsCharAt-first s u i (i + 1) c [] (omega arith) start (IsCharBoundary-after_ascii s i u inside below) bytes)
 
-  walk-no_flag : (start at : ℕ) (last : Kind) → IsPlainWalk s start at last → starts_with_half_flag (significant (chars_before s at)) ≡ false
+  walk-no_flag : (start at : ℕ) (last : ByteKind) → IsPlainWalk s start at last → starts_with_half_flag (significant (chars_before s at)) ≡ false
   walk-no_flag start at last w =
       ap (λ cs. starts_with_half_flag (significant cs)) w.here ∙ no_flag w.char w.before (ap is_near w.kind ∙ w.near)
 
@@ -67,7 +67,7 @@ module _ (s : List ℕ) (u : IsUtf8 s) where
       }
 
   -- Whether there is a bound, from the kinds on its two sides.
-  breaks_at-verdict : (start at : ℕ) (last : Kind) (answer : Bool) → IsPlainWalk s start at last → at < length s
+  breaks_at-verdict : (start at : ℕ) (last : ByteKind) (answer : Bool) → IsPlainWalk s start at last → at < length s
       → verdict last (kind_of_byte (slice_index s at)) ≡ Some answer → breaks_at is_word_break s at ≡ answer
   breaks_at-verdict start at last answer w inside decided =
       let c = slice_index s at in
@@ -77,7 +77,7 @@ module _ (s : List ℕ) (u : IsUtf8 s) where
       ∙ is_word_break-verdict w.char c w.before (chars_from s (at + 1)) answer (ap is_near w.kind ∙ w.near)
       (ap₂ verdict w.kind (sym (near_byte c near).1) ∙ decided)
 
-  pub IsPlainWalk-step : (start at : ℕ) (last : Kind) → IsPlainWalk s start at last → at < length s
+  pub IsPlainWalk-step : (start at : ℕ) (last : ByteKind) → IsPlainWalk s start at last → at < length s
       → verdict last (kind_of_byte (slice_index s at)) ≡ Some false → IsPlainWalk s start (at + 1) (kind_of_byte (slice_index s at))
   IsPlainWalk-step start at last w inside decided =
       let c = slice_index s at in
@@ -93,14 +93,14 @@ module _ (s : List ℕ) (u : IsUtf8 s) where
         near = near;
       }
 
-  pub IsPlainEnd-verdict : (start at : ℕ) (last : Kind) → IsPlainWalk s start at last → at < length s
+  pub IsPlainEnd-verdict : (start at : ℕ) (last : ByteKind) → IsPlainWalk s start at last → at < length s
       → verdict last (kind_of_byte (slice_index s at)) ≡ Some true → IsPlainEnd s start at
   IsPlainEnd-verdict start at last w inside decided = (
     IsFirstEnd-at_break is_word_break s u start (length s) at w.walk (breaks_at-verdict start at last true w inside decided),
     walk-no_flag start at last w,
   )
 
-  pub IsPlainEnd-end : (start at : ℕ) (last : Kind) → IsPlainWalk s start at last → length s ≤ at → IsPlainEnd s start at
+  pub IsPlainEnd-end : (start at : ℕ) (last : ByteKind) → IsPlainWalk s start at last → length s ≤ at → IsPlainEnd s start at
   IsPlainEnd-end start at last w ended = (IsFirstEnd-at_end is_word_break s u start (length s) at w.walk ended, walk-no_flag start at last w)
 
   -- A character at an offset where no letter may begin joins nothing before it.
@@ -161,7 +161,7 @@ module _ (s : List ℕ) (u : IsUtf8 s) where
       subst (λ k. IsPlainWalk s start k Letter) same
       (run (to - (start + 1)) start (start + 1) begun (omega arith) (λ k lower upper. letters.2 k lower (omega arith)))
 
-  IsPlainEnd-kind : (start at : ℕ) (kind : Kind) → IsPlainWalk s start at Letter → at < length s → kind_of_byte (slice_index s at) ≡ kind
+  IsPlainEnd-kind : (start at : ℕ) (kind : ByteKind) → IsPlainWalk s start at Letter → at < length s → kind_of_byte (slice_index s at) ≡ kind
       → may_join_letter kind (letter_may_begin s (at + 1)) ≡ false → IsPlainEnd s start at
   IsPlainEnd-kind start at Letter w inside here none = absurd (false≢true (sym none))
   IsPlainEnd-kind start at Beyond w inside here none = absurd (false≢true (sym none))

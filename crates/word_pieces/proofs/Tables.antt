@@ -5,7 +5,7 @@ use Rattle.ucd_table.proofs.Facts.{Stepped-below}
 use Rattle.ucd_breaks.specs.WordBreak.{word_break}
 use Rattle.ucd_breaks.proofs.Computing.{ucd_breaks}
 use Rattle.ucd_breaks.proofs.WordBreakLemmas.{word_break_stepped}
-use Rattle.word_pieces.specs.declared.kinds.Kind.TheVariants.{Letter, Beyond}
+use Rattle.word_pieces.specs.declared.kinds.ByteKind.TheVariants.{Letter, Beyond}
 use Rattle.word_pieces.specs.declared.kinds.TheConstants.{KINDS}
 use Rattle.word_pieces.specs.Private.Kinds.{kind_of_value, kind_of_byte}
 use Rattle.word_pieces.proofs.EveryValue.{kind_number, kind_number_injective}

@@ -8,8 +8,8 @@ use Rattle.ucd_emoji.specs.Binary.{is_extended_pictographic}
 use Rattle.unicode_segmentation.specs.Word.{break_by_pair, is_ignored, is_ah_letter, is_numeric, is_regional, significant, starts_with_half_flag, joins, value_at, is_word_break}
 use Rattle.unicode_segmentation.proofs.BoolLemmas.{or-false, same, same-true}
 use Rattle.unicode_segmentation.proofs.WordLemmas.{is_word_break-inside, significant-kept, starts_with_half_flag-cons}
-use Rattle.word_pieces.specs.declared.kinds.Kind.{Kind}
-use Rattle.word_pieces.specs.declared.kinds.Kind.TheVariants.{Letter, Middle, Space, Return, Feed, Alone, Beyond}
+use Rattle.word_pieces.specs.declared.kinds.ByteKind.{ByteKind}
+use Rattle.word_pieces.specs.declared.kinds.ByteKind.TheVariants.{Letter, Middle, Space, Return, Feed, Alone, Beyond}
 use Rattle.word_pieces.specs.Private.Kinds.{kind_of_value, is_near, verdict, may_be_letter}
 use Rattle.word_pieces.proofs.EveryValue.{every, every-at}
 
@@ -75,7 +75,7 @@ is_word_break-verdict c d before after answer near decided =
     rules_say-near c d before after near
     ∙ sym (same-true _ _ (sym (ap (λ v. agrees v (rules_say far_left (word_break c) (word_break d) far_right (is_extended_pictographic d))) decided) ∙ judged))
 
-verdict-Beyond : (last : Kind) → verdict last Beyond ≡ None
+verdict-Beyond : (last : ByteKind) → verdict last Beyond ≡ None
 verdict-Beyond Letter = refl
 verdict-Beyond Middle = refl
 verdict-Beyond Space = refl
@@ -85,13 +85,13 @@ verdict-Beyond Alone = refl
 verdict-Beyond Beyond = refl
 
 -- The second of two kinds that decide it is not beyond ASCII.
-pub verdict-near : (last next : Kind) (answer : Bool) → verdict last next ≡ Some answer → is_near next ≡ true
+pub verdict-near : (last next : ByteKind) (answer : Bool) → verdict last next ≡ Some answer → is_near next ≡ true
 verdict-near last Beyond answer decided = let none = verdict-Beyond last in cc
 verdict-near last _ answer decided = refl
 
 -- The first value is that of a letter, a number or the underscore. The second is that of a character which joins only
 -- between two of these.
-abbrev is_letter_and_middle : Kind → Kind → Bool
+abbrev is_letter_and_middle : ByteKind → ByteKind → Bool
 is_letter_and_middle Letter Middle = true
 is_letter_and_middle _ _ = false
 

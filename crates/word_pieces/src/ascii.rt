@@ -4,12 +4,12 @@ ghost use Rattle.std.specs.Prelude.{◌≡◌, ◌+◌, ◌-◌, ◌<◌, ◌≤
 ghost use Rattle.std.specs.Int.{w64, trailing_zeros};
 ghost use Rattle.std.specs.Option.{ForSome};
 ghost use Rattle.std.specs.Str.{IsCharBoundary};
-ghost use Rattle.word_pieces.specs.declared.kinds.Kind.TheVariants.{Letter, Space};
+ghost use Rattle.word_pieces.specs.declared.kinds.ByteKind.TheVariants.{Letter, Space};
 ghost use Rattle.word_pieces.specs.Private.Kinds.{kind_of_byte, is_near, letter_may_begin, word_may_go_on, IsRun};
 ghost use Rattle.word_pieces.specs.Private.Walks.{IsPlainEnd, IsBoundBetween};
 
-use crate::kinds::Kind::{Beyond, Letter, Middle, Space};
-use crate::kinds::{Kind, kind_of, may_be_letter, verdict};
+use crate::kinds::ByteKind::{Beyond, Letter, Middle, Space};
+use crate::kinds::{ByteKind, kind_of, may_be_letter, verdict};
 use std::simd::prelude::*;
 
 // The number of bytes that are tested at once.
@@ -49,7 +49,7 @@ fn end_of_word(text: &str, start: usize) -> Option<usize>
 
 // Does so for a piece that begins with one of the other kinds.
 #[inline(always)]
-fn end_of_others(text: &str, start: usize, first: Kind) -> Option<usize>
+fn end_of_others(text: &str, start: usize, first: ByteKind) -> Option<usize>
     requires some { start < length text.now }
     requires start { IsCharBoundary text.now start }
     requires first { kind_of_byte (slice_index text.now start) ≡ first }

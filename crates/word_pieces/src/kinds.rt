@@ -3,11 +3,11 @@
 ghost use Rattle.std.specs.Prelude.{◌≡◌};
 ghost use Rattle.word_pieces.specs.Private.Kinds.{kind_of_byte, verdict, may_be_letter};
 
-use Kind::*;
+use ByteKind::*;
 
 // The kinds of bytes that differ in the bounds around them.
 #[derive(Clone, Copy, PartialEq)]
-pub(crate) enum Kind {
+pub(crate) enum ByteKind {
     // Letters, digits and the underscore, which join with one another.
     Letter,
     // `'`, `.`, `:`, `,` and `;`, some of which join between two letters, and some between two digits.
@@ -23,7 +23,7 @@ pub(crate) enum Kind {
     Beyond,
 }
 
-static KINDS: [Kind; 256] = [
+static KINDS: [ByteKind; 256] = [
     Alone, Alone, Alone, Alone, Alone, Alone, Alone, Alone, Alone, Alone, Feed, Alone, Alone,
     Return, Alone, Alone, Alone, Alone, Alone, Alone, Alone, Alone, Alone, Alone, Alone, Alone,
     Alone, Alone, Alone, Alone, Alone, Alone, Space, Alone, Alone, Alone, Alone, Alone, Alone,
@@ -50,7 +50,7 @@ static KINDS: [Kind; 256] = [
 
 // Returns the kind of a byte.
 #[inline(always)]
-pub(crate) fn kind_of(byte: u8) -> Kind
+pub(crate) fn kind_of(byte: u8) -> ByteKind
     ensures { result ≡ kind_of_byte byte }
 {
     KINDS[byte as usize]
@@ -62,7 +62,7 @@ const JOINT: Option<bool> = Some(false);
 
 // Whether there is a bound between characters of two kinds, or `None` where these don't decide it.
 #[inline(always)]
-pub(crate) fn verdict(last: Kind, next: Kind) -> Option<bool>
+pub(crate) fn verdict(last: ByteKind, next: ByteKind) -> Option<bool>
     ensures { result ≡ verdict last next }
 {
     // A row for each kind of the first character, with a column for each kind of the second.
@@ -80,7 +80,7 @@ pub(crate) fn verdict(last: Kind, next: Kind) -> Option<bool>
 
 // Whether a character of a kind may be a letter or a number.
 #[inline(always)]
-pub(crate) fn may_be_letter(kind: Kind) -> bool
+pub(crate) fn may_be_letter(kind: ByteKind) -> bool
     ensures { result ≡ may_be_letter kind }
 {
     matches!(kind, Letter | Beyond)

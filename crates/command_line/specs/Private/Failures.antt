@@ -8,7 +8,7 @@ use Rattle.hyphenation_grammar.specs.declared.Error.TheVariants.{IO, LanguageMis
 use Rattle.command_line.specs.Inputs.{IsNotUtf8From, shown_name}
 use Rattle.command_line.specs.declared.failure.Failure.{Failure}
 use Rattle.command_line.specs.declared.failure.Failure.TheVariants as failed
-use Rattle.command_line.specs.declared.failure.Refusal.TheVariants.{NotUtf8}
+use Rattle.command_line.specs.declared.failure.InputRefusal.TheVariants.{NotUtf8}
 
 -- The dictionary at this path is refused for that cause, or memory was.
 abbrev pub IsRefusalOf : List ℕ → Error → Failure → Type 0

@@ -5,10 +5,10 @@ use Rattle.std.specs.String.{string_bytes}
 use Rattle.std.specs.declared.string.String.{String}
 use Rattle.html_pieces.specs.Elements.{held_language}
 use Rattle.html_pieces.specs.Languages.{is_among}
-use Rattle.html_pieces.specs.declared.elements.Language.{Language}
+use Rattle.html_pieces.specs.declared.elements.LanguageValue.{LanguageValue}
 
 -- The language as it is read.
-abbrev pub as_language : Language → List ℕ
+abbrev pub as_language : LanguageValue → List ℕ
 as_language held = held_language held.has_references held.written.now
 
 -- A set has exactly these languages.

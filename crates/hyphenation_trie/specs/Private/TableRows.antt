@@ -15,7 +15,7 @@ pub record HasRowOf {E : Type 0} (tree : Tree E) (nodes of : List ℕ) (node : �
   pub row : slice_index of node < length nodes
   pub inner : IsLongestInner tree (node_text tree node) (slice_index nodes (slice_index of node))
 
--- Each marked node has a row of its own, and so has the root, the first one. A row is also known of each node.
+-- Each marked node has a row of its own, and so has the root, the first one.
 pub record AreOwnRows (marks : List Bool) (nodes of : List ℕ) : Type 0 where
   pub rows_of : length of ≡ length marks
   pub has_root : 0 < length nodes

@@ -11,7 +11,7 @@ use Rattle.libreoffice_files.specs.declared.change.PlacedChange.{PlacedChange}
 use Rattle.libreoffice_files.specs.declared.dic.Encoded.{Encoded}
 use Rattle.libreoffice_files.specs.declared.dic_patterns.Pattern.{Pattern}
 use Rattle.libreoffice_files.specs.declared.lines.Line.{Line}
-use Rattle.libreoffice_files.specs.declared.lines.Settings.{Settings}
+use Rattle.libreoffice_files.specs.declared.lines.FileSettings.{FileSettings}
 use Rattle.pattern_results.specs.declared.notes.NoteKind.{NoteKind}
 
 -- A line in the words of the definitions.
@@ -19,7 +19,7 @@ abbrev pub line_view : Line → DicLine
 line_view line = record { number = line.number; kind = line.kind; text = line.text.now }
 
 -- Settings in the words of the definitions.
-abbrev pub settings_view : Settings → lines.Settings
+abbrev pub settings_view : FileSettings → lines.FileSettings
 settings_view settings = record {
   left = option_map (λ text. text.now) settings.left;
   right = option_map (λ text. text.now) settings.right;

@@ -11,7 +11,7 @@ use Rattle.command_line.specs.Dictionaries.{KnownFiles}
 use Rattle.command_line.specs.Inputs.{shown_name, IsTextOf, AreTextsOf}
 use Rattle.command_line.specs.declared.failure.Failure.{Failure}
 use Rattle.command_line.specs.declared.failure.Failure.TheVariants as failed
-use Rattle.command_line.specs.declared.failure.Refusal.TheVariants.{LongParagraph}
+use Rattle.command_line.specs.declared.failure.InputRefusal.TheVariants.{LongParagraph}
 use Rattle.lines_command.specs.Arguments.{ParsedOptions, aim_for, style_for}
 use Rattle.lines_command.specs.Private.Requests.{parsed_options, parsed_request}
 use Rattle.lines_command.specs.declared.request.Options.{Options}

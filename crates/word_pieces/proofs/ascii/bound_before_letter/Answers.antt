@@ -1,6 +1,6 @@
 use Rattle.std.proofs.Common.{◌≡◌, ◌-◌, ◌<◌, length, slice_index, subst, rules, arith}
 use Rattle.std.proofs.lemmas.Option.{same_Some}
-use Rattle.word_pieces.specs.declared.kinds.Kind.TheVariants.{Letter, Space}
+use Rattle.word_pieces.specs.declared.kinds.ByteKind.TheVariants.{Letter, Space}
 use Rattle.word_pieces.specs.Private.Kinds.{kind_of_byte}
 use Rattle.word_pieces.specs.Private.Walks.{IsBoundBetween}
 use Rattle.word_pieces.proofs.Bounds.{IsPlainBound-space_letter}

@@ -1,5 +1,5 @@
 use Rattle.std.proofs.Common.{◌≡◌, ◌<◌, length, slice_index, rules}
-use Rattle.word_pieces.specs.declared.kinds.Kind.TheVariants.{Letter}
+use Rattle.word_pieces.specs.declared.kinds.ByteKind.TheVariants.{Letter}
 use Rattle.word_pieces.specs.Private.Kinds.{kind_of_byte}
 use Rattle.word_pieces.proofs.PlainWalks.{IsRun-more}
 use Rattle.word_pieces.proofs.ascii.past_run.Goals as goal
