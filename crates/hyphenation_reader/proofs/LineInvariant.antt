@@ -1,5 +1,5 @@
 -- A line that fails no test by itself spells a key with well-formed entries, or a word with breaks that may be listed.
-use Rattle.std.proofs.Common.{◌≡◌, ℕ, ◌+◌, ◌-◌, ◌^◌, ◌<◌, ◌≤◌, Bool, true, false, cond, not, ◌==◌, ◌&&◌, ◌||◌, eqb, nat_le, nat_lt, nat_eq, List, [], ◌∷◌, ◌++◌, length, map, take, drop, get_or, Option, Some, None, is_some, unwrap_or, refl, ap, subst, ◌∙◌, arith}
+use Rattle.std.proofs.Common.{◌≡◌, ℕ, ◌+◌, ◌-◌, ◌^◌, ◌<◌, ◌≤◌, Bool, true, false, cond, not, ◌==◌, ◌&&◌, ◌||◌, eqb, nat_le, nat_lt, List, [], ◌∷◌, ◌++◌, length, map, take, drop, get_or, Option, Some, None, unwrap_or, refl, ap, subst, ◌∙◌, arith}
 use Rattle.std.specs.Prelude.{IsUtf8, IsCharBoundary}
 use Rattle.std.specs.Option.{option_map, option_and_then, is_none}
 use Rattle.std.specs.List.{find, list_all, AllByRecursion}

@@ -1,6 +1,6 @@
 -- The lines of a file, as the levels that they make.
 use Rattle.std.proofs.Common.{◌≡◌, ◌∙◌, ◌+◌, ◌-◌, ◌<◌, ◌≤◌, nat_lt, ap, sym, refl, ℕ, Bool, true, false, not, List, [], ◌∷◌, length, length-drop, map, take, drop, get_or, fold, arith, Bor}
-use Rattle.std.specs.List.{position_or_len, prefix_len, list_any, before_first, after_first}
+use Rattle.std.specs.List.{position_or_len, list_any, before_first, after_first}
 use Rattle.std.proofs.Math.ListN.{get_or-map}
 use Rattle.std.specs.List.{take-map}
 use Rattle.std.proofs.lemmas.List.{take_all, drop-map, length-map}

@@ -1,10 +1,10 @@
 -- The numbers of the nodes' vectors, node by node.
 use Rattle.std.proofs.Common.{◌≡◌, ℕ, ◌+◌, ◌<◌, ◌≤◌, List, [], ◌∷◌, ◌++◌, length, get_or, replicate, refl, sym, ap, subst, ◌∙◌, arith, inl, inr}
-use Rattle.std.specs.Prelude.{slice_index, slice_index_or}
+use Rattle.std.specs.Prelude.{slice_index}
 use Rattle.std.proofs.lemmas.Bool.{cases_lt}
 use Rattle.std.proofs.lemmas.List.{length-append, get_or_append_left, get_or_push, get_or-replicate}
 use Rattle.hyphenation_breaks.specs.Ascii.{digit_zero}
-use Rattle.hyphenation_trie.specs.Trie.{Tree, node_text}
+use Rattle.hyphenation_trie.specs.Trie.{Tree}
 use Rattle.libhyphen_files.specs.Patterns.{Pattern}
 use Rattle.libhyphen_files.specs.Vectors.{IsNodeVector, IsNumberOf}
 use Rattle.libhyphen_files.specs.Private.Vectors.{AreNodesNumbered, AreNumbered, KeepsVectors}

@@ -1,5 +1,5 @@
 -- Options and inputs of a request.
-use Rattle.std.proofs.Common.{◌≡◌, ℕ, ◌<◌, Bool, List, [], ◌∷◌, Option, Ok, length, refl, ap, sym, subst, arith, ◌∙◌}
+use Rattle.std.proofs.Common.{◌≡◌, ℕ, ◌<◌, Bool, List, [], ◌∷◌, Option, Ok, refl, ap, sym, subst, arith, ◌∙◌}
 use Rattle.std.specs.Borrow.{Bor}
 use Rattle.std.specs.Prelude.{IfErr, IfOk, Result, Err, codes, map, unwrap_or}
 use Rattle.hyphenation_breaks.specs.Borrowed.{texts_now}

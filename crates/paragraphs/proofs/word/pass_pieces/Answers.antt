@@ -1,10 +1,8 @@
-use Rattle.std.proofs.Common.{refl, ap, sym, subst, ◌∙◌, append-nil}
+use Rattle.std.proofs.Common.{refl, sym, subst, ◌∙◌, append-nil}
 use Rattle.paragraphs.specs.Private.Open.{Passes, word_of}
 use Rattle.paragraphs.specs.Parts.{breaks_in}
-use Rattle.word_pieces.specs.Pieces.{AreSlices}
-use Rattle.paragraphs.proofs.OnePiece.{one_piece_offsets, whole_breaks}
+use Rattle.paragraphs.proofs.OnePiece.{whole_breaks}
 use Rattle.paragraphs.proofs.WordBreaks.{address_breaks, other_breaks}
-use Rattle.std.proofs.lemmas.Str.{IsUtf8-had}
 use Rattle.paragraphs.proofs.word.pass_pieces.Goals as goal
 
 pub returns-then-word-clause-goes : goal.returns-then-word-clause-goes

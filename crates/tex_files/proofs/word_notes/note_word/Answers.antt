@@ -5,10 +5,9 @@ use Rattle.std.proofs.lemmas.Result.{on_ok_weaker}
 use Rattle.pattern_results.specs.Notes.{with_remark}
 use Rattle.pattern_results.specs.declared.notes.Note.{Note}
 use Rattle.pattern_results.specs.declared.notes.NoteKind.TheVariants.{Capital}
-use Rattle.tex_files.specs.Notes.{group_remarks, is_among, letters_in, remark_if, remarks_on}
+use Rattle.tex_files.specs.Notes.{group_remarks, is_among, letters_in, remark_if}
 use Rattle.tex_files.specs.Private.Views.{word_view}
 use Rattle.tex_files.specs.Spelling.{folded_text, says_place}
-use Rattle.tex_files.specs.declared.group.Group.{Group}
 use Rattle.tex_files.proofs.word_notes.note_word.Goals as goal
 
 pub returns-clause-noted : goal.returns-clause-noted
