@@ -212,7 +212,29 @@ fn read_by_links(
     passed_by_links(patterns, vectors, pass, b'.', list, word.len() + 1)
 }
 
+// Returns the row of a text, in a table of steps.
+#[inline(always)]
+fn row_of(
+    patterns: &Automaton<StoredPattern>,
+    vectors: &NodeVectors,
+    steps: &Steps,
+    text: &[u8],
+) -> usize
+    requires steps { AreSteps patterns.now vectors.now.numbers.items steps.now }
+    ensures { AtRow patterns.now vectors.now steps.now text.now result }
+{
+    let mut row = steps.first_row(patterns);
+    for byte in text.iter() {
+        row = steps.step(patterns, row, *byte).0;
+    }
+    row
+}
+
 // Reads the frame of a word without digits, by a table of steps.
+//
+// Before that it looks for the row of the word's end, and puts a byte of its number where nothing reads it. Each row is
+// known when the one before it is read, and a large table is in no near cache. So the two ways wait for memory at once,
+// and the rows of the second one are mostly those that the end of the first one needs.
 #[inline(always)]
 fn read_by_steps(
     patterns: &Automaton<StoredPattern>,
@@ -229,6 +251,8 @@ fn read_by_steps(
     ensures read { IsReadWhole patterns.now word.now result list.new }
     ensures room { length list.new ≡ length list.old }
 {
+    let ahead = row_of(patterns, vectors, steps, &word[word.len() / 3..]);
+    list[word.len() + 17] = (ahead % 256) as u8;
     let none = u8x16::splat(0);
     let start = FramePass {
         place: steps.first_row(patterns),

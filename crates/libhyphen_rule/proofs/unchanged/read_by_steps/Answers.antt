@@ -1,5 +1,5 @@
 use Rattle.std.proofs.Common.{refl, ◌∙◌, arith, []}
-use Rattle.std.proofs.lemmas.List.{get_or-replicate}
+use Rattle.std.proofs.lemmas.List.{get_or-replicate, length-set}
 use Rattle.libhyphen_rule.specs.Counting.{framed}
 use Rattle.libhyphen_rule.specs.Private.Lanes.{AtRow}
 use Rattle.libhyphen_rule.proofs.RaisedDigits.{length-framed}
@@ -11,9 +11,9 @@ loop-at-init c =
     let tree = c.args.patterns.now in
     let frame = framed c.args.word.now in
     record {
-      len = c.passed_by_steps-pass.ensures.room;
+      len = c.passed_by_steps-pass.ensures.room ∙ length-set c.args.list.now _ _;
       passed = c.passed_by_steps-pass.ensures.passed frame (omega (arith, length-framed c.args.word.now)) refl
-          (none_passed (AtRow tree c.args.vectors.now c.args.steps.now) tree frame _ c.args.list.now (c.first_row.ensures c.args.vectors.now.numbers.items c.requires.steps) refl refl (λ lane lt. get_or-replicate 16 lane 0 0 lt));
+          (none_passed (AtRow tree c.args.vectors.now c.args.steps.now) tree frame _ _ (c.first_row.ensures c.args.vectors.now.numbers.items c.requires.steps) refl refl (λ lane lt. get_or-replicate 16 lane 0 0 lt));
     }
 
 pub passed_by_steps-pass-requires-in-loop-at-clause-row : goal.passed_by_steps-pass-requires-in-loop-at-clause-row
