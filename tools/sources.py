@@ -340,3 +340,64 @@ def definitions_of(path):
                 above, lines = [], []
             lines.append(line)
     return head, found
+
+
+def plain(text):
+    """Code without comments and layout. Texts in it stay as they are."""
+    found, at = [], 0
+    for literal in LITERAL.finditer(text):
+        found.append(" ".join(text[at:literal.start()].split()))
+        if not literal.group().startswith(("//", "/*")):
+            found.append(literal.group())
+        at = literal.end()
+    return " ".join([*found, " ".join(text[at:].split())])
+
+
+def plain_lines(text):
+    """A file of specs or proofs without lines of comments and empty lines. The layout of the others has a meaning."""
+    return [line.rstrip() for line in text.splitlines() if line.strip() and not line.lstrip().startswith("--")]
+
+
+def plain_files(folder):
+    """The source, specs and proofs of a crate, without comments and the layout of code: pairs of a path and a text."""
+    found = []
+    for part in ("src", "specs", "proofs"):
+        for path in sorted((folder / part).rglob("*.*t")):
+            read = plain if path.suffix == ".rt" else plain_lines
+            found.append((str(path.relative_to(folder)), read(path.read_text())))
+    return found
+
+
+def stated(folder):
+    """What crates above read of a crate: its public functions up to their bodies, its types, constants and `impl`s, and its
+    specs but those of `Private`. A private function, a body and a comment are not among these."""
+    found = []
+
+    def visit(items, is_trait):
+        for item in items:
+            text = plain(item.text)
+            attributes = [plain(it) for it in item.attributes if it.startswith("#[derive")]
+            if item.kind == "fn":
+                if item.public or is_trait:
+                    found.append((attributes, text))
+            elif item.kind == "use":
+                if item.public:
+                    found.append((attributes, text))
+            elif item.kind in ("trait", "impl"):
+                found.append((attributes, text))
+                visit(item.members, item.kind == "trait" or bool(item.of()[0]))
+            elif item.kind == "mod":
+                found.append((attributes, text))
+                visit(item.members, False)
+            else:
+                found.append((attributes, text, plain(item.body or "")))
+
+    for module in Code(folder).modules:
+        if module.above is None or module.file != module.above.file:
+            found.append(module.path)
+            visit(module.items, False)
+    for path in sorted((folder / "specs").rglob("*.antt")):
+        inside = path.relative_to(folder / "specs")
+        if inside.parts[0] != "Private":
+            found.append((str(inside), plain_lines(path.read_text())))
+    return found
