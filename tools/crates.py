@@ -1,4 +1,7 @@
 """The crates for scripts: the lines of crates.txt, and how the toolchain checks one crate over built libraries."""
+import hashlib
+import importlib.machinery
+import importlib.util
 import os
 import pathlib
 import re
@@ -21,6 +24,22 @@ class Crate:
     def library(self):
         """The crate as the crates above it read it, where `rt ci` or `rt lib` left it."""
         return self.folder / "out/rlib" / f"{self.name}.rlib"
+
+    def is_library(self):
+        """Whether crates above it use it; else it is a program or a static library."""
+        return self.top.endswith("lib.rt") and not self.is_static
+
+    def is_made_of(self, stamp):
+        """Whether there is its library, made of the sources with this stamp."""
+        return self.library().is_dir() and self.stamp().is_file() and self.stamp().read_text() == stamp
+
+    def size(self):
+        """How many bytes its sources have."""
+        return sum(path.stat().st_size for part in ("src", "specs", "proofs") for path in (self.folder / part).rglob("*.*t"))
+
+    def stamp(self):
+        """The file with the stamp of the library."""
+        return self.folder / "out/rlib/stamp"
 
     def below(self, crates):
         """The names of the crates of the repository that it uses, with those below."""
@@ -80,27 +99,55 @@ def kit_folder():
     return pathlib.Path(page).parent
 
 
-def need_libraries(crates, above):
-    """Ends the script unless the libraries below these crates are there. Without AS_BUILT, as ./test sets it, those that are
-    missing or older than their sources are proved first."""
+def in_order(crates, names):
+    """The crates of these names and all that they use, each after those that it uses."""
     order = []
 
     def visit(name):
         for it in crates[name].uses:
             if it in crates and it not in order:
                 visit(it)
-                order.append(it)
+        if name not in order:
+            order.append(name)
 
-    for crate in above:
-        visit(crate.name)
-    for name in order:
-        if os.environ.get("AS_BUILT"):
-            if not crates[name].library().is_dir():
-                stop(f"{sys.argv[0]}: there is no library {name}: `rt ci` makes it")
-            continue
-        ran = subprocess.run(["rt", "lib"], cwd=crates[name].folder, stdin=subprocess.DEVNULL, capture_output=True, text=True)
-        if ran.returncode:
-            stop(f"{sys.argv[0]}: the library {name} is not proved:\n{ran.stdout[-2000:]}{ran.stderr[-2000:]}")
+    for name in names:
+        visit(name)
+    return [crates[name] for name in order]
+
+
+def need_libraries(crates, above):
+    """Ends the script unless the libraries below these crates are there. Without AS_BUILT, as ./test sets it, those that are
+    missing or older than their sources are proved first."""
+    below = [crate for crate in in_order(crates, [crate.name for crate in above]) if crate not in above or
+             any(crate.name in other.below(crates) for other in above)]
+    if os.environ.get("AS_BUILT"):
+        for crate in below:
+            if not crate.library().is_dir():
+                stop(f"{sys.argv[0]}: there is no library {crate.name}: `tools/prove {crate.name}` makes it")
+    elif below and subprocess.run([ROOT / "tools/prove", *(crate.name for crate in below)]).returncode:
+        stop(f"{sys.argv[0]}: not all libraries are proved")
+
+
+def stamps_of(crates, kit):
+    """The stamps of the crates. A library lies beside the stamp of the sources that it was made of, its own and those below, so
+    one with another stamp is out of date. The stamps are those of `rt`, so that `rt check` takes the same libraries. Where its
+    module is not as it was known, they are others, and `rt check` makes libraries of its own."""
+    root = next(iter(crates.values())).root
+    try:
+        sys.dont_write_bytecode = True
+        loader = importlib.machinery.SourceFileLoader("rtlib", str(kit / "bin/rtlib.py"))
+        rtlib = importlib.util.module_from_spec(importlib.util.spec_from_loader("rtlib", loader))
+        loader.exec_module(rtlib)
+        return {crate.name: crate.stamp() for crate in rtlib.crates_below(str(root))}
+    except (OSError, AttributeError, TypeError, SystemExit):
+        found = {}
+        for crate in in_order(crates, crates):
+            read = [str(kit), crate.name, *crate.uses, *(found[name] for name in crate.uses if name in crates)]
+            for part in ("src", "specs", "proofs"):
+                for path in sorted(it for it in (crate.folder / part).rglob("*") if it.is_file()):
+                    read += [str(path.relative_to(crate.folder)), path.read_bytes()]
+            found[crate.name] = hashlib.sha256(repr(read).encode()).hexdigest()
+        return found
 
 
 def lanes(gigabytes, jobs=0):
