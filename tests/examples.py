@@ -8,7 +8,8 @@ whose output is not shown has to end with status 0. Where a page says /users/me,
 in rows count as two. Blocks of C, Rust and Python in the README are those of bindings/README.md, which tests/bindings runs.
 
 A command that is not run is named in NOT_RUN with the reason, and one that needs files of Debian in NEEDS. An entry that no
-command matches is wrong, and so is a program whose man page shows no output that was compared.
+command matches is wrong. So is a program whose man page shows no output that was compared, and a first result of the README
+whose output was not compared.
 """
 import contextlib
 import io
@@ -296,6 +297,8 @@ def main(words):
     for path in mans:
         shows = any(command.page == f"man/{path.name}" for command in compared)
         check(shows or path.suffix == ".7", f"man/{path.name}: no output of an example was compared")
+    firsts = [command for command in sources[PAGES.index("README.md")][1] if re.search(r"\| \./hyphenate ", command.text)]
+    check(len(firsts) == 2 and set(firsts) <= set(compared), "README.md: its first results were not run and compared")
     check_blocks(scratch)
     reason = check_words(scratch)
     left_out += [("README.md: the words at its top", reason)] if reason else []

@@ -4,15 +4,13 @@
 # shellcheck shell=bash disable=SC2154
 
 # The commands that the scripts use; no other is found there, and no `rt` but the one that is made here.
-tools=(basename bash cat chmod cp cut dirname env find iconv ln mkdir mktemp mv nice readlink rm rmdir sed sleep sort tail tee
+tools=(basename bash cat chmod cp cut dirname env find ln mkdir mktemp mv nice readlink rm rmdir sed sleep sort tail tee
   touch wc)
 
 # make_copy: makes the copy, in `copy`, and the folders of commands: `plain` without `rt`, and `stub` with it.
 #
-# The command writes each call to the file `calls`: the folder that it was called in, and its arguments. `rt try` passes
-# its arguments, after the folders and the name of the program, to the program `trial` of the copy. It says that this was a
-# trial that ended, and fails without that program. `rt run` makes the program `proved` of the copy the crate's, and fails without it. `rt lib` fails for a crate
-# that the file `unproved` names.
+# The command writes each call to the file `calls`: the folder that it was called in, and its arguments. `rt run` makes the
+# program `proved` of the copy the crate's, and fails without it. `rt lib` fails for a crate that the file `unproved` names.
 make_copy() {
   local it
   copy=$scratch/copy plain=$scratch/plain stub=$scratch/stub
@@ -24,8 +22,7 @@ make_copy() {
     crates | tar -C "$copy" -xf -
   find "$copy" -type f -exec touch -d '2 hours ago' {} +
   for it in "${tools[@]}"; do
-    # The launcher works without iconv if there is none.
-    ! command -v "$it" >/dev/null || ln -s "$(command -v "$it")" "$plain/$it"
+    ln -s "$(command -v "$it")" "$plain/$it"
   done
   cat >"$stub/rt" <<'STUB'
 #!/usr/bin/env bash
@@ -33,13 +30,6 @@ top=$STUB_COPY
 name=$(basename "$PWD")
 echo "$name: $*" >>"$top/calls"
 case $1 in
-  try)
-    [[ -x $top/trial && $3 == HYPHENATION_PATH=/*: ]] || { echo 'run=none proved=no' >&2; exit 2; }
-    status=0
-    "$top/trial" "${@:5}" || status=$?
-    echo "run=ended status=$status runners=2 proved=no" >&2
-    exit $status
-    ;;
   lib) ! grep -qsx "$name" "$top/unproved" || { echo "$name: not proved"; exit 1; } ;;
   run) mkdir -p out && cp "$top/proved" "out/$name" && chmod 755 "out/$name" ;;
 esac
@@ -49,13 +39,13 @@ STUB
   : >"$copy/calls"
 }
 
-# program_at FILE NAME: makes a program that writes its name, its arguments, and its input. With an argument `message` it
-# writes `message` to standard error. If its last argument is a number, that is its exit status.
+# program_at FILE NAME: makes a program that writes its name, which is words of a shell, its arguments, and its input. With
+# an argument `message` it writes `message` to standard error. If its last argument is a number, that is its exit status.
 program_at() {
   mkdir -p "$(dirname "$1")"
   cat >"$1" <<PROGRAM
 #!/usr/bin/env bash
-printf '$2'
+printf %s "$2"
 printf ' [%s]' "\$@"
 printf ' %s\n' "\$(cat)"
 [[ " \$* " != *' message '* ]] || echo message >&2

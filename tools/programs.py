@@ -27,7 +27,7 @@ def built(name):
 
 
 def prove(called, *names):
-    """Proves and builds programs that are not current, for a script of that name. Many trial runs would take longer."""
+    """Proves and builds programs that are not current, for a script of that name. The launcher builds none."""
     if os.environ.get("HYPHENATE_BIN"):
         return
     script = 'root=$1 called=$2; shift 2; . "$root/tools/programs.sh"; prove "$@"'

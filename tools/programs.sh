@@ -2,30 +2,8 @@
 # A script that reads this has set `root`, the folder of the repository, and `called`, its own name.
 # shellcheck shell=bash disable=SC2154
 
-# The programs, in `programs`: a line for each, and each is a link to the launcher too. The words after its name, in `forms`,
-# are for trial runs:
-# - FIRST:COUNT:INPUT:PATHS is a form of its arguments. Where they begin with FIRST (* is any) and are COUNT many (4+ is four
-#   or more), INPUT says whether the program reads standard input (`input`; also where one of them is -), and PATHS
-#   which of them are paths (5+ is the fifth and all after it).
-# - --NAME is an option, --NAME=VALUE one whose value is the next argument. It is a path where VALUE is PATH; a code, =
-#   and a path where it is CODE=PATH. Options are not counted. Without such a word the program has no options but --help and --version.
-# - dictionary=N says that the argument of that number may be a language in place of a path, without a slash and a dot.
-# - first=--NAME says that the value of this option takes the place of the first argument.
-# - up-to=N is how many bytes of standard input a trial run takes, if not 1 MiB. It takes at most 64 MiB.
-programs=()
-declare -A forms=()
-while read -r left right; do
-  programs+=("$left")
-  forms[$left]=$right
-done <<'LIST'
-hyphenate           standard:4+:input:3 extended:4+:input:3 score:5:-:4 fill:4:input:3
-hyphenate-canonical --help up-to=67108864 dictionary=1 *:0:input:- *:1:-:1
-hyphenate-convert   *:5+:-:5+
-hyphenate-explain   --plain --svg up-to=8192 dictionary=1 *:1:input:1 *:2+:-:1
-hyphenate-html      --lang=CODE=PATH --dictionaries=PATH --language=CODE --mark=MARK --class=CLASS --min-word=N --skip-capitals --output=PATH --in-place *:0:input:- *:1+:-:1+
-hyphenate-lines     --plain --even --width=N --price=P --last=N --ladder=N --indent=TEXT --first=TEXT dictionary=1 *:1:input:1 *:2+:-:1+
-hyphenate-text      --lang=CODE --mark=MARK --min-word=N --skip-capitals --output=PATH --in-place first=--lang dictionary=1 *:1:input:1 *:2+:-:1+
-LIST
+# The programs. The first one's name is that of the launcher, and the others are links to it.
+programs=(hyphenate hyphenate-canonical hyphenate-convert hyphenate-explain hyphenate-html hyphenate-lines hyphenate-text)
 
 # The files of languages/ that hyphenate-languages needs where it is installed.
 of_languages=(list variants listed.py making.py)
