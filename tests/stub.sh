@@ -1,16 +1,16 @@
 # A copy of the repository's scripts in which nothing is proved, for the tests of the launcher and of ./install. Its
-# crates have their sources, and a command `rt` of its own is in the toolchain's place.
+# crates have their sources, and commands of its own are in the toolchain's place.
 #
 # shellcheck shell=bash disable=SC2154
 
 # The commands that the scripts use; no other is found there, and no `rt` but the one that is made here.
-tools=(basename bash cat chmod cp cut dirname env find ln mkdir mktemp mv nice readlink rm rmdir sed sleep sort tail tee
-  touch wc)
+tools=(basename bash cat chmod cp cut dirname env find ln mkdir mktemp mv readlink rm rmdir sed sleep sort tail tee touch wc)
 
 # make_copy: makes the copy, in `copy`, and the folders of commands: `plain` without `rt`, and `stub` with it.
 #
-# The command writes each call to the file `calls`: the folder that it was called in, and its arguments. `rt run` makes the
-# program `proved` of the copy the crate's, and fails without it. `rt lib` fails for a crate that the file `unproved` names.
+# `rt doc` leads to a folder with `rattle` and `rattle-link`. These write each call to the file `calls`: the crate, and their
+# arguments. A library that is built is an empty folder, and a program is the file `proved` of the copy, without which that
+# fails. A crate fails that the file `unproved` names.
 make_copy() {
   local it
   copy=$scratch/copy plain=$scratch/plain stub=$scratch/stub
@@ -24,17 +24,27 @@ make_copy() {
   for it in "${tools[@]}"; do
     ln -s "$(command -v "$it")" "$plain/$it"
   done
-  cat >"$stub/rt" <<'STUB'
+  # the interpreter itself, since its command may be a script that needs others
+  ln -s "$(python3 -c 'import sys; print(sys.executable)')" "$plain/python3"
+  mkdir -p "$stub/kit/bin"
+  cat >"$stub/rt" <<STUB
+#!/usr/bin/env bash
+echo "$stub/kit/START-HERE.md"
+STUB
+  cat >"$stub/kit/bin/rattle" <<'STUB'
 #!/usr/bin/env bash
 top=$STUB_COPY
-name=$(basename "$PWD")
-echo "$name: $*" >>"$top/calls"
-case $1 in
-  lib) ! grep -qsx "$name" "$top/unproved" || { echo "$name: not proved"; exit 1; } ;;
-  run) mkdir -p out && cp "$top/proved" "out/$name" && chmod 755 "out/$name" ;;
+name=$(basename "$PWD") to=${!#}
+[ "${0##*/}" = rattle-link ] || echo "$name: $*" >>"$top/calls"
+! grep -qsx "$name" "$top/unproved" || { echo "$name: not proved"; exit 1; }
+case ${0##*/}:$to in
+  rattle:*.rlib) mkdir -p "$to" ;;
+  rattle:*) cp "$top/proved" "$to" ;;
+  rattle-link:*) cp "out/$name.o" "out/$name" && chmod 755 "out/$name" ;;
 esac
 STUB
-  chmod 755 "$stub/rt"
+  ln -s rattle "$stub/kit/bin/rattle-link"
+  chmod 755 "$stub/rt" "$stub/kit/bin/rattle"
   ln -s "$(command -v grep)" "$stub/grep"
   : >"$copy/calls"
 }
