@@ -53,7 +53,7 @@ class Records:
         return crate.folder / "mutants.tried"
 
     def statements_of(self, name):
-        """The checksum of what crates above read of a crate."""
+        """The checksum of the parts of a crate that crates above read."""
         if name not in self.stated:
             self.stated[name] = sum_of(sources.stated(self.crates[name].folder))
         return self.stated[name]

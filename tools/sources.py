@@ -369,7 +369,7 @@ def plain_files(folder):
 
 
 def stated(folder):
-    """What crates above read of a crate: its public functions up to their bodies, its types, constants and `impl`s, and its
+    """The parts of a crate that crates above read: its public functions up to their bodies, its types, constants and `impl`s, and its
     specs but those of `Private`. A private function, a body and a comment are not among these."""
     found = []
 
