@@ -1,5 +1,5 @@
-//! Tests of runs of the programs in which an opening, a read or a write fails, of the reading of arguments, and of the
-//! callers in `callers`. No clause says what they show. All other runs of programs are the rows of `tests/rows`.
+//! Tests of runs of the programs in which an opening, a read or a write fails, and of the callers in `callers`. No clause
+//! says what they show. All other runs of programs are the rows of `tests/rows`.
 #![tactic(auto)]
 
 #[cfg(test)]
@@ -12,5 +12,3 @@ mod failing_runs;
 mod faults;
 #[cfg(test)]
 mod harness;
-#[cfg(test)]
-mod options;
