@@ -1,8 +1,7 @@
 //! Each error of a dictionary has the status 3, and its message is after the dictionary's path.
 
 use crate::faults::{Fault, PERMISSION_DENIED};
-use crate::harness::{FileList, Run, expect_failing_run, expect_run};
-use crate::hyphenate::Hyphenate;
+use crate::harness::{End, Program, Run, expect_end};
 use std::alloc::Global;
 use std::test::Fail;
 use test_dictionaries::SMALLEST;
@@ -14,7 +13,7 @@ const ARGS: &[&str] = &["score", "standard", "en-us", "least", "ab"];
 const NO_HEAD: &str = "hyphenate: least: line 1: not the head of this kind of dictionary\n";
 
 // The ending by the first bytes of the shortest text with a pattern: its status, output and message.
-fn ending_of_beginning(length: usize) -> (u8, &'static str, &'static str) {
+fn ending_of_beginning(length: usize) -> End<'static> {
     match length {
         0..=21 => (3, "", NO_HEAD),
         22..=32 => (3, "", "hyphenate: least: line 2: not a language line\n"),
@@ -26,16 +25,28 @@ fn ending_of_beginning(length: usize) -> (u8, &'static str, &'static str) {
     }
 }
 
-// Fails unless the score by these bytes ends so.
-fn expect_ending(
+// Fails unless the score by these bytes ends so, where this fails.
+fn expect_score(
     alloc: Global,
+    shows: &str,
     bytes: &[u8],
-    ending: (u8, &'static str, &'static str),
+    fault: Fault,
+    wanted: End<'_>,
 ) -> Result<(), Fail> {
+    let run = Run {
+        program: Program::Hyphenate,
+        files: &[("least", bytes)],
+        fault,
+        args: ARGS,
+        input: b"",
+    };
+    expect_end(alloc, shows, &run, wanted)
+}
+
+// Fails unless the score by these bytes ends so.
+fn expect_ending(alloc: Global, bytes: &[u8], wanted: End<'_>) -> Result<(), Fail> {
     let shows = format!(in alloc; "{}", bytes.escape_ascii())?;
-    let (status, output, message) = ending;
-    let wanted: Run<'_> = (&shows, ARGS, b"", status, output, message);
-    expect_run(alloc, &Hyphenate, &[("least", bytes)], &wanted)
+    expect_score(alloc, &shows, bytes, Fault::Nothing, wanted)
 }
 
 #[test]
@@ -56,33 +67,20 @@ fn each_beginning_of_a_text_and_each_byte_alone_is_judged(rt: HostRuntime) -> Re
     Ok(())
 }
 
-const FILES: FileList<'static> = &[("least", SMALLEST)];
-
-// Fails unless a run with this fault ends so.
-fn expect_failure(
-    alloc: Global,
-    shows: &str,
-    fault: Fault,
-    ending: (u8, &'static str, &'static str),
-) -> Result<(), Fail> {
-    let (status, output, message) = ending;
-    let wanted = (shows, fault, ARGS, b"".as_slice(), status, output, message);
-    expect_failing_run(alloc, &Hyphenate, FILES, &wanted)
+// Fails unless the score ends so, where this fails.
+fn expect_failure(alloc: Global, shows: &str, fault: Fault, wanted: End<'_>) -> Result<(), Fail> {
+    expect_score(alloc, shows, SMALLEST, fault, wanted)
 }
 
-const NO_MEMORY: (u8, &'static str, &'static str) = (6, "", "hyphenate: no memory\n");
+const NO_MEMORY: End<'static> = (6, "", "hyphenate: no memory\n");
 
-const RESET: (u8, &'static str, &'static str) = (
+const RESET: End<'static> = (
     3,
     "",
     "hyphenate: least: Connection reset by peer (os error 104)\n",
 );
 
-const DENIED: (u8, &'static str, &'static str) = (
-    3,
-    "",
-    "hyphenate: least: Permission denied (os error 13)\n",
-);
+const DENIED: End<'static> = (3, "", "hyphenate: least: Permission denied (os error 13)\n");
 
 #[test]
 fn an_opening_or_a_read_that_fails_has_its_message(rt: HostRuntime) -> Result<(), Fail> {

@@ -1,16 +1,18 @@
-//! The faults of a run of a program, and the inputs and outputs that fail so. Each read and each write moves one byte.
+//! The faults of a run of a program, and files, inputs and outputs in memory that fail so. Each read and each write moves
+//! one byte.
 
+use named_files::NamedFiles;
 use std::alloc::Global;
 use std::io;
-use std::io::Write;
 use test_support::io_errors::io_error;
 use test_support::readers::{FailingReader, failing_from, one_byte_reads};
-
-/// The system's code of an error: there is no such file.
-pub(crate) const NOT_FOUND: i32 = 2;
+use test_support::writers::{FailingWriter, failing_at};
 
 /// The system's code of an error: the user may not do this.
 pub(crate) const PERMISSION_DENIED: i32 = 13;
+
+// The system's code of an error: there is no such file.
+const NOT_FOUND: i32 = 2;
 
 // The system's code of an error: the disk is full.
 const NO_SPACE: i32 = 28;
@@ -25,31 +27,11 @@ pub(crate) enum Fault {
     FileRead(usize, i32),
     /// The read of a number, and later ones, of the input.
     InputRead(usize, i32),
-    /// The write of a number of the result; later ones succeed.
+    /// The write of a number of the result, since the disk is full; later ones succeed.
     OneWrite(usize),
-    /// Each write of the result.
-    EachWrite,
-    /// Each write of the result, and each of a message.
-    EachWriteAndMessage,
 }
 
 impl Fault {
-    /// The error of opening a file that is there.
-    pub(crate) fn opening_error(self) -> Option<io::Error> {
-        match self {
-            Fault::Opening(code) => Some(io_error(code)),
-            _ => None,
-        }
-    }
-
-    /// A file of these bytes that is read.
-    pub(crate) fn file(self, bytes: &[u8]) -> FailingReader<'_> {
-        match self {
-            Fault::FileRead(number, code) => failing_from(bytes, number, code),
-            _ => one_byte_reads(bytes),
-        }
-    }
-
     /// An input of these bytes.
     pub(crate) fn input(self, bytes: &[u8]) -> FailingReader<'_> {
         match self {
@@ -59,59 +41,40 @@ impl Fault {
     }
 
     /// An output for the result.
-    pub(crate) fn output(self, alloc: Global) -> Output {
+    pub(crate) fn output(self, alloc: Global) -> FailingWriter {
         match self {
-            Fault::OneWrite(number) => Output::new(alloc, number, false),
-            Fault::EachWrite | Fault::EachWriteAndMessage => Output::new(alloc, 1, true),
-            _ => Output::new(alloc, usize::MAX, false),
-        }
-    }
-
-    /// An output for messages.
-    pub(crate) fn messages(self, alloc: Global) -> Output {
-        match self {
-            Fault::EachWriteAndMessage => Output::new(alloc, 1, true),
-            _ => Output::new(alloc, usize::MAX, false),
+            Fault::OneWrite(number) => failing_at(alloc, number, NO_SPACE),
+            _ => failing_at(alloc, usize::MAX, NO_SPACE),
         }
     }
 }
 
-/// An output whose write of a number fails, and later ones too if it is full.
-#[derive(Drop)]
-pub(crate) struct Output {
-    /// The bytes that were taken.
-    pub(crate) taken: Vec<u8>,
-    until: usize,
-    is_full: bool,
+/// Files by their paths. Their opening or a read of them may fail.
+#[derive(Clone, Copy)]
+pub(crate) struct FaultyFiles<'b> {
+    pub(crate) files: &'b [(&'b str, &'b [u8])],
+    pub(crate) fault: Fault,
 }
 
-impl Output {
-    fn new(alloc: Global, until: usize, is_full: bool) -> Output {
-        Output {
-            taken: Vec::new(alloc),
-            until,
-            is_full,
-        }
-    }
-}
+impl<'b> NamedFiles for FaultyFiles<'b> {
+    type File = FailingReader<'b>;
 
-impl Write for Output {
-    fn write(&mut self, buf: &[u8]) -> io::Result<usize> {
-        if self.until <= 1 {
-            self.until = if self.is_full { 1 } else { usize::MAX };
-            return Err(io_error(NO_SPACE));
+    ghost use Rattle.std.specs.Prelude.{None};
+
+    ghost bytes = { λ _ _. None };
+
+    fn open(&self, path: &str) -> io::Result<FailingReader<'b>> {
+        if let Fault::Opening(code) = self.fault {
+            return Err(io_error(code));
         }
-        self.until -= 1;
-        match buf.first() {
-            Some(first) => {
-                self.taken.push(*first)?;
-                Ok(1)
+        for (name, bytes) in self.files {
+            if *name == path {
+                return match self.fault {
+                    Fault::FileRead(number, code) => Ok(failing_from(bytes, number, code)),
+                    _ => Ok(one_byte_reads(bytes)),
+                };
             }
-            None => Ok(0),
         }
-    }
-
-    fn flush(&mut self) -> io::Result<()> {
-        Ok(())
+        Err(io_error(NOT_FOUND))
     }
 }

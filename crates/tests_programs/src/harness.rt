@@ -1,150 +1,102 @@
-//! Runs of the programs over files, an input and outputs in memory, and what each run ends with.
+//! Runs of the programs over files, an input and outputs in memory, in which something fails, and what each run ends with.
 
-use crate::faults::Fault;
-use crate::memory_files::MemoryFiles;
+use crate::faults::{Fault, FaultyFiles};
 use command_line::Messages;
+use html_command::Recorded;
 use std::alloc::Global;
-use std::fs::Files;
-use std::io::{Read, Write};
 use std::test::Fail;
-use test_support::{expect, expect_equal_bytes};
+use test_support::readers::FailingReader;
+use test_support::writers::FailingWriter;
+use test_support::{expect_equal_bytes, expect_equal_in};
 
 /// A program.
-pub(crate) trait Program {
-    /// Does what the arguments ask for, and returns the status to end with.
-    fn answer<F: Files, I: Read, O: Write, E: Write>(
-        &self,
-        files: &F,
-        alloc: Global,
-        args: &[&str],
-        input: &mut I,
-        output: &mut O,
-        messages: &mut Messages<E>,
-    ) -> u8;
+#[derive(Clone, Copy)]
+pub(crate) enum Program {
+    Hyphenate,
+    Canonical,
+    Convert,
+    Explain,
+    Html,
+    Lines,
+    Text,
 }
 
-/// Files by their paths.
-pub(crate) type FileList<'f> = &'f [(&'f str, &'f [u8])];
-
-/// A run: what it shows, the arguments and the input, and the status, the output and the messages of its end.
-pub(crate) type Run<'r> = (&'r str, &'r [&'r str], &'r [u8], u8, &'r str, &'r str);
-
-/// A run in which something fails.
-pub(crate) type FailingRun<'r> = (
-    &'r str,
-    Fault,
-    &'r [&'r str],
-    &'r [u8],
-    u8,
-    &'r str,
-    &'r str,
-);
-
-/// The end of a run.
-#[derive(Drop)]
-struct Ending {
-    status: u8,
-    output: Vec<u8>,
-    messages: Vec<u8>,
+/// A run of a program: its files, by their paths, what fails, the arguments and the input.
+#[derive(Clone, Copy)]
+pub(crate) struct Run<'r> {
+    pub(crate) program: Program,
+    pub(crate) files: &'r [(&'r str, &'r [u8])],
+    pub(crate) fault: Fault,
+    pub(crate) args: &'r [&'r str],
+    pub(crate) input: &'r [u8],
 }
 
-// Runs a program.
-fn run<P: Program, F: Files>(
+/// The end of a run: its status, output and messages.
+pub(crate) type End<'e> = (u8, &'e str, &'e str);
+
+// Runs a program, and returns the status.
+fn status_of(
     alloc: Global,
-    program: &P,
-    files: &F,
-    fault: Fault,
-    args: &[&str],
-    input: &[u8],
-) -> Ending {
-    let mut output = fault.output(alloc);
-    let mut messages = Messages::new(fault.messages(alloc));
-    let status = program.answer(
-        files,
-        alloc,
-        args,
-        &mut fault.input(input),
-        &mut output,
-        &mut messages,
-    );
-    Ending {
-        status,
-        output: output.taken,
-        messages: messages.into_writer().taken,
+    run: &Run<'_>,
+    input: &mut FailingReader<'_>,
+    output: &mut FailingWriter,
+    messages: &mut Messages<Vec<u8>>,
+) -> u8 {
+    let files = &FaultyFiles {
+        files: run.files,
+        fault: run.fault,
+    };
+    let args = run.args;
+    let folders: &[&str] = &[];
+    let store = &mut Recorded {
+        files: Vec::new(alloc),
+    };
+    match run.program {
+        Program::Hyphenate => {
+            hyphenate_command::answer(files, alloc, args, input, output, messages)
+        }
+        Program::Canonical => {
+            canonical_command::answer(files, alloc, args, folders, input, output, messages)
+        }
+        Program::Convert => convert_command::answer(files, alloc, args, output, messages),
+        Program::Explain => {
+            explain_command::answer(files, alloc, args, folders, input, output, messages)
+        }
+        Program::Html => {
+            let call = html_command::Call { args, folders };
+            html_command::answer(files, store, alloc, &call, input, output, messages)
+        }
+        Program::Lines => {
+            lines_command::answer(files, alloc, args, folders, input, output, messages)
+        }
+        Program::Text => {
+            let call = text_command::Call { args, folders };
+            text_command::answer(files, store, alloc, &call, input, output, messages)
+        }
     }
 }
 
-/// Fails unless a run over any files ends as it says.
-pub(crate) fn expect_run_over<P: Program, F: Files>(
+/// Fails unless a run ends so.
+pub(crate) fn expect_end(
     alloc: Global,
-    program: &P,
-    files: &F,
-    wanted: &FailingRun<'_>,
+    shows: &str,
+    run: &Run<'_>,
+    wanted: End<'_>,
 ) -> Result<(), Fail> {
-    let (shows, fault, args, input, status, output, messages) = *wanted;
-    let found = run(alloc, program, files, fault, args, input);
-    let end = found.status;
+    let (status, output, message) = wanted;
+    let mut input = run.fault.input(run.input);
+    let mut written = run.fault.output(alloc);
+    let mut messages = Messages::new(Vec::new(alloc));
+    let found = status_of(alloc, run, &mut input, &mut written, &mut messages);
     expect_equal_bytes(
-        format_args!("{shows}, with status {end}: the messages"),
-        &found.messages,
-        messages.as_bytes(),
+        format_args!("{shows}: the messages"),
+        &messages.into_writer(),
+        message.as_bytes(),
     )?;
     expect_equal_bytes(
-        format_args!("{shows}, with status {end}: the output"),
-        &found.output,
+        format_args!("{shows}: the output"),
+        &written.taken,
         output.as_bytes(),
     )?;
-    expect(
-        end == status,
-        format_args!("{shows}: the status is {status} and not {end}"),
-    )
-}
-
-/// Fails unless a run over these files, in which something fails, ends as it says.
-pub(crate) fn expect_failing_run<P: Program>(
-    alloc: Global,
-    program: &P,
-    files: FileList<'_>,
-    wanted: &FailingRun<'_>,
-) -> Result<(), Fail> {
-    let (_, fault, ..) = *wanted;
-    expect_run_over(alloc, program, &MemoryFiles { files, fault }, wanted)
-}
-
-/// Fails unless each run over these files, in which something fails, ends as it says.
-pub(crate) fn expect_failing_runs<P: Program>(
-    alloc: Global,
-    program: &P,
-    files: FileList<'_>,
-    runs: &[FailingRun<'_>],
-) -> Result<(), Fail> {
-    for wanted in runs {
-        expect_failing_run(alloc, program, files, wanted)?;
-    }
-    Ok(())
-}
-
-/// Fails unless a run over these files ends as it says.
-pub(crate) fn expect_run<P: Program>(
-    alloc: Global,
-    program: &P,
-    files: FileList<'_>,
-    wanted: &Run<'_>,
-) -> Result<(), Fail> {
-    let (shows, args, input, status, output, messages) = *wanted;
-    let wanted = (shows, Fault::Nothing, args, input, status, output, messages);
-    expect_failing_run(alloc, program, files, &wanted)
-}
-
-/// Fails unless each run over these files ends as it says.
-pub(crate) fn expect_runs<P: Program>(
-    alloc: Global,
-    program: &P,
-    files: FileList<'_>,
-    runs: &[Run<'_>],
-) -> Result<(), Fail> {
-    for wanted in runs {
-        expect_run(alloc, program, files, wanted)?;
-    }
-    Ok(())
+    expect_equal_in(format_args!("{shows}: the status"), &found, &status)
 }
