@@ -164,8 +164,9 @@ impl FromBreaks for NumberOfBreaks {
 
 // The kind of a text's dictionary, its language and its minima. Then come a word's places, those of its breaks that change
 // no letters, the number of its breaks, and the values of its places. Last is the word with a mark at each break, twice.
-fn found(alloc: Global, text: &str, word: &str) -> Result<String, Fail> {
-    let mut dictionary: AnyDictionary = load(alloc, text)?;
+fn found(alloc: Global, kind: Kind, text: &str, word: &str) -> Result<String, Fail> {
+    let read = AnyDictionary::read(alloc, kind, text.as_bytes());
+    let mut dictionary = read.ok().ok_or("a dictionary")?;
     let (left, right) = dictionary.minima();
     let (mut places, mut plain) = (Vec::new(alloc), Vec::new(alloc));
     // a list keeps none of the word before
@@ -185,28 +186,32 @@ fn found(alloc: Global, text: &str, word: &str) -> Result<String, Fail> {
     )?)
 }
 
-// Each row: what a word shows, the text, the word, and what is found.
-const FOUND: [(&str, &str, &str, &str); 4] = [
+// Each row: what a word shows, the kind, the text, the word, and what is found.
+const FOUND: [(&str, Kind, &str, &str, &str); 4] = [
     (
         "a pattern of a standard one",
+        Kind::Standard,
         STANDARD,
         "typing",
         "Standard en-us 2 3 [2] [2] 1 [0, 1, 0, 0, 0] ty=ping ty=ping",
     ),
     (
         "an exception has breaks and no values",
+        Kind::Standard,
         STANDARD,
         "other",
         "Standard en-us 2 3 [2] [2] 1 [0, 0, 0, 0] ot=her ot=her",
     ),
     (
         "a break that changes letters is no plain one",
+        Kind::Extended,
         EXTENDED,
         "asszonnyal",
         "Extended hu 2 2 [2, 6] [] 2 [0, 0, 0, 0, 0, 0, 0, 0, 0] asz=szony=nyal asz=szony=nyal",
     ),
     (
         "a plain break of an extended one",
+        Kind::Extended,
         EXTENDED,
         "other",
         "Extended hu 2 2 [2] [2] 1 [0, 0, 0, 0] ot=her ot=her",
@@ -217,8 +222,8 @@ const FOUND: [(&str, &str, &str, &str); 4] = [
 fn a_dictionary_of_either_kind_finds_the_breaks_and_the_values_of_a_word(
     rt: HostRuntime,
 ) -> Result<(), Fail> {
-    for (shows, text, word, wanted) in &FOUND {
-        let found = found(rt.alloc(), text, word)?;
+    for (shows, kind, text, word, wanted) in &FOUND {
+        let found = found(rt.alloc(), *kind, text, word)?;
         expect_equal_in(shows, &found.as_str(), wanted)?;
     }
     Ok(())

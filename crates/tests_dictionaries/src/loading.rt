@@ -86,16 +86,17 @@ fn expect_failing_once<D: Load + Drop>(
 // an interrupted read is tried again, and nothing is read after the end.
 fn expect_each_read_decides<D: Load + Drop>(alloc: Global, row: &Row) -> Result<(), Fail> {
     let (text, code, whole) = *row;
-    let (bytes, pairs) = (text.len() + 1, text.len() / 2 + text.len() % 2 + 1);
+    let bytes = text.len().saturating_add(1);
+    let pairs = (bytes / 2).saturating_add(1);
     for (error, wanted) in &ERRORS {
         for number in 1..=bytes {
             expect_failing_from::<D>(alloc, (text, code), number, *error, wanted)?;
         }
-        expect_failing_from::<D>(alloc, (text, code), bytes + 1, *error, whole)?;
+        expect_failing_from::<D>(alloc, (text, code), bytes.saturating_add(1), *error, whole)?;
         for number in 1..=pairs {
             expect_failing_once::<D>(alloc, (text, code), number, *error, wanted)?;
         }
-        expect_failing_once::<D>(alloc, (text, code), pairs + 1, *error, whole)?;
+        expect_failing_once::<D>(alloc, (text, code), pairs.saturating_add(1), *error, whole)?;
     }
     for number in 1..=pairs {
         expect_failing_once::<D>(alloc, (text, code), number, INTERRUPTED, whole)?;

@@ -2,7 +2,7 @@
 //! and of the items of a word, each with its mark.
 
 use crate::questions::Question::{
-    Exception, ExceptionWithin, Items, NewMark, Opportunities, OpportunitiesWithin, Places,
+    Allowed, Exception, Items, Listed, NewMark, Opportunities, Places,
 };
 use hyphenation_breaks::breaks::Break;
 use hyphenation_dictionary::dictionary::{Extended, Standard};
@@ -13,23 +13,23 @@ use std::test::Fail;
 use test_dictionaries::{extended, standard};
 use test_support::{CallError, expect_text_in};
 
-/// A question to a dictionary. Bounds are numbers of bytes.
+// A question to a dictionary. Bounds are numbers of bytes.
 #[derive(Clone, Copy)]
 enum Question<'q> {
-    /// The breaks of words that spaces separate, with a comma after those of each.
+    // The breaks of words that spaces separate, with a comma after those of each.
     Places(&'q str),
-    /// A word's items with this mark, or with their first one, and a comma after each item.
+    // A word's items with this mark, or with their first one, and a comma after each item.
     Items(Option<&'q str>, &'q str),
-    /// A word's items, each after the number of the remaining ones; after the first the mark is `=`. It asks for two
-    /// more than there are.
+    // A word's items, each after the number of the remaining ones; after the first the mark is `=`. It asks for two
+    // more than there are.
     NewMark(&'q str),
-    /// The breaks that are listed for a word, within its boundaries.
+    // The breaks that are listed for a word, within its boundaries.
     Exception(&'q str),
-    /// The breaks that are listed for a word, within bounds.
-    ExceptionWithin(&'q str, (usize, usize)),
-    /// The breaks that patterns allow in a word in small letters, within bounds.
-    OpportunitiesWithin(&'q str, (usize, usize)),
-    /// The breaks of a word in small letters.
+    // The breaks that are listed for a word, within bounds.
+    Listed(&'q str, (usize, usize)),
+    // The breaks that patterns allow in a word in small letters, within bounds.
+    Allowed(&'q str, (usize, usize)),
+    // The breaks of a word in small letters.
     Opportunities(&'q str),
 }
 
@@ -149,10 +149,10 @@ fn answer_about_breaks<'h, H: Hyphenator<'h>>(
     match question {
         Places(words) => places_of(alloc, dictionary, words),
         Exception(word) => describe_exception(alloc, dictionary.exception(alloc, word)?),
-        ExceptionWithin(word, bounds) => {
+        Listed(word, bounds) => {
             describe_exception(alloc, dictionary.exception_within(alloc, word, bounds)?)
         }
-        OpportunitiesWithin(word, bounds) => {
+        Allowed(word, bounds) => {
             describe_breaks(
                 alloc,
                 &dictionary.opportunities_within(alloc, word, bounds)?,
@@ -193,100 +193,46 @@ fn answer_of_extended(
     })
 }
 
+// Breaks that are listed, with capitals too.
 const ANISOTROPIC: &[Row] = &[
-    (
-        "listed places are found within the boundaries",
-        Exception("anisotropic"),
-        "2 5 ",
-    ),
-    (
-        "no place is listed for another word",
-        Exception("other"),
-        "none",
-    ),
-    (
-        "no place is found for a word that the minima leave whole",
-        Exception("ab"),
-        "none",
-    ),
-    (
-        "listed places are found within bounds",
-        ExceptionWithin("anisotropic", (0, 11)),
-        "2 5 9 ",
-    ),
-    (
-        "no listed place is within bounds of which the first is greater",
-        ExceptionWithin("anisotropic", (9, 2)),
-        "",
-    ),
-    (
-        "no place is listed within bounds for another word",
-        ExceptionWithin("other", (0, 5)),
-        "none",
-    ),
-    (
-        "a word that the minima leave whole is listed",
-        ExceptionWithin("ab", (0, 2)),
-        "1 ",
-    ),
-    (
-        "a word that the minima leave whole has no break",
-        Opportunities("ab"),
-        "",
-    ),
-    (
-        "a word with a capital is found as it is listed",
-        ExceptionWithin("Upper", (0, 5)),
-        "3 ",
-    ),
-    (
-        "a word that is listed with a capital is not found in small letters",
-        ExceptionWithin("upper", (0, 5)),
-        "none",
-    ),
+    ("within its boundaries", Exception("anisotropic"), "2 5 "),
+    ("of another word", Exception("other"), "none"),
+    ("of a word left whole", Exception("ab"), "none"),
+    ("within bounds", Listed("anisotropic", (0, 11)), "2 5 9 "),
+    ("the first is greater", Listed("anisotropic", (9, 2)), ""),
+    ("of another word", Listed("other", (0, 5)), "none"),
+    ("of a word left whole", Listed("ab", (0, 2)), "1 "),
+    ("it has no break", Opportunities("ab"), ""),
+    ("found as it is listed", Listed("Upper", (0, 5)), "3 "),
+    ("but not in small letters", Listed("upper", (0, 5)), "none"),
 ];
 
+// A word that is listed hides its patterns, and not the places that they allow within bounds.
 const FIRKINS: &[Row] = &[
     (
-        "an added word decides alone",
+        "it decides alone",
         Places("firkins FIRKINS firkin"),
         "3 ,3 ,3 ,",
     ),
+    ("of patterns", Allowed("firkins", (0, 7)), "3 4 "),
+    ("at its first bound", Allowed("firkins", (4, 6)), "4 "),
+    ("at both its bounds", Allowed("firkins", (3, 3)), "3 "),
+    ("the first is greater", Allowed("firkins", (4, 3)), ""),
     (
-        "places of patterns are found within bounds, though one place alone is listed",
-        OpportunitiesWithin("firkins", (0, 7)),
-        "3 4 ",
-    ),
-    (
-        "a place of a pattern is found at its first bound",
-        OpportunitiesWithin("firkins", (4, 6)),
-        "4 ",
-    ),
-    (
-        "a place of a pattern is found at both its bounds",
-        OpportunitiesWithin("firkins", (3, 3)),
-        "3 ",
-    ),
-    (
-        "no place of a pattern is within bounds of which the first is greater",
-        OpportunitiesWithin("firkins", (4, 3)),
-        "",
-    ),
-    (
-        "no place of a pattern is found after the last one",
-        OpportunitiesWithin("firkins", (5, usize::MAX)),
+        "after the last one",
+        Allowed("firkins", (5, usize::MAX)),
         "",
     ),
 ];
 
 const HYPHENATION: &[Row] = &[
     (
-        "the first mark is a hyphen",
+        "the first mark",
         Items(None, "Hyphenation"),
         "Hy-,phen-,a-,tion,",
     ),
     (
-        "the mark may be empty",
+        "an empty mark",
         Items(Some(""), "hyphenation"),
         "hy,phen,a,tion,",
     ),
@@ -295,12 +241,16 @@ const HYPHENATION: &[Row] = &[
         NewMark("hyphenation"),
         "4 hy-,3 phen=,2 a=,1 tion,0 none,0 none,",
     ),
-    (
-        "the empty word is one item",
-        NewMark(""),
-        "1 ,0 none,0 none,",
-    ),
 ];
+
+// A word with a capital has its listed break as a word in small letters.
+const UPPER: &[Row] = &[("as small letters", Opportunities("Upper"), "3 ")];
+
+const EMPTY_LIST: &[Row] = &[("a list may be empty", Exception("ab"), "")];
+
+const NO_PATTERN: &[Row] = &[("it may be, without patterns", Exception("abcd"), "")];
+
+const EMPTY_WORD: &[Row] = &[("it is one item", NewMark(""), "1 ,0 none,0 none,")];
 
 // To dictionaries of both kinds.
 const OF_BOTH: &[Table] = &[
@@ -311,38 +261,10 @@ const OF_BOTH: &[Table] = &[
         FIRKINS,
     ),
     ("2 3", "e hyphenation 2 6 7", HYPHENATION),
-    (
-        "1 1",
-        "e Upper 3",
-        &[(
-            "a word with a capital has its listed break as a word in small letters",
-            Opportunities("Upper"),
-            "3 ",
-        )],
-    ),
-    (
-        "0 0",
-        "p a1b\ne ab",
-        &[("a list may be empty", Exception("ab"), "")],
-    ),
-    (
-        "2 2",
-        "p b1c\ne abcd",
-        &[(
-            "a list may be empty where no pattern occurs",
-            Exception("abcd"),
-            "",
-        )],
-    ),
-    (
-        "0 0",
-        "e \\e 0",
-        &[(
-            "the empty word is one item",
-            NewMark(""),
-            "1 ,0 none,0 none,",
-        )],
-    ),
+    ("1 1", "e Upper 3", UPPER),
+    ("0 0", "p a1b\ne ab", EMPTY_LIST),
+    ("2 2", "p b1c\ne abcd", NO_PATTERN),
+    ("0 0", "e \\e 0", EMPTY_WORD),
 ];
 
 const DOUBLED: &[Row] = &[
@@ -351,48 +273,45 @@ const DOUBLED: &[Row] = &[
         NewMark("asszonnyal"),
         "3 asz-,2 szony=,1 nyal,0 none,0 none,",
     ),
+    ("a change is listed", Exception("esszé"), "2,1,2,2,szsz "),
     (
-        "a listed change is returned",
-        Exception("esszé"),
+        "within bounds too",
+        Listed("esszé", (0, 6)),
         "2,1,2,2,szsz ",
     ),
-    (
-        "a listed change is returned within bounds",
-        ExceptionWithin("esszé", (0, 6)),
-        "2,1,2,2,szsz ",
-    ),
-    (
-        "a listed change is no change of a pattern",
-        OpportunitiesWithin("esszé", (0, 6)),
-        "",
-    ),
+    ("no change of a pattern", Allowed("esszé", (0, 6)), ""),
 ];
 
+// A list with a place within the range of the break before it.
 const OVERLAPPING: &[Row] = &[
     (
-        "a place within a kept range is left out",
+        "the place is left out",
         Places("asszonnyal"),
         "2,1,2,2,szsz 6,1,2,2,nyny ,",
     ),
     (
-        "a place within a range is listed",
+        "the place is listed",
         Exception("asszonnyal"),
         "2,1,2,2,szsz 3 6,1,2,2,nyny ",
     ),
 ];
 
+// A change whose range begins before the first letter of a word.
 const PAST_THE_EDGE: &[Row] = &[
+    ("the range is left out", Places("abc \u{ad}ab"), ",0 ,"),
     (
-        "a range that passes an edge of the word is left out",
-        Places("abc \u{ad}ab"),
-        ",0 ,",
-    ),
-    (
-        "a range that passes an edge of the word is allowed",
+        "it is allowed",
         Opportunities("abc"),
         "1,out of the word,1,x ",
     ),
 ];
+
+// A change of `ß`, whose capital has another length.
+const OTHER_LENGTH: &[Row] = &[(
+    "left out, it is none",
+    Places("aßb AẞB"),
+    "1 3,2,0,2,ss ,1 ,",
+)];
 
 // To extended dictionaries.
 const OF_EXTENDED: &[Table] = &[
@@ -407,16 +326,7 @@ const OF_EXTENDED: &[Table] = &[
         OVERLAPPING,
     ),
     ("1 1", "p .a1b 2,2,0,1,x", PAST_THE_EDGE),
-    // a change of `ß`, whose capital has another length
-    (
-        "1 1",
-        "e aßb 1 3,2,0,2,ss",
-        &[(
-            "a break left out is no break of the word",
-            Places("aßb AẞB"),
-            "1 3,2,0,2,ss ,1 ,",
-        )],
-    ),
+    ("1 1", "e aßb 1 3,2,0,2,ss", OTHER_LENGTH),
 ];
 
 #[test]
@@ -424,9 +334,17 @@ fn hyphenators_of_both_kinds_answer_alike(rt: HostRuntime) -> Result<(), Fail> {
     for (minima, lines, rows) in OF_BOTH {
         for (shows, question, wanted) in *rows {
             let found = answer_of_standard(rt.alloc(), minima, lines, *question);
-            expect_text_in(format_args!("{shows}, by a standard one"), found, wanted)?;
+            expect_text_in(
+                format_args!("{lines}: {shows}, of a standard one"),
+                found,
+                wanted,
+            )?;
             let found = answer_of_extended(rt.alloc(), minima, lines, *question);
-            expect_text_in(format_args!("{shows}, by an extended one"), found, wanted)?;
+            expect_text_in(
+                format_args!("{lines}: {shows}, of an extended one"),
+                found,
+                wanted,
+            )?;
         }
     }
     Ok(())
@@ -437,7 +355,7 @@ fn an_extended_hyphenator_answers_with_changes(rt: HostRuntime) -> Result<(), Fa
     for (minima, lines, rows) in OF_EXTENDED {
         for (shows, question, wanted) in *rows {
             let found = answer_of_extended(rt.alloc(), minima, lines, *question);
-            expect_text_in(*shows, found, wanted)?;
+            expect_text_in(format_args!("{lines}: {shows}"), found, wanted)?;
         }
     }
     Ok(())
