@@ -4,10 +4,8 @@
 use hyphenation_dictionary::dictionary::{Extended, Standard};
 use hyphenation_load::{Error, Load};
 use std::alloc::{AllocError, Global};
-use std::io::Read;
 use std::test::Fail;
 use test_support::expect_text;
-use test_support::io_errors::{CONNECTION_RESET, has_code};
 use test_support::readers::one_byte_reads;
 
 /// The outcome of loading: `loaded`, the line and cause of a refusal such as `4 Change`, or the message of any other
@@ -49,11 +47,6 @@ pub fn text_outcome<D: Load + Drop>(alloc: Global, text: &[u8]) -> Result<String
     } else {
         format!(in alloc; "{whole}, and one byte a read {by_bytes}")
     }
-}
-
-/// Whether an error of loading is a connection that was reset.
-pub fn is_connection_reset(error: &Error) -> bool {
-    matches!(error, Error::IO(e) if has_code(e, CONNECTION_RESET))
 }
 
 /// The shortest text with a pattern that is accepted.
@@ -105,39 +98,7 @@ pub fn extended(alloc: Global, minima: &str, lines: &str) -> Result<Extended, Er
     load_made(alloc, extended_text(alloc, minima, lines))
 }
 
-/// An extended text with these minima and lines.
-pub fn extended_text(alloc: Global, minima: &str, lines: &str) -> Result<String, AllocError> {
+// An extended text with these minima and lines.
+fn extended_text(alloc: Global, minima: &str, lines: &str) -> Result<String, AllocError> {
     format!(in alloc; "hyphenation 1 extended\nlanguage hu\nminima {minima}\n{lines}\n")
-}
-
-// A text with this first line, in American English with the minima 1 and 1, and these lines.
-fn american_text(alloc: Global, head: &str, lines: &str) -> Result<String, AllocError> {
-    format!(in alloc; "{head}\nlanguage en-us\nminima 1 1\n{lines}\n")
-}
-
-/// The standard dictionary of a text of version 2 with the minima 1 and 1 and these lines.
-pub fn standard_of_version_2(alloc: Global, lines: &str) -> Result<Standard, Error> {
-    load_made(alloc, american_text(alloc, "hyphenation 2 standard", lines))
-}
-
-/// The extended dictionary of a text of version 2 with the minima 1 and 1 and these lines.
-pub fn extended_of_version_2(alloc: Global, lines: &str) -> Result<Extended, Error> {
-    load_made(alloc, american_text(alloc, "hyphenation 2 extended", lines))
-}
-
-/// The text that is written of the dictionary of this text.
-pub fn rewritten<D: Load + Drop>(alloc: Global, text: &[u8]) -> Result<Vec<u8>, Error> {
-    let mut reader = text;
-    rewritten_from::<D, _>(alloc, &mut reader)
-}
-
-/// The text that is written of the dictionary that a reader gives.
-pub fn rewritten_from<D: Load + Drop, R: Read>(
-    alloc: Global,
-    reader: &mut R,
-) -> Result<Vec<u8>, Error> {
-    let dictionary = D::any_from_reader(alloc, reader)?;
-    let mut written = Vec::new(alloc);
-    dictionary.to_writer(alloc, &mut written)?;
-    Ok(written)
 }
