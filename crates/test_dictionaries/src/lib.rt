@@ -7,7 +7,6 @@ use std::alloc::{AllocError, Global};
 use std::io::Read;
 use std::test::Fail;
 use test_support::expect_text;
-use test_support::io_errors::{CONNECTION_RESET, has_code};
 use test_support::readers::one_byte_reads;
 
 /// The outcome of loading: `loaded`, the line and cause of a refusal such as `4 Change`, or the message of any other
@@ -49,11 +48,6 @@ pub fn text_outcome<D: Load + Drop>(alloc: Global, text: &[u8]) -> Result<String
     } else {
         format!(in alloc; "{whole}, and one byte a read {by_bytes}")
     }
-}
-
-/// Whether an error of loading is a connection that was reset.
-pub fn is_connection_reset(error: &Error) -> bool {
-    matches!(error, Error::IO(e) if has_code(e, CONNECTION_RESET))
 }
 
 /// The shortest text with a pattern that is accepted.
@@ -118,11 +112,6 @@ fn american_text(alloc: Global, head: &str, lines: &str) -> Result<String, Alloc
 /// The standard dictionary of a text of version 2 with the minima 1 and 1 and these lines.
 pub fn standard_of_version_2(alloc: Global, lines: &str) -> Result<Standard, Error> {
     load_made(alloc, american_text(alloc, "hyphenation 2 standard", lines))
-}
-
-/// The extended dictionary of a text of version 2 with the minima 1 and 1 and these lines.
-pub fn extended_of_version_2(alloc: Global, lines: &str) -> Result<Extended, Error> {
-    load_made(alloc, american_text(alloc, "hyphenation 2 extended", lines))
 }
 
 /// The text that is written of the dictionary of this text.
