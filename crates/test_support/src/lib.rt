@@ -94,19 +94,6 @@ pub fn expect_text_in<C: Display + Drop, E: Into<CallError>>(
     }
 }
 
-/// Fails, with the case, if a run failed or wrote other bytes.
-pub fn expect_written<C: Display + Drop, E: Debug>(
-    case: C,
-    end: &Result<(), E>,
-    output: &[u8],
-    wanted: &[u8],
-) -> Result<(), Fail> {
-    match end {
-        Ok(()) => expect_equal_bytes(case, output, wanted),
-        Err(error) => Err(Fail::new(format_args!("{case}: {error:?}"))),
-    }
-}
-
 /// Fails, with the case, unless a condition holds.
 pub fn expect<C: Display + Drop>(is_so: bool, case: C) -> Result<(), Fail> {
     if is_so {
@@ -123,4 +110,19 @@ pub fn repeated(alloc: Global, piece: &str, times: usize) -> Result<String, Allo
         text.push_str(piece)?;
     }
     Ok(text)
+}
+
+/// The rows of a table that is a text: each has a line with what it shows, and a line `CASE => RESULT`. Fails unless
+/// there are so many.
+pub fn rows_of(alloc: Global, table: &str, count: usize) -> Result<Vec<(&str, &str, &str)>, Fail> {
+    let mut rows = Vec::new(alloc);
+    let mut shows = "";
+    for line in table.lines() {
+        match line.split_once(" => ") {
+            Some((case, result)) => rows.push((shows, case, result))?,
+            None => shows = line,
+        }
+    }
+    expect_equal(&rows.len(), &count)?;
+    Ok(rows)
 }

@@ -44,14 +44,9 @@ pub fn failing_from(left: &[u8], until: usize, code: i32) -> FailingReader<'_> {
     FailingReader { left, until, code }
 }
 
-/// A reader of one byte a read. At the read of this number its connection is reset.
-pub fn resetting_at(left: &[u8], until: usize) -> FailingReader<'_> {
-    failing_from(left, until, CONNECTION_RESET)
-}
-
 /// A reader of one byte a read, which never fails.
 pub fn one_byte_reads(left: &[u8]) -> FailingReader<'_> {
-    resetting_at(left, usize::MAX)
+    failing_from(left, usize::MAX, CONNECTION_RESET)
 }
 
 /// Gives at most `most` bytes a read. The read of a number, counted from 1, fails; later ones succeed.

@@ -1,6 +1,6 @@
 //! Writers that take one byte a write, and fail once.
 
-use crate::io_errors::{BROKEN_PIPE, INTERRUPTED, io_error};
+use crate::io_errors::io_error;
 use std::alloc::Global;
 use std::io;
 use std::io::Write;
@@ -42,14 +42,4 @@ pub fn failing_at(alloc: Global, until: usize, code: i32) -> FailingWriter {
         code,
         taken: Vec::new(alloc),
     }
-}
-
-/// A writer whose write of this number fails, since its pipe is broken.
-pub fn breaking_pipe_at(alloc: Global, until: usize) -> FailingWriter {
-    failing_at(alloc, until, BROKEN_PIPE)
-}
-
-/// A writer whose write of this number is interrupted.
-pub fn interrupting_at(alloc: Global, until: usize) -> FailingWriter {
-    failing_at(alloc, until, INTERRUPTED)
 }

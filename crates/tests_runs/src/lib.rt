@@ -1,22 +1,16 @@
-//! Tests of whole runs and their errors, of lines, paragraphs and pages, of the texts that explain words, and of the calls
-//! for C. Each name of `hyphenation` that users have is called once. No clause says what they show.
+//! Tests of runs, lines and pages that no program shows: readers and writers that fail, long texts, calls of the
+//! library, and pages and texts in pieces. Each name of `hyphenation` that users have is called once.
 #![tactic(auto)]
 
 #[cfg(test)]
-mod calls_of_c;
-#[cfg(test)]
-mod divided_lines;
-#[cfg(test)]
-mod explained_words;
-#[cfg(test)]
 mod faults;
-#[cfg(test)]
-mod filled_lines;
 #[cfg(test)]
 mod first_example;
 #[cfg(test)]
+mod lines;
+#[cfg(test)]
 mod names;
 #[cfg(test)]
-mod pages;
+mod pieces;
 #[cfg(test)]
 mod runs;

@@ -5,11 +5,11 @@
 #[cfg(test)]
 mod comparison;
 #[cfg(test)]
-mod long_patterns;
-#[cfg(test)]
 mod long_words;
 #[cfg(test)]
 mod look_ups;
+#[cfg(test)]
+mod reference;
 #[cfg(test)]
 mod tables;
 #[cfg(test)]

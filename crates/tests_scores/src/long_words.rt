@@ -1,10 +1,15 @@
-//! Long words: each of their places has its value, and each byte takes few look-ups.
+//! Long words and patterns: each place has its value, each byte takes few look-ups, and each of many values its change.
 
 use crate::look_ups::{expect_look_ups, look_ups_by};
 use crate::values::{BOTH, values_by};
-use std::alloc::Global;
+use hyphenation_breaks::extended::Subregion;
+use hyphenation_dictionary::dictionary::Extended;
+use hyphenation_load::Error;
+use hyphenation_score::Score;
+use std::alloc::{AllocError, Global};
 use std::test::Fail;
-use test_support::{expect, repeated};
+use test_dictionaries::{expect_outcome, load};
+use test_support::{expect, expect_equal, repeated};
 
 // Ten dots and a letter: each dot of a word of dots begins this key, or continues it.
 const DOTS: &str = "p ..........1a\n";
@@ -65,4 +70,48 @@ fn a_word_of_100_000_dots_is_looked_up_in_one_pass(rt: HostRuntime) -> Result<()
         expect_few_look_ups_for_dots(rt.alloc(), head)?;
     }
     Ok(())
+}
+
+// The number of the key's letters.
+const LETTERS: usize = 20_000;
+
+// An extended text of one long pattern, with a change at the place of each value, whose key ends with these letters,
+// and whose line has this ending.
+fn text_of(alloc: Global, letters: &str, ending: &str) -> Result<String, AllocError> {
+    let mut text = String::from_str(
+        alloc,
+        "hyphenation 1 extended\nlanguage hu\nminima 2 2\np 1",
+    )?;
+    text.push_str(&repeated(alloc, "a1", LETTERS)?)?;
+    text.push_str(letters)?;
+    for place in 0..LETTERS + 1 {
+        text.push_str(&format!(in alloc; " {place},0,0,1,b")?)?;
+    }
+    text.push_str(ending)?;
+    Ok(text)
+}
+
+fn is_changed(found: &(u8, Option<&Subregion>)) -> bool {
+    found.0 == 1 && found.1.is_some()
+}
+
+#[test]
+fn many_values_take_their_changes(rt: HostRuntime) -> Result<(), Fail> {
+    let dictionary: Extended = load(rt.alloc(), &text_of(rt.alloc(), "", "\n")?)?;
+    let word = repeated(rt.alloc(), "a", LETTERS)?;
+    let values = dictionary.score(rt.alloc(), &word)?;
+    expect_equal(&values.len(), &(LETTERS - 1))?;
+    expect(
+        values.iter().all(|found| is_changed(found)),
+        "each value is 1 with a change",
+    )
+}
+
+#[test]
+fn a_change_after_many_values_has_none(rt: HostRuntime) -> Result<(), Fail> {
+    let loaded: Result<Extended, Error> = load(
+        rt.alloc(),
+        &text_of(rt.alloc(), "a", " 20001,0,0,1,b\n")?,
+    );
+    expect_outcome(rt.alloc(), loaded, "4 Change")
 }

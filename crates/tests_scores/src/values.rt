@@ -1,62 +1,101 @@
 //! The values of words by dictionaries of both kinds, with their changes.
 
+use hyphenation_breaks::breaks::Break;
 use hyphenation_breaks::extended::Subregion;
 use hyphenation_dictionary::dictionary::{Extended, Standard};
+use hyphenation_grammar::form::Kind;
 use hyphenation_hyphenator::hyphenator::Hyphenator;
 use hyphenation_load::Load;
+use hyphenation_reader::edits::apply_edit;
 use hyphenation_score::Score;
 use std::alloc::{AllocError, Global};
 use std::test::Fail;
 use test_dictionaries::{extended, load};
 use test_support::{CallError, expect_equal_in, expect_text, expect_text_in};
 
-/// A dictionary of either kind, which scores words.
+/// A dictionary of either kind, which scores and breaks words.
 pub trait Scored: Load + Drop {
-    /// The values of a word's places, each with its change.
-    fn scores(
-        &self,
-        alloc: Global,
-        word: &str,
-    ) -> Result<Vec<(u8, Option<&Subregion>)>, AllocError>;
+    /// Its name in line 1 of a text.
+    fn name() -> &'static str;
+
+    /// Whether its breaks may have changes.
+    fn has_changes() -> bool;
+
+    /// The values of a word's places, each with its change and a space after it.
+    fn values(&self, alloc: Global, word: &str) -> Result<String, AllocError>;
+
+    /// The breaks of a word, each with its change and a space after it.
+    fn breaks(&self, alloc: Global, word: &str) -> Result<String, AllocError>;
 
     /// Makes the table of the dictionary, and returns whether it has one.
     fn add_table(&mut self, alloc: Global) -> Result<bool, AllocError>;
+
+    /// Makes an edit, and returns whether it is good.
+    fn edit(&mut self, alloc: Global, edit: &str) -> Result<bool, AllocError>;
 }
 
 impl Scored for Standard {
-    fn scores(
-        &self,
-        alloc: Global,
-        word: &str,
-    ) -> Result<Vec<(u8, Option<&Subregion>)>, AllocError> {
-        let mut scores = Vec::new(alloc);
+    fn name() -> &'static str {
+        "standard"
+    }
+
+    fn has_changes() -> bool {
+        false
+    }
+
+    fn values(&self, alloc: Global, word: &str) -> Result<String, AllocError> {
+        let mut values = String::new(alloc);
         for value in self.score(alloc, word)? {
-            scores.push((value, None))?;
+            values.push_str(&described(alloc, usize::from(value), None)?)?;
         }
-        Ok(scores)
+        Ok(values)
+    }
+
+    fn breaks(&self, alloc: Global, word: &str) -> Result<String, AllocError> {
+        described_breaks(alloc, &self.hyphenate(alloc, word)?.breaks)
     }
 
     fn add_table(&mut self, alloc: Global) -> Result<bool, AllocError> {
         self.make_table(alloc)
+    }
+
+    fn edit(&mut self, alloc: Global, edit: &str) -> Result<bool, AllocError> {
+        apply_edit(alloc, Kind::Standard, self, edit)
     }
 }
 
 impl Scored for Extended {
-    fn scores(
-        &self,
-        alloc: Global,
-        word: &str,
-    ) -> Result<Vec<(u8, Option<&Subregion>)>, AllocError> {
-        self.score(alloc, word)
+    fn name() -> &'static str {
+        "extended"
+    }
+
+    fn has_changes() -> bool {
+        true
+    }
+
+    fn values(&self, alloc: Global, word: &str) -> Result<String, AllocError> {
+        let mut values = String::new(alloc);
+        for (value, change) in self.score(alloc, word)? {
+            values.push_str(&described(alloc, usize::from(value), change)?)?;
+        }
+        Ok(values)
+    }
+
+    fn breaks(&self, alloc: Global, word: &str) -> Result<String, AllocError> {
+        described_breaks(alloc, &self.hyphenate(alloc, word)?.breaks)
     }
 
     fn add_table(&mut self, alloc: Global) -> Result<bool, AllocError> {
         self.make_table(alloc)
     }
+
+    fn edit(&mut self, alloc: Global, edit: &str) -> Result<bool, AllocError> {
+        apply_edit(alloc, Kind::Extended, self, edit)
+    }
 }
 
 // A value or a place, with the parts of its change and a space after it, such as `1 ` or `1,1,0,1,x `.
-fn describe(
+fn described(
     alloc: Global,
     number: usize,
     change: Option<&Subregion>,
@@ -71,20 +110,28 @@ fn describe(
     }
 }
 
-// Writes the values of a word, and a comma after them.
-fn push_values<D: Scored>(
-    output: &mut String,
-    alloc: Global,
-    dictionary: &D,
-    word: &str,
-) -> Result<(), AllocError> {
-    for (value, change) in dictionary.scores(alloc, word)? {
-        output.push_str(&describe(alloc, usize::from(value), change)?)?;
+// A break, with what it takes and puts in its place.
+fn described_break<B: Break>(alloc: Global, found: &B) -> Result<String, AllocError> {
+    let (place, before, after) = (found.place(), found.before(), found.after());
+    match found.range() {
+        Some((begin, end)) if found.changed() => {
+            let (left, right) = (place.wrapping_sub(begin), end.wrapping_sub(place));
+            format!(in alloc; "{place},{left},{right},{},{before}{after} ", before.len())
+        }
+        Some((begin, end)) if begin == place && end == place => format!(in alloc; "{place} "),
+        other => format!(in alloc; "{place} with the range {other:?} "),
     }
-    output.push(',')
 }
 
-// The values of words by a loaded dictionary.
+fn described_breaks<B: Break>(alloc: Global, breaks: &[B]) -> Result<String, AllocError> {
+    let mut all = String::new(alloc);
+    for found in breaks {
+        all.push_str(&described_break(alloc, found)?)?;
+    }
+    Ok(all)
+}
+
+// The values of words by a loaded dictionary, a comma after those of each word.
 fn values_of<D: Scored>(
     alloc: Global,
     dictionary: &D,
@@ -92,7 +139,8 @@ fn values_of<D: Scored>(
 ) -> Result<String, AllocError> {
     let mut output = String::new(alloc);
     for word in words {
-        push_values(&mut output, alloc, dictionary, word)?;
+        output.push_str(&dictionary.values(alloc, word)?)?;
+        output.push(',')?;
     }
     Ok(output)
 }
@@ -147,243 +195,21 @@ pub const EXTENDED: &[&str] = &["hyphenation 1 extended\nlanguage hu\nminima 1 1
 /// The patterns that occur in `firkin`.
 pub const FIRKIN: &str = "p .fi2\np i2r\np r2k\np r5kin\np k1in\np k2in.\n";
 
-const BRITISH: &[&str] = &["hyphenation 1 standard\nlanguage en-gb\nminima 2 3\n"];
-
-const AMERICAN: &[&str] = &["hyphenation 1 standard\nlanguage en-us\nminima 2 3\n"];
-
-const WITHOUT_LINE_END: &[&str] = &["hyphenation 1 standard\nlanguage en-us\nminima 2 3"];
-
 /// The head of a standard text of version 2.
 pub const VERSION_2: &[&str] = &["hyphenation 2 standard\nlanguage en-us\nminima 1 1\n"];
 
 /// The head of an extended text of version 2.
 pub const EXTENDED_VERSION_2: &[&str] = &["hyphenation 2 extended\nlanguage en-us\nminima 1 1\n"];
 
-/// Twenty letters.
-pub const TWENTY: &str = "aaaaaaaaaaaaaaaaaaaa";
-
 // Each row has its sentence, the heads of texts, their other lines, words, and the values of these.
+// `tests/rows/values.txt` has those without changes.
 const VALUES: &[(&str, &[&str], &str, &[&str], &str)] = &[
-    (
-        "the greatest value decides each place",
-        BRITISH,
-        FIRKIN,
-        &["firkin", "firkins", "FIRKIN", "", "f"],
-        "0 2 5 2 0 ,0 2 5 1 0 0 ,0 0 0 0 0 ,,,",
-    ),
-    (
-        "a dot at the head of a key is an edge or a dot",
-        BOTH,
-        "p .b1c\n",
-        &["a.bcd", "bc", "abc"],
-        "0 0 1 0 ,1 ,0 0 ,",
-    ),
-    (
-        "a value before the first letter stands at place 0, which is none",
-        BOTH,
-        "p .1a\n",
-        &["a.a", "a"],
-        "0 1 ,,",
-    ),
-    (
-        "a dot at the end of a key is an edge or a dot, and the end of a word is no place",
-        BOTH,
-        "p b1.\n",
-        &["ab.c", "ab"],
-        "0 1 0 ,0 ,",
-    ),
-    (
-        "a key between dots is a whole word or a part between dots",
-        BOTH,
-        "p .a1b.\n",
-        &["ab", "abc", "c.ab.c", "c.abc"],
-        "1 ,0 0 ,0 0 1 0 0 ,0 0 0 0 ,",
-    ),
-    (
-        "a dot inside a key is a dot alone",
-        BOTH,
-        "p a.1b\n",
-        &["a.b", "ab", "a..b"],
-        "0 1 ,0 ,0 0 0 ,",
-    ),
-    (
-        "an escaped digit is a letter",
-        BOTH,
-        "p x\\11y\n",
-        &["x1y"],
-        "0 1 ,",
-    ),
-    (
-        "a longer key without values takes none away",
-        BOTH,
-        "p a1\np aa\n",
-        &["aaa"],
-        "1 1 ,",
-    ),
-    ("without keys each value is 0", BOTH, "", &["abc"], "0 0 ,"),
-    (
-        "a key that lacks its last letter has no value",
-        BOTH,
-        "p aaaaaaa1b\n",
-        &[TWENTY],
-        "0 0 0 0 0 0 0 0 0 0 0 0 0 0 0 0 0 0 0 ,",
-    ),
-    (
-        "a key has its value wherever it ends",
-        BOTH,
-        "p aaaaaaa1\n",
-        &[TWENTY],
-        "0 0 0 0 0 0 1 1 1 1 1 1 1 1 1 1 1 1 1 ,",
-    ),
-    // The first `a` leads nowhere.
-    (
-        "a letter that begins a key anew is found",
-        BOTH,
-        "p a1b\n",
-        &["aab"],
-        "0 1 ,",
-    ),
-    (
-        "the beginning of a key has no value",
-        BOTH,
-        "p abc1d\n",
-        &["abc", "abcd"],
-        "0 0 ,0 0 1 ,",
-    ),
-    (
-        "a key with a space has two places",
-        BOTH,
-        "p a\\s1b\n",
-        &["a b"],
-        "0 1 ,",
-    ),
-    (
-        "three lines have their values in this order",
-        BOTH,
-        "p k1in\np k2in.\np r5kin\n",
-        &["firkin"],
-        "0 0 5 2 0 ,",
-    ),
-    (
-        "the last line may come first",
-        BOTH,
-        "p r5kin\np k2in.\np k1in\n",
-        &["firkin"],
-        "0 0 5 2 0 ,",
-    ),
-    (
-        "the second line may come first",
-        BOTH,
-        "p k2in.\np k1in\np r5kin\n",
-        &["firkin"],
-        "0 0 5 2 0 ,",
-    ),
-    (
-        "the empty word has no value",
-        BOTH,
-        "e \\e 0\np a1\n",
-        &[""],
-        ",",
-    ),
-    // It has two bytes, so that the value is at place 3.
-    (
-        "a soft hyphen of a key is a letter",
-        BOTH,
-        "p \u{ad}1b\n",
-        &["a\u{ad}b"],
-        "0 0 1 ,",
-    ),
-    // The key is at the first and at the second accent.
-    (
-        "combining characters alone have values",
-        BOTH,
-        "p \u{301}1\u{301}\n",
-        &["\u{301}\u{301}\u{301}"],
-        "0 1 0 1 0 ,",
-    ),
     (
         "NUL is a letter",
         BOTH,
         "p \01\0\ne \0b 1\n",
         &["a\0\0b", "\0\0", "\0"],
         "0 1 0 ,1 ,,",
-    ),
-    (
-        "a text that ends after its minima has no values",
-        WITHOUT_LINE_END,
-        "",
-        &["ab", "ac"],
-        "0 ,0 ,",
-    ),
-    (
-        "a text that ends with the line of its minima has none",
-        AMERICAN,
-        "",
-        &["ab", "ac"],
-        "0 ,0 ,",
-    ),
-    (
-        "a pattern that ends before its digit has none",
-        AMERICAN,
-        "p a",
-        &["ab", "ac"],
-        "0 ,0 ,",
-    ),
-    (
-        "a pattern that ends after its digit has the value after its letter",
-        AMERICAN,
-        "p a1",
-        &["ab", "ac"],
-        "1 ,1 ,",
-    ),
-    (
-        "a last line may lack its end",
-        AMERICAN,
-        "p a1b",
-        &["ab", "ac"],
-        "1 ,0 ,",
-    ),
-    (
-        "a number in braces is one value",
-        VERSION_2,
-        "p a{11}b\np a5b.\n",
-        &["ab", "abc"],
-        "11 ,11 0 ,",
-    ),
-    (
-        "the greatest value in braces decides",
-        VERSION_2,
-        "p a{12}b\np .a{11}b\n",
-        &["ab"],
-        "12 ,",
-    ),
-    (
-        "the greatest value is read",
-        VERSION_2,
-        "p a{255}b\n",
-        &["ab"],
-        "255 ,",
-    ),
-    (
-        "the least value is read",
-        VERSION_2,
-        "p a1b\n",
-        &["ab"],
-        "1 ,",
-    ),
-    (
-        "braces are letters in version 1",
-        BOTH,
-        "p {1}\n",
-        &["{}"],
-        "1 ,",
-    ),
-    (
-        "escaped braces are letters in version 2",
-        VERSION_2,
-        "p \\{1\\}\n",
-        &["{}"],
-        "1 ,",
     ),
     (
         "a value in braces may have a change",
@@ -461,7 +287,7 @@ pub fn opportunities_of(
 ) -> Result<String, AllocError> {
     let mut output = String::new(alloc);
     for (place, change) in dictionary.opportunities(alloc, word)? {
-        output.push_str(&describe(alloc, place, change)?)?;
+        output.push_str(&described(alloc, place, change)?)?;
     }
     Ok(output)
 }
