@@ -1,4 +1,5 @@
 """The crates for scripts: the lines of crates.txt, and how the toolchain checks one crate over built libraries."""
+import functools
 import hashlib
 import importlib.machinery
 import importlib.util
@@ -138,6 +139,8 @@ def stamps_of(crates, kit):
         loader = importlib.machinery.SourceFileLoader("rtlib", str(kit / "bin/rtlib.py"))
         rtlib = importlib.util.module_from_spec(importlib.util.spec_from_loader("rtlib", loader))
         loader.exec_module(rtlib)
+        # it asks for the stamps of the crates below, and these for those below them, again and again
+        rtlib.Crate.stamp = functools.lru_cache(None)(rtlib.Crate.stamp)
         return {crate.name: crate.stamp() for crate in rtlib.crates_below(str(root))}
     except (OSError, AttributeError, TypeError, SystemExit):
         found = {}
