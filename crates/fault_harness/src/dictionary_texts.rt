@@ -5,7 +5,7 @@ use hyphenation::extended::Extended;
 use hyphenation::{Language, Load, Standard};
 use std::alloc::Global;
 use std::io;
-use std::io::{ErrorKind, Read, Write};
+use std::io::{ErrorKind, Read};
 
 pub const FIRKIN: &str =
     "hyphenation 1 standard\nlanguage en-us\nminima 2 3\np .fi2\np i2r\np r2k\np r5kin\np k1in\np k2in.\n";
@@ -33,101 +33,71 @@ pub fn dictionary<D: Load>(alloc: Global, text: &str) -> io::Result<D> {
     D::any_from_reader(alloc, &mut reader).map_err(|_| io::Error::from(ErrorKind::InvalidData))
 }
 
-/// Writes lines as one, with a bar in place of each line feed but the last.
-pub fn write_joined<O: Write>(output: &mut O, lines: &[u8]) -> io::Result<()> {
-    for byte in lines {
-        let written = [if *byte == b'\n' { b'|' } else { *byte }];
-        output.write_all(&written)?;
+/// Lines as one, with a bar in place of each line feed.
+pub fn joined(alloc: Global, lines: &[u8]) -> io::Result<String> {
+    let mut line = String::new(alloc);
+    for c in String::from_utf8_lossy(alloc, lines)?.chars() {
+        line.push(if c == '\n' { '|' } else { c })?;
     }
-    output.write_all(b"\n")
+    Ok(line)
 }
 
-fn load_any<D: Load + Drop, G: Read, O: Write>(
+// Makes the call `any_from_reader`, or with a language `from_reader`.
+fn load_text<D: Load + Drop, G: Read>(
     alloc: Global,
-    text: &str,
     gate: &mut G,
-    output: &mut O,
-) -> io::Result<()> {
+    language: Option<Language>,
+    text: &str,
+) -> io::Result<String> {
     let mut reader = text.as_bytes();
     pass_gate(gate);
-    let result = D::any_from_reader(alloc, &mut reader);
+    let result = match language {
+        Some(language) => D::from_reader(alloc, language, &mut reader),
+        None => D::any_from_reader(alloc, &mut reader),
+    };
     pass_gate(gate);
     match result {
-        Ok(dictionary) => write_joined(output, &dictionary.to_text(alloc)?),
-        Err(error) => writeln!(output, "{error}"),
-    }
-}
-
-fn load_in_language<D: Load + Drop, G: Read, O: Write>(
-    alloc: Global,
-    language: Language,
-    text: &str,
-    gate: &mut G,
-    output: &mut O,
-) -> io::Result<()> {
-    let mut reader = text.as_bytes();
-    pass_gate(gate);
-    let result = D::from_reader(alloc, language, &mut reader);
-    pass_gate(gate);
-    match result {
-        Ok(dictionary) => write_joined(output, &dictionary.to_text(alloc)?),
-        Err(error) => writeln!(output, "{error}"),
+        Ok(dictionary) => joined(alloc, &dictionary.to_text(alloc)?),
+        Err(error) => Ok(format!(in alloc; "{error}")?),
     }
 }
 
 /// Makes the call `any_from_reader`, or `from_reader` with the language that is named last.
-pub fn load<G: Read, O: Write>(
-    alloc: Global,
-    which: &str,
-    gate: &mut G,
-    output: &mut O,
-) -> io::Result<()> {
-    let (english, hungarian) = (Language::english_us(), Language::hungarian());
+pub fn load<G: Read>(alloc: Global, gate: &mut G, which: &str) -> io::Result<String> {
+    let (english, hungarian) = (Some(Language::english_us()), Some(Language::hungarian()));
     match which {
-        "standard" => load_any::<Standard, G, O>(alloc, WORDS, gate, output),
-        "standard en-us" => {
-            load_in_language::<Standard, G, O>(alloc, english, WORDS, gate, output)
-        }
-        "standard faulty" => load_any::<Standard, G, O>(alloc, CHANGES, gate, output),
-        "extended" => load_any::<Extended, G, O>(alloc, CHANGES, gate, output),
-        "extended en-us" => {
-            load_in_language::<Extended, G, O>(alloc, english, CHANGES, gate, output)
-        }
-        "extended hu" => {
-            load_in_language::<Extended, G, O>(alloc, hungarian, CHANGES, gate, output)
-        }
-        "two kinds" => load_any::<Extended, G, O>(alloc, TWO_KINDS, gate, output),
-        _ => load_in_language::<Extended, G, O>(alloc, hungarian, TWO_KINDS, gate, output),
+        "standard" => load_text::<Standard, G>(alloc, gate, None, WORDS),
+        "standard en-us" => load_text::<Standard, G>(alloc, gate, english, WORDS),
+        "standard faulty" => load_text::<Standard, G>(alloc, gate, None, CHANGES),
+        "extended" => load_text::<Extended, G>(alloc, gate, None, CHANGES),
+        "extended en-us" => load_text::<Extended, G>(alloc, gate, english, CHANGES),
+        "extended hu" => load_text::<Extended, G>(alloc, gate, hungarian, CHANGES),
+        "two kinds" => load_text::<Extended, G>(alloc, gate, None, TWO_KINDS),
+        _ => load_text::<Extended, G>(alloc, gate, hungarian, TWO_KINDS),
     }
 }
 
-fn write_dictionary<D: Load + Drop, G: Read, O: Write>(
+fn write_dictionary<D: Load + Drop, G: Read>(
     alloc: Global,
-    text: &str,
     gate: &mut G,
-    output: &mut O,
-) -> io::Result<()> {
+    text: &str,
+) -> io::Result<String> {
     let dictionary: D = dictionary(alloc, text)?;
     let mut written: Vec<u8> = Vec::with_capacity(alloc, 1_000)?;
     pass_gate(gate);
     let result = dictionary.to_writer(alloc, &mut written);
     pass_gate(gate);
     match result {
-        Ok(()) => write_joined(output, &written),
-        Err(error) => writeln!(output, "{error}, and {} bytes written", written.len()),
+        Ok(()) => joined(alloc, &written),
+        Err(error) => Ok(format!(in alloc; "{error}, and {} bytes written", written.len())?),
     }
 }
 
 /// Makes the call `to_writer`.
-pub fn write<G: Read, O: Write>(
-    alloc: Global,
-    which: &str,
-    gate: &mut G,
-    output: &mut O,
-) -> io::Result<()> {
+pub fn write<G: Read>(alloc: Global, gate: &mut G, which: &str) -> io::Result<String> {
     match which {
-        "standard" => write_dictionary::<Standard, G, O>(alloc, WORDS, gate, output),
-        "extended" => write_dictionary::<Extended, G, O>(alloc, CHANGES, gate, output),
-        _ => write_dictionary::<Extended, G, O>(alloc, TWO_KINDS, gate, output),
+        "standard" => write_dictionary::<Standard, G>(alloc, gate, WORDS),
+        "extended" => write_dictionary::<Extended, G>(alloc, gate, CHANGES),
+        _ => write_dictionary::<Extended, G>(alloc, gate, TWO_KINDS),
     }
 }

@@ -18,7 +18,7 @@ mod scores_and_breaks;
 use command_line::with_words;
 use std::alloc::Global;
 use std::io;
-use std::io::{Read, Write};
+use std::io::Read;
 use std::process::ExitCode;
 
 // Reads a byte. The first such read begins the measured part, and the second one ends it.
@@ -27,25 +27,20 @@ fn pass_gate<G: Read>(gate: &mut G) {
     let _ = gate.read(&mut byte);
 }
 
-// Makes the call of this name, and writes its line.
-fn make_call<G: Read, O: Write>(
-    alloc: Global,
-    name: &str,
-    gate: &mut G,
-    output: &mut O,
-) -> io::Result<()> {
+// Makes the call of this name, and returns its line.
+fn make_call<G: Read>(alloc: Global, gate: &mut G, name: &str) -> io::Result<String> {
     match name.split_once(' ') {
-        Some(("load", text)) => dictionary_texts::load(alloc, text, gate, output),
-        Some(("add", which)) => exceptions_and_segments::add(alloc, which, gate, output),
-        Some(("score", which)) => scores_and_breaks::score(alloc, which, gate, output),
-        Some(("hyphenate", which)) => scores_and_breaks::hyphenate(alloc, which, gate, output),
-        Some(("breaks", which)) => scores_and_breaks::breaks(alloc, which, gate, output),
-        Some(("word", which)) => exceptions_and_segments::word(alloc, which, gate, output),
-        Some(("iterate", which)) => exceptions_and_segments::iterate(alloc, which, gate, output),
-        Some(("write", which)) => dictionary_texts::write(alloc, which, gate, output),
-        Some(("run", which)) => runs::run_call(alloc, which, gate, output),
-        Some(("lines", which)) => runs::lines(alloc, which, gate, output),
-        _ => memory_free::call_each(alloc, gate, output),
+        Some(("load", which)) => dictionary_texts::load(alloc, gate, which),
+        Some(("add", which)) => exceptions_and_segments::add(alloc, gate, which),
+        Some(("score", which)) => scores_and_breaks::score(alloc, gate, which),
+        Some(("hyphenate", which)) => scores_and_breaks::ask_dictionary(alloc, gate, true, which),
+        Some(("breaks", which)) => scores_and_breaks::ask_dictionary(alloc, gate, false, which),
+        Some(("word", which)) => exceptions_and_segments::word(alloc, gate, which),
+        Some(("iterate", which)) => exceptions_and_segments::iterate(alloc, gate, which),
+        Some(("write", which)) => dictionary_texts::write(alloc, gate, which),
+        Some(("run", which)) => runs::run_call(alloc, gate, which),
+        Some(("lines", which)) => runs::lines(alloc, gate, which),
+        _ => memory_free::call_each(alloc, gate),
     }
 }
 
@@ -54,7 +49,8 @@ fn run_args(rt: &HostRuntime, args: &[&str]) -> io::Result<u8> {
     match args {
         ["measure", task @ ..] => measuring::measure(rt, task),
         [name] => {
-            make_call(rt.alloc(), name, &mut rt.stdin(), &mut rt.stdout())?;
+            let line = make_call(rt.alloc(), &mut rt.stdin(), name)?;
+            println!(rt; "{line}")?;
             Ok(0)
         }
         _ => Ok(2),

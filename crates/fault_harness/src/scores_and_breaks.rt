@@ -9,42 +9,38 @@ use hyphenation::iter::push_marked;
 use hyphenation::score::{LookUps, Score};
 use std::alloc::{AllocError, Global};
 use std::io;
-use std::io::{Read, Write};
+use std::io::Read;
 
-// Whether the counts keep the bounds of a score: its look-ups by the word's bytes, its reports by the occurrences of
-// keys.
-fn are_counts_bounded(count: &LookUps, bytes: u128, occurrences: u128) -> bool {
-    count.made() <= bytes.saturating_add(2).saturating_mul(2) && count.reported() <= occurrences
-}
-
-// Writes the values, and whether the counts keep their bounds.
-fn write_scored<O: Write>(
-    values: &Result<Vec<u8>, AllocError>,
-    kept: bool,
-    output: &mut O,
-) -> io::Result<()> {
+// The values, and whether the counts keep the bounds of a score: its look-ups by the word's bytes, its reports by the
+// occurrences of keys.
+fn scored(
+    alloc: Global,
+    values: Result<Vec<u8>, AllocError>,
+    count: &LookUps,
+    bytes: u128,
+    occurrences: u128,
+) -> io::Result<String> {
+    let mut line = String::new(alloc);
     match values {
         Ok(values) => {
             for value in values {
-                write!(output, "{value} ")?;
+                line.push_str(&format!(in alloc; "{value} ")?)?;
             }
         }
-        Err(_) => output.write_all(b"no memory, ")?,
+        Err(_) => line.push_str("no memory, ")?,
     }
-    writeln!(output, "counts kept: {kept}")
+    let most = bytes.saturating_add(2).saturating_mul(2);
+    let kept = count.made() <= most && count.reported() <= occurrences;
+    Ok(format!(in alloc; "{line}counts kept: {kept}")?)
 }
 
-fn score_standard<G: Read, O: Write>(
-    alloc: Global,
-    gate: &mut G,
-    output: &mut O,
-) -> io::Result<()> {
+fn score_standard<G: Read>(alloc: Global, gate: &mut G) -> io::Result<String> {
     let mut count = LookUps::new();
     let dictionary: Standard = dictionary(alloc, FIRKIN)?;
     pass_gate(gate);
     let result = dictionary.score_counted(alloc, "firkins", &mut count);
     pass_gate(gate);
-    write_scored(&result, are_counts_bounded(&count, 7, 5), output)
+    scored(alloc, result, &count, 7, 5)
 }
 
 // The values without their changes, or the error of the score.
@@ -59,80 +55,42 @@ fn values_without_changes(
     Ok(values)
 }
 
-fn score_extended<G: Read, O: Write>(
-    alloc: Global,
-    gate: &mut G,
-    output: &mut O,
-) -> io::Result<()> {
+fn score_extended<G: Read>(alloc: Global, gate: &mut G) -> io::Result<String> {
     let mut count = LookUps::new();
     let dictionary: Extended = dictionary(alloc, CHANGES)?;
     pass_gate(gate);
     let result = dictionary.score_counted(alloc, "cabd", &mut count);
     pass_gate(gate);
-    write_scored(
-        &values_without_changes(alloc, result),
-        are_counts_bounded(&count, 4, 2),
-        output,
-    )
+    scored(alloc, values_without_changes(alloc, result), &count, 4, 2)
 }
 
-/// Makes the call `score_counted`, and writes whether its counts keep their bounds.
-pub fn score<G: Read, O: Write>(
-    alloc: Global,
-    which: &str,
-    gate: &mut G,
-    output: &mut O,
-) -> io::Result<()> {
+/// Makes the call `score_counted`, and says whether its counts keep their bounds.
+pub fn score<G: Read>(alloc: Global, gate: &mut G, which: &str) -> io::Result<String> {
     match which {
-        "standard" => score_standard(alloc, gate, output),
-        _ => score_extended(alloc, gate, output),
+        "standard" => score_standard(alloc, gate),
+        _ => score_extended(alloc, gate),
     }
 }
 
-fn hyphenate_word<'h, H: Hyphenator<'h>, G: Read, O: Write>(
+fn hyphenate_word<'h, H: Hyphenator<'h>, G: Read>(
     alloc: Global,
+    gate: &mut G,
     dictionary: &'h H,
     word: &str,
-    gate: &mut G,
-    output: &mut O,
-) -> io::Result<()> {
+) -> io::Result<String> {
     pass_gate(gate);
     let result = dictionary.hyphenate(alloc, word);
     pass_gate(gate);
+    let mut line = String::new(alloc);
     let found = match result {
         Ok(found) => found,
         Err(_) => {
-            output.write_all(b"no memory, and then ")?;
+            line.push_str("no memory, and then ")?;
             dictionary.hyphenate(alloc, word)?
         }
     };
-    let mut marked = String::new(alloc);
-    push_marked(&mut marked, &found, "-")?;
-    writeln!(output, "{marked}")
-}
-
-/// Makes the call `hyphenate`, and makes it again if memory was refused.
-pub fn hyphenate<G: Read, O: Write>(
-    alloc: Global,
-    which: &str,
-    gate: &mut G,
-    output: &mut O,
-) -> io::Result<()> {
-    match which.split_once(' ') {
-        Some(("standard", word)) => {
-            let words: Standard = dictionary(alloc, WORDS)?;
-            hyphenate_word(alloc, &words, word, gate, output)
-        }
-        Some(("firkin", word)) => {
-            let firkin: Standard = dictionary(alloc, FIRKIN)?;
-            hyphenate_word(alloc, &firkin, word, gate, output)
-        }
-        Some((_, word)) => {
-            let changes: Extended = dictionary(alloc, CHANGES)?;
-            hyphenate_word(alloc, &changes, word, gate, output)
-        }
-        None => Ok(()),
-    }
+    push_marked(&mut line, &found, "-")?;
+    Ok(line)
 }
 
 // Makes one of four calls for a word in small letters.
@@ -153,57 +111,72 @@ fn find_breaks<'h, H: Hyphenator<'h>>(
     }
 }
 
-fn write_breaks<'h, H: Hyphenator<'h>, G: Read, O: Write>(
+fn places_of_breaks<'h, H: Hyphenator<'h>, G: Read>(
     alloc: Global,
+    gate: &mut G,
     dictionary: &'h H,
     question: &str,
     word: &str,
-    gate: &mut G,
-    output: &mut O,
-) -> io::Result<()> {
+) -> io::Result<String> {
     pass_gate(gate);
     let result = find_breaks(alloc, dictionary, question, word);
     pass_gate(gate);
+    let mut line = String::new(alloc);
     let found = match result {
         Ok(found) => found,
         Err(_) => {
-            output.write_all(b"no memory, and then ")?;
+            line.push_str("no memory, and then ")?;
             find_breaks(alloc, dictionary, question, word)?
         }
     };
     match found {
         Some(breaks) => {
-            output.write_all(b"places")?;
+            line.push_str("places")?;
             for found in &breaks {
-                write!(output, " {}", found.place())?;
+                line.push_str(&format!(in alloc; " {}", found.place())?)?;
             }
-            output.write_all(b"\n")
         }
-        None => output.write_all(b"none\n"),
+        None => line.push_str("none")?,
+    }
+    Ok(line)
+}
+
+// Makes the call `hyphenate` for a word, or one of four calls for the breaks of a word of the dictionary.
+fn ask<'h, H: Hyphenator<'h>, G: Read>(
+    alloc: Global,
+    gate: &mut G,
+    dictionary: &'h H,
+    (hyphenates, question): (bool, &str),
+    word: &str,
+) -> io::Result<String> {
+    if hyphenates {
+        hyphenate_word(alloc, gate, dictionary, question)
+    } else {
+        places_of_breaks(alloc, gate, dictionary, question, word)
     }
 }
 
-/// Makes the call `opportunities`, `exception` or one of the two within bounds, and makes it again if memory was
-/// refused.
-pub fn breaks<G: Read, O: Write>(
+/// Makes the call `hyphenate`, or else `opportunities`, `exception` or one of the two within bounds. Makes it again
+/// if memory was refused.
+pub fn ask_dictionary<G: Read>(
     alloc: Global,
-    which: &str,
     gate: &mut G,
-    output: &mut O,
-) -> io::Result<()> {
+    hyphenates: bool,
+    which: &str,
+) -> io::Result<String> {
     match which.split_once(' ') {
         Some(("standard", question)) => {
             let words: Standard = dictionary(alloc, WORDS)?;
-            write_breaks(alloc, &words, question, "hyphenation", gate, output)
+            ask(alloc, gate, &words, (hyphenates, question), "hyphenation")
         }
         Some(("firkin", question)) => {
             let firkin: Standard = dictionary(alloc, FIRKIN)?;
-            write_breaks(alloc, &firkin, question, "firkins", gate, output)
+            ask(alloc, gate, &firkin, (hyphenates, question), "firkins")
         }
         Some((_, question)) => {
             let changes: Extended = dictionary(alloc, CHANGES)?;
-            write_breaks(alloc, &changes, question, "asszonnyal", gate, output)
+            ask(alloc, gate, &changes, (hyphenates, question), "asszonnyal")
         }
-        None => Ok(()),
+        None => Ok(String::new(alloc)),
     }
 }

@@ -152,8 +152,8 @@ fn compare_dictionaries<K: Scored>(
 ) -> Result<Compared, Fail> {
     let (mut random, mut compared) = (Random(seed), NOTHING);
     for number in 0..count {
-        let with = (number % 2 == 1, with_long_words);
-        compare_dictionary::<K>(alloc, &mut random, with, &mut compared)?;
+        let asked = (number % 2 == 1, with_long_words);
+        compare_dictionary::<K>(alloc, &mut random, asked, &mut compared)?;
     }
     Ok(compared)
 }
@@ -182,7 +182,7 @@ fn extended_dictionaries_agree_with_the_reference(rt: HostRuntime) -> Result<(),
 
 // Fails if few dictionaries had a table, or few long words were broken.
 fn expect_enough_long_words(compared: &Compared) -> Result<(), Fail> {
-    let is_enough = compared.words == 128 && compared.tables > 2 && compared.long_broken > 16;
+    let is_enough = compared.words == 128 && compared.tables > 4 && compared.long_broken > 16;
     expect(is_enough, "enough long words are broken")
 }
 

@@ -87,10 +87,10 @@ fn expect_few_look_ups(
     heads: &[&str],
     reported: u128,
 ) -> Result<(), Fail> {
-    let least = word.len() as u128 + 2;
+    let least = (word.len() as u128).saturating_add(2);
     for head in heads {
         let count = look_ups_by(alloc, head, lines, word)?;
-        expect_look_ups(shows, &count, least, least * 2, reported)?;
+        expect_look_ups(shows, &count, least, least.saturating_mul(2), reported)?;
     }
     Ok(())
 }
