@@ -7,3 +7,4 @@ mod Bounds
 mod Slices
 mod Letters
 mod LetterBlocks
+pub mod Joining

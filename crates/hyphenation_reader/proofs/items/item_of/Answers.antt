@@ -41,3 +41,11 @@ returns-then-is_read-clause-refused g c =
 pub returns-then-is_read-clause-says : goal.returns-then-is_read-clause-says
 returns-then-is_read-clause-says g c =
     IfOk-weaker c.item_of_read.result _ _ (λ found is. said_late c.args.form c.args.line.now _ found is) c.item_of_read.ensures
+
+pub returns-in-Some-strip_prefix-clause-passes : goal.returns-in-Some-strip_prefix-clause-passes
+returns-in-Some-strip_prefix-clause-passes g c =
+    IfOk-weaker c.pattern_item.result _ _ (λ found is. passed_late c.args.form 4 c.args.line.now c.early_cause.result c.in_default.not-Some c.early_cause.ensures _ found (is c.args.line.now c.in-Some-strip_prefix.ensures)) c.pattern_item.ensures
+
+pub returns-in-Some-strip_prefix-clause-says : goal.returns-in-Some-strip_prefix-clause-says
+returns-in-Some-strip_prefix-clause-says g c =
+    IfOk-weaker c.pattern_item.result _ _ (λ found is. said_late c.args.form c.args.line.now _ found (is c.args.line.now c.in-Some-strip_prefix.ensures)) c.pattern_item.ensures

@@ -1,4 +1,5 @@
 use Rattle.std.proofs.Common.{◌≡◌, ◌+◌, length, slice_index, refl, sym, ap, ◌∙◌, arith}
+use Rattle.std.proofs.lemmas.Grind.{common_steps}
 use Rattle.hyphenation_score.specs.Scoring.{frame}
 use Rattle.hyphenation_score.proofs.OnePassInvariant.{Passed, passed_none, passed_more, word_byte, last_byte}
 use Rattle.hyphenation_score.proofs.Counting.{counts_passed}
@@ -38,3 +39,24 @@ returns-clause-slots g c = (all g c).met
 
 pub returns-clause-counts : goal.returns-clause-counts
 returns-clause-counts g c = λ longest none. counts_passed c.args.automaton.now c.args.word.now c.invariant.ensures c.args.count.now c.read_byte-last.new.count longest (all g c) refl none
+
+pub bounds-word-at : goal.bounds-word-at
+bounds-word-at g c = grind (arith, common_steps)
+
+pub read_byte-node-requires : goal.read_byte-node-requires
+read_byte-node-requires g c = grind (arith, common_steps)
+
+pub read_byte-node-requires-in-loop-at : goal.read_byte-node-requires-in-loop-at
+read_byte-node-requires-in-loop-at g c = grind (arith, common_steps)
+
+pub read_byte-last-requires : goal.read_byte-last-requires
+read_byte-last-requires g c = grind (arith, common_steps)
+
+pub loop-at-smaller : goal.loop-at-smaller
+loop-at-smaller g c = grind (arith, common_steps)
+
+pub overflow_add-at : goal.overflow_add-at
+overflow_add-at g c = grind (arith, common_steps)
+
+pub overflow_add-word : goal.overflow_add-word
+overflow_add-word g c = grind (arith, common_steps)

@@ -1,4 +1,5 @@
 use Rattle.std.proofs.Common.{◌-◌, ◌<◌, ℕ, length, drop, ap, refl, arith, ◌∙◌}
+use Rattle.std.proofs.lemmas.Grind.{common_steps}
 use Rattle.std.proofs.lemmas.List.{length-drop}
 use Rattle.hyphenation_trie.specs.Trie.{node_text, entries_of_key}
 use Rattle.hyphenation_score.specs.Private.OnePass.{bearing}
@@ -47,3 +48,36 @@ loop-node-preserved g c =
       few = omega (arith, counted, inv.few);
       made = ap (λ x. x.made) c.entries-entries.ensures.counted ∙ inv.made;
     }
+
+pub report-node-requires : goal.report-node-requires
+report-node-requires g c = grind (arith, common_steps)
+
+pub next_report-node-requires : goal.next_report-node-requires
+next_report-node-requires g c = grind (arith, common_steps)
+
+pub depth-requires : goal.depth-requires
+depth-requires g c = grind (arith, common_steps)
+
+pub entries-entries-requires-clause-key : goal.entries-entries-requires-clause-key
+entries-entries-requires-clause-key g c = grind (arith, common_steps)
+
+pub entries-entries-requires-clause-node : goal.entries-entries-requires-clause-node
+entries-entries-requires-clause-node g c = grind (arith, common_steps)
+
+pub entries-entries-requires-clause-room : goal.entries-entries-requires-clause-room
+entries-entries-requires-clause-room g c = grind (arith, common_steps)
+
+pub compete_entries-requires : goal.compete_entries-requires
+compete_entries-requires g c = grind (arith, common_steps)
+
+pub loop-node-smaller : goal.loop-node-smaller
+loop-node-smaller g c = grind (arith, common_steps)
+
+pub returns-clause-made : goal.returns-clause-made
+returns-clause-made g c = grind (arith, common_steps)
+
+pub returns-clause-reported : goal.returns-clause-reported
+returns-clause-reported g c = grind (arith, common_steps)
+
+pub returns-clause-slots : goal.returns-clause-slots
+returns-clause-slots g c = grind (arith, common_steps)

@@ -40,3 +40,31 @@ returns g c =
     let right = rows_right trie c.invariant.ensures c.automaton.invariant.0 nodes of numbers classes quarter split children new c.in_ok-rows.ensures c.requires.split c.requires.root class places c.set_children.ensures.children done (omega (arith, second, held, room)) in
     let whole = lent_back new (take len (children ++ drop (length children) cells)) len second in
     (nodes, subst (λ (xs : List ℕ). AreRows c.args.automaton.now numbers classes quarter split xs nodes) (sym whole) (subst (λ t. AreRows t numbers classes quarter split new nodes) view right))
+
+pub set_children-requires-clause-places : goal.set_children-requires-clause-places
+set_children-requires-clause-places g c =
+    let nodes = c.in_ok-rows.rows.nodes in
+    let quarter : ℕ = c.args.quarter in
+    let count : c.len.result * quarter ≡ length nodes.items * quarter = ap (λ (n : ℕ). n * quarter) (c.len.ensures ∙ nodes.ok.0) in
+    omega (arith, count, c.saturating_mul-places.ensures)
+
+pub set_children-requires-clause-count : goal.set_children-requires-clause-count
+set_children-requires-clause-count g c =
+    let nodes = c.in_ok-rows.rows.nodes in
+    let quarter : ℕ = c.args.quarter in
+    let count : c.len.result * quarter ≡ length nodes.items * quarter = ap (λ (n : ℕ). n * quarter) (c.len.ensures ∙ nodes.ok.0) in
+    let room : length c.in_ok-cells.cells.items ≡ length nodes.items * quarter * 4 = omega (arith, count, c.saturating_mul-places.ensures, c.in_ok-cells.ensures.count) in
+    ap length c.deref_mut.ensures.value ∙ room
+
+pub fill_rows-requires-clause-count : goal.fill_rows-requires-clause-count
+fill_rows-requires-clause-count g c =
+    let nodes = c.in_ok-rows.rows.nodes in
+    let cells = c.in_ok-cells.cells.items in
+    let children = c.set_children.new.cells in
+    let len : ℕ = c.in_ok-cells.cells.len in
+    let quarter : ℕ = c.args.quarter in
+    let count : c.len.result * quarter ≡ length nodes.items * quarter = ap (λ (n : ℕ). n * quarter) (c.len.ensures ∙ nodes.ok.0) in
+    let room : length cells ≡ length nodes.items * quarter * 4 = omega (arith, count, c.saturating_mul-places.ensures, c.in_ok-cells.ensures.count) in
+    let held : length cells ≡ len = sym c.in_ok-cells.cells.ok.0 in
+    let first : length children ≡ length cells = c.set_children.ensures.count ∙ ap length c.deref_mut.ensures.value in
+    ap length (c.deref_mut-2.ensures.value ∙ lent_back children cells len (first ∙ held)) ∙ first ∙ room

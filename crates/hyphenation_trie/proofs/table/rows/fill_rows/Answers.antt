@@ -1,9 +1,91 @@
-use Rattle.std.proofs.Common.{◌≡◌, ◌+◌, ◌*◌, ◌<◌, ℕ, length, slice_index, refl, sym, ap, subst, ◌∙◌, arith}
-use Rattle.hyphenation_trie.specs.Trie.{node_text}
-use Rattle.hyphenation_trie.specs.Private.TableRows.{filled, link_row}
+use Rattle.std.proofs.Common.{◌≡◌, ◌+◌, ◌*◌, ◌<◌, ℕ, List, length, get_or, slice_index, refl, sym, ap, subst, ◌∙◌, arith}
+use Rattle.std.proofs.lemmas.List.{get_or_default}
+use Rattle.hyphenation_trie.specs.Trie.{Tree, node_text}
+use Rattle.hyphenation_trie.specs.Private.States.{links_of}
+use Rattle.hyphenation_trie.specs.declared.frozen.Links.{Links}
+use Rattle.hyphenation_trie.specs.Private.TableRows.{AreRowsOf, filled, link_row}
 use Rattle.hyphenation_trie.proofs.TableRows.{AreFilledBelow, filled_start, filled_less, filled_more, filled_all, has_none, link_row_shorter, link_row_within, not_first, read_at, row_after, row_read, rows_apart}
 use Rattle.hyphenation_trie.proofs.table.rows.fill_rows.Goals.{then-index-node, else-index-node}
 use Rattle.hyphenation_trie.proofs.table.rows.fill_rows.Goals as goal
+
+-- The row of a node that is read is one of the rows.
+row_low : {E : Type 0} (tree : Tree E) (nodes of : List ℕ) → AreRowsOf tree nodes of → (node row : ℕ) → node < length tree.texts → row ≡ get_or of node row → row < length nodes
+row_low tree nodes of rows node row lt read =
+    let is : row ≡ slice_index of node = read ∙ get_or_default of node row 0 (omega (arith, lt, rows.rows.rows_of)) in
+    omega (arith, is, (rows.each node lt).row)
+
+pub index-requires : goal.index-requires
+index-requires g c =
+    let within = c.requires.order.within c.loop-node.node-index (omega arith) in
+    omega (arith, within.1, c.requires.rows.rows.rows_of, c.args.rows.now.of.ok.0)
+
+pub index-requires-in-loop-node : goal.index-requires-in-loop-node
+index-requires-in-loop-node g c =
+    let rows = c.args.rows.now in
+    let node : ℕ = slice_index c.args.order.now c.loop-node.node-index in
+    let within = c.requires.order.within c.loop-node.node-index (omega arith) in
+    let low = row_low c.args.trie.now.tree rows.nodes.items rows.of.items c.requires.rows node c.index.result.now within.1 c.index.ensures in
+    omega (arith, low, rows.nodes.ok.0)
+
+pub links-link-requires : goal.links-link-requires
+links-link-requires g c = (c.requires.order.within c.loop-node.node-index (omega arith)).1
+
+pub index-requires-then-index-node : goal.index-requires-then-index-node
+index-requires-then-index-node g c =
+    let node : ℕ = slice_index c.args.order.now c.loop-node.node-index in
+    let within = c.requires.order.within c.loop-node.node-index (omega arith) in
+    let link : c.links-link.result.link ≡ (links_of c.args.trie.now node).link = ap (λ (x : Links). x.link) c.links-link.ensures in
+    omega (arith, link, (c.requires.linked node within.1).link.within, c.requires.rows.rows.rows_of, c.args.rows.now.of.ok.0)
+
+pub overflow_mul-from : goal.overflow_mul-from
+overflow_mul-from g c =
+    let rows = c.args.rows.now in
+    let nodes = rows.nodes.items in
+    let node : ℕ = slice_index c.args.order.now c.loop-node.node-index in
+    let within = c.requires.order.within c.loop-node.node-index (omega arith) in
+    let link : c.links-link.result.link ≡ (links_of c.args.trie.now node).link = ap (λ (x : Links). x.link) c.links-link.ensures in
+    let low = row_low c.args.trie.now.tree nodes rows.of.items c.requires.rows c.links-link.result.link c.index-then-index-node.result.now (omega (arith, link, (c.requires.linked node within.1).link.within)) c.index-then-index-node.ensures in
+    omega (arith, row_after c.index-then-index-node.result.now (length nodes) c.args.quarter low, c.requires.places)
+
+pub overflow_mul-from-then-index-node : goal.overflow_mul-from-then-index-node
+overflow_mul-from-then-index-node g c =
+    let rows = c.args.rows.now in
+    let nodes = rows.nodes.items in
+    let node : ℕ = slice_index c.args.order.now c.loop-node.node-index in
+    let within = c.requires.order.within c.loop-node.node-index (omega arith) in
+    let link : c.links-link.result.link ≡ (links_of c.args.trie.now node).link = ap (λ (x : Links). x.link) c.links-link.ensures in
+    let low = row_low c.args.trie.now.tree nodes rows.of.items c.requires.rows c.links-link.result.link c.index-then-index-node.result.now (omega (arith, link, (c.requires.linked node within.1).link.within)) c.index-then-index-node.ensures in
+    omega (arith, row_after c.index-then-index-node.result.now (length nodes) c.args.quarter low, c.requires.places)
+
+pub overflow_mul-row : goal.overflow_mul-row
+overflow_mul-row g c =
+    let rows = c.args.rows.now in
+    let nodes = rows.nodes.items in
+    let node : ℕ = slice_index c.args.order.now c.loop-node.node-index in
+    let within = c.requires.order.within c.loop-node.node-index (omega arith) in
+    let low = row_low c.args.trie.now.tree nodes rows.of.items c.requires.rows node c.index.result.now within.1 c.index.ensures in
+    omega (arith, row_after c.index.result.now (length nodes) c.args.quarter low, c.requires.places)
+
+pub overflow_mul-row-then-index-node : goal.overflow_mul-row-then-index-node
+overflow_mul-row-then-index-node g c =
+    let rows = c.args.rows.now in
+    let nodes = rows.nodes.items in
+    let node : ℕ = slice_index c.args.order.now c.loop-node.node-index in
+    let within = c.requires.order.within c.loop-node.node-index (omega arith) in
+    let low = row_low c.args.trie.now.tree nodes rows.of.items c.requires.rows node c.index.result.now within.1 c.index.ensures in
+    omega (arith, row_after c.index.result.now (length nodes) c.args.quarter low, c.requires.places)
+
+pub overflow_mul-quarter : goal.overflow_mul-quarter
+overflow_mul-quarter g c =
+    let rows = c.args.rows.now in
+    let nodes = rows.nodes.items in
+    let node : ℕ = slice_index c.args.order.now c.loop-node.node-index in
+    let within = c.requires.order.within c.loop-node.node-index (omega arith) in
+    let low = row_low c.args.trie.now.tree nodes rows.of.items c.requires.rows node c.index.result.now within.1 c.index.ensures in
+    omega (arith, row_after c.index.result.now (length nodes) c.args.quarter low, c.requires.places)
+
+pub returns-clause-count : goal.returns-clause-count
+returns-clause-count g c = c.loop-node.invariant.count
 
 pub fill_row-requires-clause-apart : goal.fill_row-requires-clause-apart
 fill_row-requires-clause-apart g c =
