@@ -6,8 +6,9 @@ use Rattle.any_dictionary.specs.Dictionaries.{canonical_text, contents_of, refus
 use Rattle.any_dictionary.specs.declared.AnyDictionary.{AnyDictionary}
 use Rattle.command_line.specs.About.{help_or_version}
 use Rattle.command_line.specs.Dictionaries.{KnownFiles, IsOfArgument, IsFailureOf}
-use Rattle.command_line.specs.Endings.{End, Done, Refuses, Fails}
+use Rattle.command_line.specs.Endings.{End, Done, Refuses, Fails, IsRefusal}
 use Rattle.command_line.specs.Options.{ReadArguments, RefusedArgument, refused, after_step, read_arguments}
+use Rattle.command_line.specs.Steps.{EndsIn}
 use Rattle.command_line.specs.declared.TheConstants.{VERSION}
 use Rattle.command_line.specs.declared.failure.Failure.{Failure}
 use Rattle.command_line.specs.declared.failure.Failure.TheVariants as failed
@@ -74,26 +75,22 @@ abbrev pub Writes : {W : Type 0} → Option (List ℕ) → KnownFiles → List (
 Writes named bytes_of folders left contents old new = (dictionary : AnyDictionary)
     × IsAsked named bytes_of folders left dictionary × AppendsTo contents old new (canonical_text dictionary)
 
--- The program ends for a failure. The output is as it was, unless it is the output that failed.
-abbrev pub EndsFailed : {W : Type 0} → Option (List ℕ) → KnownFiles → List (Bor (List ℕ)) → Option (List ℕ)
-    → (End → Type 0) → W → W → Type 0
-EndsFailed named bytes_of folders left EndsSo old new = (failure : Failure) × EndsSo (Fails failure)
-    × IsFailureFor named bytes_of folders left failure × ((failure ≡ failed.Output) ⊎ (new ≡ old))
-
 -- How the program ends for its arguments. If one is refused, it says which, or memory was refused. Else it is done, and the
--- text was written, or it fails.
+-- text was written, or it fails. After a failure the output is as it was, unless it is the output that failed.
 abbrev pub EndsFor : {W : Type 0} → Result (Option (List ℕ)) RefusedArgument → KnownFiles → List (Bor (List ℕ)) → Option (List ℕ)
-    → (End → Type 0) → (W → Option (List ℕ)) → W → W → Type 0
-EndsFor (Err refused) bytes_of folders left EndsSo contents old new = EndsSo (Refuses refused) ⊎ EndsSo (Fails failed.Memory)
-EndsFor (Ok named) bytes_of folders left EndsSo contents old new =
-    (EndsSo (Done []) × Writes named bytes_of folders left contents old new)
-    ⊎ EndsFailed named bytes_of folders left EndsSo old new
+    → (W → Option (List ℕ)) → W → W → End → Type 0
+EndsFor (Err refused) bytes_of folders left contents old new end = IsRefusal refused end
+EndsFor (Ok named) bytes_of folders left contents old new (Done notes) =
+    (notes ≡ []) × Writes named bytes_of folders left contents old new
+EndsFor (Ok named) bytes_of folders left contents old new (Fails failure) =
+    IsFailureFor named bytes_of folders left failure × ((failure ≡ failed.Output) ⊎ (new ≡ old))
+EndsFor (Ok named) bytes_of folders left contents old new (Refuses refused) = ⊥
 
 -- If no help was asked for, the program ends so for its arguments.
 abbrev pub EndsUnlessAsked : {W : Type 0} → List (Bor (List ℕ)) → KnownFiles → List (Bor (List ℕ)) → Option (List ℕ)
     → (End → Type 0) → (W → Option (List ℕ)) → W → W → Type 0
 EndsUnlessAsked args bytes_of folders left EndsSo contents old new =
-    asked_text args ≡ None → EndsFor (parsed_args args) bytes_of folders left EndsSo contents old new
+    asked_text args ≡ None → EndsIn EndsSo (EndsFor (parsed_args args) bytes_of folders left contents old new)
 
 -- Arguments name a dictionary, or one of them is refused. So standard input is not asked for.
 abbrev pub asks_no_input : Result (Option (List ℕ)) RefusedArgument → Bool

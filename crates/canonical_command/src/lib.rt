@@ -10,13 +10,13 @@ ghost use Rattle.command_line.specs.Reading.{IsReadError};
 ghost use Rattle.command_line.specs.Statuses.{BeforeOutput};
 ghost use Rattle.hyphenation_breaks.specs.Borrowed.{texts_now};
 ghost use Rattle.canonical_command.specs.Canonical.{asked_text, asks_no_input, named_by, parsed_args};
-ghost use Rattle.canonical_command.specs.Canonical.{EndsUnlessAsked, IsAsked, IsFailureFor, IsFailureOfLoading, Writes};
+ghost use Rattle.canonical_command.specs.Canonical.{EndsFor, EndsUnlessAsked, IsAsked, IsFailureFor, IsFailureOfLoading, Writes};
 ghost use Rattle.canonical_command.specs.Private.Refusals.{IsRefusalOf};
 
 use any_dictionary::AnyDictionary;
 use command_line::dictionaries::load_dictionary;
-use command_line::options::{BadArgument, Expected, ReadError, read, report_bad_argument};
-use command_line::{Failure, Messages, NamedFiles, VERSION, done, report, write_help_or_version};
+use command_line::options::{BadArgument, Expected, ReadError, read};
+use command_line::{Failure, Messages, NamedFiles, ProgramSteps, ProgramTexts, VERSION};
 use hyphenation_load::{Error, Load};
 use std::alloc::Global;
 use std::io::{Read, Write};
@@ -124,6 +124,48 @@ fn put_in_order<F: NamedFiles, I: Read, O: Write>(
     }
 }
 
+// The program over files, with its arguments, and the folders in which dictionaries are searched.
+#[derive(Clone, Copy)]
+struct Canonical<'w, F> {
+    files: &'w F,
+    args: &'w [&'w str],
+    folders: &'w [&'w str],
+}
+
+impl<'w, F: NamedFiles, I: Read, O: Write> ProgramSteps<(), I, O> for Canonical<'w, F> {
+    type Request = Option<&'w str>;
+
+    type Told = ();
+
+    ghost args = { λ program. program.args.now };
+
+    ghost is_request = { λ program named. parsed_args program.args.now ≡ Ok (option_copied named) };
+
+    ghost ends = { λ program end _ _ before after old new. EndsFor (parsed_args program.args.now)
+        (F.bytes program.files.now) program.folders.now (I.remaining before) O.contents old new end };
+
+    ghost leaves_input = { λ program _. asks_no_input (parsed_args program.args.now) ≡ true };
+
+    fn args(&self) -> &[&str] {
+        self.args
+    }
+
+    fn request(&self, alloc: Global) -> Result<Option<&'w str>, ReadError<'_>> {
+        parsed_args(alloc, self.args)
+    }
+
+    fn run(
+        &self,
+        alloc: Global,
+        named: Option<&'w str>,
+        _store: &mut (),
+        input: &mut I,
+        output: &mut O,
+    ) -> Result<(), Failure> {
+        put_in_order(self.files, alloc, self.folders, named, input, output)
+    }
+}
+
 /// Does what the arguments ask for, and returns the status to end with.
 ///
 /// The whole text is made before the first byte of it is written. A language is looked for in `folders`.
@@ -159,16 +201,14 @@ pub fn answer<F: NamedFiles, I: Read, O: Write, E: Write>(
     ensures unread { asks_no_input (parsed_args args.now) ≡ true → input.new ≡ input.old }
     ensures untouched { BeforeOutput result (output.new ≡ output.old) }
 {
-    if let Some(status) = write_help_or_version(NAME, USAGE, args, output) {
-        return status;
-    }
-    let named = match parsed_args(alloc, args) {
-        Ok(named) => named,
-        Err(ReadError::Bad(bad)) => return report_bad_argument(alloc, NAME, &bad, errors),
-        Err(ReadError::Memory) => return report(alloc, NAME, &Failure::Memory, errors),
+    let program = Canonical {
+        files,
+        args,
+        folders,
     };
-    match put_in_order(files, alloc, folders, named, input, output) {
-        Ok(()) => done(errors),
-        Err(failure) => report(alloc, NAME, &failure, errors),
-    }
+    let texts = ProgramTexts {
+        name: NAME,
+        usage: USAGE,
+    };
+    command_line::answer(&program, &texts, alloc, &mut (), input, output, errors)
 }

@@ -1,9 +1,10 @@
 -- How programs end: their statuses, and the messages that they write.
-use Rattle.std.specs.Prelude.{◌≡◌, ◌++◌, ℕ, true, List, Option, IfSome}
+use Rattle.std.specs.Prelude.{◌≡◌, ◌⊎◌, ◌++◌, ℕ, true, List, Option, IfSome}
 use Rattle.hyphenation_load.specs.Load.{AppendsTo}
 use Rattle.command_line.specs.Failures.{failure_line, status_of}
 use Rattle.command_line.specs.Options.{RefusedArgument, refusal_message}
 use Rattle.command_line.specs.declared.failure.Failure.{Failure}
+use Rattle.command_line.specs.declared.failure.Failure.TheVariants as failed
 use Rattle.command_line.specs.declared.messages.Messages.{Messages}
 
 -- Exactly this text was added to the messages of a program, where all of them could be written. If they are whole, they
@@ -29,3 +30,7 @@ abbrev pub EndsBy : List ℕ → ℕ → (List ℕ → Type 0) → End → Type 
 EndsBy name status Told (Done notes) = (status ≡ 0) × Told notes
 EndsBy name status Told (Refuses refused) = (status ≡ 2) × Told (refusal_message name refused)
 EndsBy name status Told (Fails failure) = (status ≡ status_of failure) × IfSome (failure_line name failure) Told
+
+-- The end of a program that refuses an argument: it says which, or memory was refused.
+abbrev pub IsRefusal : RefusedArgument → End → Type 0
+IsRefusal refused end = (end ≡ Refuses refused) ⊎ (end ≡ Fails failed.Memory)

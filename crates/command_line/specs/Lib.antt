@@ -6,6 +6,7 @@ pub mod Usage
 pub mod Reading
 pub mod Failures
 pub mod Endings
+pub mod Steps
 pub mod Dictionaries
 pub mod Inputs
 pub mod Statuses

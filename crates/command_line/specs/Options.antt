@@ -1,5 +1,5 @@
 -- How programs read their arguments: options with their values, and operands.
-use Rattle.std.specs.Prelude.{ℕ, ◌+◌, ◌==◌, ◌&&◌, ◌||◌, nat_le, not, Bool, if◌then◌else◌, List, [], ◌∷◌, ◌++◌, codes, take, drop, position, Option, Some, None, option_map, option_and_then, Result, Ok, Err}
+use Rattle.std.specs.Prelude.{ℕ, ◌+◌, ◌==◌, ◌&&◌, ◌||◌, nat_le, not, Bool, if◌then◌else◌, List, [], ◌∷◌, ◌++◌, codes, map, take, drop, position, Option, Some, None, option_map, option_and_then, Result, Ok, Err}
 use Rattle.std.specs.Fmt.{decimal}
 use Rattle.std.specs.List.{find, filter_map, last_or, list_any}
 use Rattle.std.specs.Option.{option_map_or}
@@ -7,6 +7,10 @@ use Rattle.hyphenation_grammar.specs.Lines.{is_same, starts_with, number_of}
 use Rattle.command_line.specs.declared.options.OptionForm.{OptionForm}
 use Rattle.command_line.specs.declared.options.Expected.{Expected}
 use Rattle.command_line.specs.declared.options.Expected.TheVariants.{KnownOption, Value, NoValue, Number, Code, Form, OneOf, EvenLines, Operand, NoMore}
+
+-- The names of options, each with whether it takes a value.
+abbrev pub names_of : List OptionForm → List (List ℕ × Bool)
+names_of forms = map (λ form. (form.name.now, form.takes_value)) forms
 
 -- An option that is given: its name with its dashes, and its value if it has one.
 pub record GivenOption : Type 0 where

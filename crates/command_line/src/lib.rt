@@ -13,6 +13,7 @@ pub mod folders;
 pub mod inputs;
 mod messages;
 pub mod options;
+mod steps;
 
 pub use about::write_help_or_version;
 pub use failure::{Failure, InputRefusal, report};
@@ -24,6 +25,7 @@ use std::env::Env;
 use std::fmt::Display;
 use std::io::{ErrorKind, Write};
 use std::{env, io};
+pub use steps::{Notes, ProgramSteps, ProgramTexts, answer};
 
 /// The version of all programs. The file `VERSION` has the same, and `tests/figures` compares them.
 pub const VERSION: &str = "0.1.0";

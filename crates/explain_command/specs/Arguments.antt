@@ -4,7 +4,7 @@ use Rattle.std.specs.Borrow.{Bor}
 use Rattle.std.specs.List.{last_or}
 use Rattle.hyphenation_breaks.specs.Borrowed.{texts_now}
 use Rattle.hyphenation_grammar.specs.Lines.{is_same}
-use Rattle.command_line.specs.Options.{GivenOption, ReadArguments, RefusedArgument, refused, after_step, read_arguments}
+use Rattle.command_line.specs.Options.{GivenOption, ReadArguments, RefusedArgument, refused, after_step, read_arguments, names_of}
 use Rattle.command_line.specs.declared.options.Expected.TheVariants.{Operand}
 use Rattle.command_line.specs.declared.options.OptionForm.{OptionForm}
 use Rattle.explanations.specs.declared.style.Style.{Style}
@@ -33,9 +33,9 @@ args_of style (dictionary ∷ words) = Ok (record { style = style; dictionary = 
 abbrev pub args_as_read : ReadArguments → Result ParsedArgs RefusedArgument
 args_as_read read = args_of (style_of read.given) read.operands
 
--- The names of options, each with whether it takes a value.
-abbrev pub names_of : List OptionForm → List (List ℕ × Bool)
-names_of forms = map (λ form. (form.name.now, form.takes_value)) forms
+-- All arguments by the forms of options, or the first that is refused.
+abbrev pub parsed_by : List OptionForm → List (Bor (List ℕ)) → Result ParsedArgs RefusedArgument
+parsed_by forms args = after_step args_as_read (read_arguments forms (texts_now args))
 
 -- The options of the program.
 abbrev pub option_names : List (List ℕ × Bool)
@@ -43,5 +43,4 @@ option_names = (codes "--plain", false) ∷ (codes "--svg", false) ∷ []
 
 -- Arguments are parsed so, by the options of the program: as these arguments, or as the first one that is refused.
 abbrev pub IsParsed : List (Bor (List ℕ)) → Result ParsedArgs RefusedArgument → Type 0
-IsParsed args parsed = (forms : List OptionForm) × (names_of forms ≡ option_names)
-    × (parsed ≡ after_step args_as_read (read_arguments forms (texts_now args)))
+IsParsed args parsed = (forms : List OptionForm) × (names_of forms ≡ option_names) × (parsed ≡ parsed_by forms args)

@@ -4,9 +4,10 @@ use Rattle.std.specs.Borrow.{Bor}
 use Rattle.any_dictionary.specs.declared.AnyDictionary.{AnyDictionary}
 use Rattle.command_line.specs.About.{help_or_version}
 use Rattle.command_line.specs.Dictionaries.{KnownFiles, IsOfArgument, IsFailureOf}
-use Rattle.command_line.specs.Endings.{End, Done, Refuses, Fails}
+use Rattle.command_line.specs.Endings.{End, Done, Refuses, Fails, IsRefusal}
 use Rattle.command_line.specs.Inputs.{IsFailureOfInput}
 use Rattle.command_line.specs.Options.{RefusedArgument}
+use Rattle.command_line.specs.Steps.{EndsIn}
 use Rattle.command_line.specs.declared.TheConstants.{VERSION}
 use Rattle.command_line.specs.declared.failure.Failure.{Failure}
 use Rattle.command_line.specs.declared.failure.Failure.TheVariants as failed
@@ -45,21 +46,16 @@ IsFailureFor parsed bytes_of folders left failure = IsFailureOf bytes_of (texts_
 
 -- ---- how the program ends
 
--- The program ends for a failure. The output is as it was, unless it is the output that failed.
-abbrev pub EndsFailed : {W : Type 0} → ParsedArgs → KnownFiles → List (Bor (List ℕ)) → Option (List ℕ) → (End → Type 0) → W → W
-    → Type 0
-EndsFailed parsed bytes_of folders left EndsSo old new = (failure : Failure) × EndsSo (Fails failure)
-    × IsFailureFor parsed bytes_of folders left failure × ((failure ≡ failed.Output) ⊎ (new ≡ old))
-
 -- How the program ends for its arguments. If one is refused, it says which, or memory was refused. Else it is done, and what
--- they ask for was written, or it fails.
+-- they ask for was written, or it fails. After a failure the output is as it was, unless it is the output that failed.
 abbrev pub EndsFor : {W : Type 0} → Result ParsedArgs RefusedArgument → KnownFiles → List (Bor (List ℕ)) → Option (List ℕ)
-    → (End → Type 0) → (W → Option (List ℕ)) → W → W → Type 0
-EndsFor (Err refused) bytes_of folders left EndsSo contents old new =
-    EndsSo (Refuses refused) ⊎ EndsSo (Fails failed.Memory)
-EndsFor (Ok parsed) bytes_of folders left EndsSo contents old new =
-    (EndsSo (Done []) × Writes parsed bytes_of folders left contents old new)
-    ⊎ EndsFailed parsed bytes_of folders left EndsSo old new
+    → (W → Option (List ℕ)) → W → W → End → Type 0
+EndsFor (Err refused) bytes_of folders left contents old new end = IsRefusal refused end
+EndsFor (Ok parsed) bytes_of folders left contents old new (Done notes) =
+    (notes ≡ []) × Writes parsed bytes_of folders left contents old new
+EndsFor (Ok parsed) bytes_of folders left contents old new (Fails failure) =
+    IsFailureFor parsed bytes_of folders left failure × ((failure ≡ failed.Output) ⊎ (new ≡ old))
+EndsFor (Ok parsed) bytes_of folders left contents old new (Refuses refused) = ⊥
 
 -- There are words.
 abbrev pub has_words : List (List ℕ) → Bool
@@ -71,14 +67,15 @@ abbrev pub asks_no_input : Result ParsedArgs RefusedArgument → Bool
 asks_no_input (Ok parsed) = has_words parsed.words
 asks_no_input (Err refused) = true
 
--- The program ends so for its arguments. Where they don't ask for standard input, it is as it was.
-pub record Ends {W : Type 0} (parsed : Result ParsedArgs RefusedArgument) (bytes_of : KnownFiles) (folders : List (Bor (List ℕ))) (left : Option (List ℕ)) (unread : Type 0) (EndsSo : End → Type 0) (contents : W → Option (List ℕ)) (old new : W) : Type 0 where
-  pub ended : EndsFor parsed bytes_of folders left EndsSo contents old new
-  pub input_left : asks_no_input parsed ≡ true → unread
+-- The program ends so for its arguments, as they are parsed. Where they don't ask for standard input, it is as it was.
+abbrev pub EndsParsed : {W : Type 0} → List (Bor (List ℕ)) → KnownFiles → List (Bor (List ℕ)) → Option (List ℕ)
+    → Type 0 → (W → Option (List ℕ)) → W → W → End → Type 0
+EndsParsed args bytes_of folders left unread contents old new end =
+    (parsed : Result ParsedArgs RefusedArgument) × IsParsed args parsed
+    × EndsFor parsed bytes_of folders left contents old new end × (asks_no_input parsed ≡ true → unread)
 
 -- If no help was asked for, the program ends so for its arguments.
 abbrev pub EndsUnasked : {W : Type 0} → List (Bor (List ℕ)) → KnownFiles → List (Bor (List ℕ)) → Option (List ℕ)
     → Type 0 → (End → Type 0) → (W → Option (List ℕ)) → W → W → Type 0
-EndsUnasked args bytes_of folders left unread EndsSo contents old new = asked_text args ≡ None
-    → (parsed : Result ParsedArgs RefusedArgument) × IsParsed args parsed
-    × Ends parsed bytes_of folders left unread EndsSo contents old new
+EndsUnasked args bytes_of folders left unread EndsSo contents old new =
+    asked_text args ≡ None → EndsIn EndsSo (EndsParsed args bytes_of folders left unread contents old new)

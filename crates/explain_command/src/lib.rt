@@ -3,20 +3,21 @@
 //! For each word it writes the patterns that occur in it, the values that they give, and the fact that decides.
 #![tactic(auto)]
 
-ghost use Rattle.std.specs.Prelude.{◌≡◌, Some, is_some, map, true};
+ghost use Rattle.std.specs.Prelude.{◌≡◌, Ok, Some, is_some, map, true};
 ghost use Rattle.command_line.specs.About.{WritesHelp};
 ghost use Rattle.command_line.specs.Endings.{EndsBy, Tells};
 ghost use Rattle.command_line.specs.Statuses.{BeforeOutput};
 ghost use Rattle.command_line.specs.Usage.{names_options};
-ghost use Rattle.explain_command.specs.Arguments.{option_names};
-ghost use Rattle.explain_command.specs.Endings.{EndsUnasked, asked_text};
+ghost use Rattle.explain_command.specs.Arguments.{option_names, IsParsed};
+ghost use Rattle.explain_command.specs.Endings.{EndsParsed, EndsUnasked, asked_text};
+ghost use Rattle.explain_command.specs.Private.Requests.{parsed_request};
 
 mod request;
 mod run;
 
-use command_line::options::{ReadError, report_bad_argument};
-use command_line::{Failure, Messages, NamedFiles, VERSION, done, report, write_help_or_version};
-use request::Request;
+use command_line::options::ReadError;
+use command_line::{Failure, Messages, NamedFiles, ProgramSteps, ProgramTexts, VERSION};
+use request::{Request, option_forms};
 pub use run::explained;
 use run::run;
 use std::alloc::Global;
@@ -46,6 +47,49 @@ pub const NO_MEMORY: &str = "hyphenate-explain: no memory\n";
 pub fn usage_names_options()
     ensures { names_options USAGE.now (map (λ option. option.0) option_names) ≡ true }
 {}
+
+// The program over files, with its arguments, and the folders in which dictionaries are searched.
+#[derive(Clone, Copy)]
+struct Explain<'w, F> {
+    files: &'w F,
+    args: &'w [&'w str],
+    folders: &'w [&'w str],
+}
+
+impl<'w, F: NamedFiles, I: Read, O: Write> ProgramSteps<(), I, O> for Explain<'w, F> {
+    type Request = Request<'w>;
+
+    type Told = ();
+
+    ghost args = { λ program. program.args.now };
+
+    ghost is_request = { λ program request. IsParsed program.args.now (Ok (parsed_request request)) };
+
+    ghost ends = { λ program end _ _ before after old new. EndsParsed program.args.now (F.bytes program.files.now)
+        program.folders.now (I.remaining before) (after ≡ before) O.contents old new end };
+
+    ghost leaves_input = { λ _ status. status ≡ 3 };
+
+    fn args(&self) -> &[&str] {
+        self.args
+    }
+
+    fn request(&self, alloc: Global) -> Result<Request<'w>, ReadError<'_>> {
+        let forms = option_forms();
+        Request::from_args(alloc, &forms, self.args)
+    }
+
+    fn run(
+        &self,
+        alloc: Global,
+        request: Request<'w>,
+        _store: &mut (),
+        input: &mut I,
+        output: &mut O,
+    ) -> Result<(), Failure> {
+        run(self.files, alloc, &request, self.folders, input, output)
+    }
+}
 
 /// Does what the arguments ask for, and returns the status to end with.
 ///
@@ -85,16 +129,14 @@ pub fn answer<F: NamedFiles, I: Read, O: Write, E: Write>(
     ensures dictionary_first { result ≡ 3 → input.new ≡ input.old }
     ensures untouched { BeforeOutput result (output.new ≡ output.old) }
 {
-    if let Some(status) = write_help_or_version(NAME, USAGE, args, output) {
-        return status;
-    }
-    let request = match Request::from_args(alloc, args) {
-        Ok(request) => request,
-        Err(ReadError::Bad(bad)) => return report_bad_argument(alloc, NAME, &bad, errors),
-        Err(ReadError::Memory) => return report(alloc, NAME, &Failure::Memory, errors),
+    let program = Explain {
+        files,
+        args,
+        folders,
     };
-    match run(files, alloc, &request, folders, input, output) {
-        Ok(()) => done(errors),
-        Err(failure) => report(alloc, NAME, &failure, errors),
-    }
+    let texts = ProgramTexts {
+        name: NAME,
+        usage: USAGE,
+    };
+    command_line::answer(&program, &texts, alloc, &mut (), input, output, errors)
 }

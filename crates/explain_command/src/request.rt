@@ -2,25 +2,30 @@
 
 ghost use Rattle.std.specs.Prelude.{◌≡◌, IfErr, IfOk, Ok, map};
 ghost use Rattle.hyphenation_breaks.specs.Borrowed.{texts_now};
+ghost use Rattle.command_line.specs.Options.{names_of};
 ghost use Rattle.command_line.specs.Reading.{as_given, as_read, IsReadError};
-ghost use Rattle.explain_command.specs.Arguments.{args_as_read, args_of, names_of, option_names, style_by, style_of, IsParsed};
-ghost use Rattle.explain_command.specs.Private.Requests.{parsed_request, AreRefused};
+ghost use Rattle.explain_command.specs.Arguments.{args_as_read, args_of, option_names, style_by, style_of, parsed_by};
+ghost use Rattle.explain_command.specs.Private.Requests.{parsed_request};
 
 use command_line::options::{Arguments, BadArgument, Expected, Given, OptionForm, ReadError, read};
 use explanations::Style;
 use std::alloc::{AllocError, Global};
 
-// The options of the program.
-const OPTIONS: [OptionForm; 2] = [
-    OptionForm {
-        name: "--plain",
-        takes_value: false,
-    },
-    OptionForm {
-        name: "--svg",
-        takes_value: false,
-    },
-];
+/// Returns the options of the program.
+pub fn option_forms() -> [OptionForm; 2]
+    ensures { names_of result ≡ option_names }
+{
+    [
+        OptionForm {
+            name: "--plain",
+            takes_value: false,
+        },
+        OptionForm {
+            name: "--svg",
+            takes_value: false,
+        },
+    ]
+}
 
 /// The arguments as parsed.
 #[derive(Drop)]
@@ -95,27 +100,18 @@ fn of_arguments<'w>(alloc: Global, arguments: &Arguments<'w>) -> Result<Request<
     with_operands(alloc, style_of(&arguments.given), &arguments.operands)
 }
 
-// Returns the request of arguments, by the options of the program.
-fn by_forms<'w>(
-    alloc: Global,
-    forms: &[OptionForm],
-    args: &'w [&'w str],
-) -> Result<Request<'w>, ReadError<'w>>
-    requires { names_of forms.now ≡ option_names }
-    ensures parsed { IfOk result (λ request. IsParsed args.now (Ok (parsed_request request))) }
-    ensures refused { IfErr result (AreRefused args.now) }
-{
-    let arguments = read(alloc, forms, args)?;
-    of_arguments(alloc, &arguments)
-}
-
 impl<'w> Request<'w> {
-    /// Parses arguments `[--plain | --svg] DICTIONARY [WORD..]`. The error is the first that is refused, or says that memory
-    /// was refused.
-    pub fn from_args(alloc: Global, args: &'w [&'w str]) -> Result<Request<'w>, ReadError<'w>>
-        ensures parsed { IfOk result (λ request. IsParsed args.now (Ok (parsed_request request))) }
-        ensures refused { IfErr result (AreRefused args.now) }
+    /// Parses arguments `[--plain | --svg] DICTIONARY [WORD..]`, by the forms of the options. The error is the first that is
+    /// refused, or says that memory was refused.
+    pub fn from_args(
+        alloc: Global,
+        forms: &[OptionForm],
+        args: &'w [&'w str],
+    ) -> Result<Request<'w>, ReadError<'w>>
+        ensures parsed { IfOk result (λ request. parsed_by forms.now args.now ≡ Ok (parsed_request request)) }
+        ensures refused { IfErr result (IsReadError (parsed_by forms.now args.now)) }
     {
-        by_forms(alloc, &OPTIONS, args)
+        let arguments = read(alloc, forms, args)?;
+        of_arguments(alloc, &arguments)
     }
 }

@@ -1,60 +1,73 @@
 -- How the program ends.
-use Rattle.std.proofs.Common.{◌≡◌, ℕ, true, List, Option, Ok, Err, refl, sym, subst, inl, inr}
+use Rattle.std.proofs.Common.{◌≡◌, ℕ, false, List, Option, Ok, Err, refl, sym, ap, subst, inl, inr}
+use Rattle.std.proofs.lemmas.Bool.{not-true}
 use Rattle.std.specs.Borrow.{Bor}
+use Rattle.std.specs.List.{list_any}
 use Rattle.std.specs.Prelude.{◌⊎◌, IfErr, Result}
 use Rattle.command_line.specs.Dictionaries.{KnownFiles}
-use Rattle.command_line.specs.Endings.{End, Done, Refuses, Fails}
-use Rattle.command_line.specs.Options.{RefusedArgument, expectation}
+use Rattle.command_line.specs.Endings.{Done, Fails}
+use Rattle.command_line.specs.Inputs.{is_standard_input}
+use Rattle.command_line.specs.Options.{RefusedArgument, names_of, expectation}
+use Rattle.command_line.specs.Reading.{as_refused, IsReadError}
+use Rattle.command_line.specs.Steps.{EndsUnread}
 use Rattle.command_line.specs.declared.failure.Failure.{Failure}
 use Rattle.command_line.specs.declared.failure.Failure.TheVariants as failed
 use Rattle.command_line.specs.declared.options.Expected.{Expected}
 use Rattle.command_line.specs.declared.options.OptionForm.{OptionForm}
+use Rattle.command_line.specs.declared.options.ReadError.{ReadError}
+use Rattle.command_line.specs.declared.options.ReadError.TheVariants.{Bad, Memory}
 use Rattle.hyphenation_load.specs.Load.{AppendsTo}
 use Rattle.replaced_files.specs.Files.{WrittenFiles, WritesFiles}
-use Rattle.html_command.specs.Arguments.{ParsedArgs, IsParsed, language_words, names_of, option_names, parsed_by}
+use Rattle.html_command.specs.Arguments.{ParsedArgs, IsParsed, language_words, option_names, parsed_by}
 use Rattle.html_command.specs.Notes.{MarkedPage, notes_of, notes_text, texts_of}
 use Rattle.html_command.specs.Private.Runs.{WritesNoted}
 use Rattle.html_command.specs.declared.TheConstants.{NAME}
 use Rattle.html_command.specs.declared.notes.PageNote.{PageNote}
-use Rattle.html_command.specs.Written.{AreResults, AreTextsOfResults, EndsFor, IsFailureBefore, names_files_alone}
+use Rattle.html_command.specs.Written.{AreResults, AreTextsOfResults, EndsFor, EndsParsed, IsFailureBefore}
 use Rattle.text_results.specs.Written.{IsFailureFor, IsFailureOfWriting, files_of, output_of}
 
-pub ends_done : {W S : Type 0} (parsed : Result ParsedArgs RefusedArgument) (args : ParsedArgs) (bytes_of : KnownFiles) (usual : List (List ℕ)) (left : Option (List ℕ))
-    (EndsSo : End → Type 0) (contents : W → Option (List ℕ)) (old new : W) (written : S → Option WrittenFiles) (old_files new_files : S) (notes : List PageNote) → parsed ≡ Ok args
-    → EndsSo (Done (notes_text NAME.now args.inputs notes)) → WritesNoted args bytes_of usual left notes contents old new written old_files new_files
-    → EndsFor parsed bytes_of usual left EndsSo contents old new written old_files new_files
-ends_done parsed args bytes_of usual left EndsSo contents old new written old_files new_files notes e done (results, are, noted, writes) =
-    subst (λ (p : Result ParsedArgs RefusedArgument). EndsFor p bytes_of usual left EndsSo contents old new written old_files new_files) (sym e)
-    (inl (results, are, subst (λ (ns : List PageNote). EndsSo (Done (notes_text NAME.now args.inputs ns))) noted done, writes))
+no_memory : {W S : Type 0} (parsed : Result ParsedArgs RefusedArgument) (bytes_of : KnownFiles) (usual : List (List ℕ)) (left : Option (List ℕ))
+    (contents : W → Option (List ℕ)) (output : W) (written : S → Option WrittenFiles) (files : S)
+    → EndsFor parsed bytes_of usual left contents output output written files files (Fails failed.Memory)
+no_memory (Ok args) bytes_of usual left contents output written files = (inl (tt, refl), inr refl)
+no_memory (Err refused) bytes_of usual left contents output written files = (inr refl, refl)
 
-pub ends_by : {W S : Type 0} (parsed : Result ParsedArgs RefusedArgument) (args : ParsedArgs) (bytes_of : KnownFiles) (usual : List (List ℕ)) (left : Option (List ℕ))
-    (EndsSo : End → Type 0) (failure : Failure) (contents : W → Option (List ℕ)) (old new : W) (written : S → Option WrittenFiles) (old_files new_files : S) → parsed ≡ Ok args
-    → EndsSo (Fails failure) → IsFailureFor (AreTextsOfResults args bytes_of usual left) (IsFailureBefore args bytes_of usual left) args.options.target args.inputs written old_files new_files failure → ((failure ≡ failed.Output) ⊎ (new ≡ old))
-    → EndsFor parsed bytes_of usual left EndsSo contents old new written old_files new_files
-ends_by parsed args bytes_of usual left EndsSo failure contents old new written old_files new_files e s fails kept =
-    subst (λ (p : Result ParsedArgs RefusedArgument). EndsFor p bytes_of usual left EndsSo contents old new written old_files new_files) (sym e) (inr (failure, s, fails, kept))
+-- Where the arguments are not read.
+pub ends_unread : {W S I : Type 0} (args : List (Bor (List ℕ))) (expected : Expected) (forms : List OptionForm) (bytes_of : KnownFiles) (usual : List (List ℕ))
+    (remaining : I → Option (List ℕ)) (contents : W → Option (List ℕ)) (written : S → Option WrittenFiles) (error : ReadError)
+    → expectation expected ≡ language_words → names_of forms ≡ option_names → IsReadError (parsed_by expected forms args) error
+    → EndsUnread (λ end old_files new_files before after old new. EndsParsed args bytes_of usual remaining before after contents old new written old_files new_files end) error
+ends_unread args expected forms bytes_of usual remaining contents written (Bad bad) words names is store input output =
+    (Err (as_refused bad), (expected, forms, words, names, sym is), (inl refl, refl), λ alone. refl)
+ends_unread args expected forms bytes_of usual remaining contents written Memory words names is store input output = (
+  parsed_by expected forms args,
+  (expected, forms, words, names, refl),
+  no_memory (parsed_by expected forms args) bytes_of usual (remaining input) contents output written store,
+  λ alone. refl,
+)
 
-pub ends_refused : {W S : Type 0} (parsed : Result ParsedArgs RefusedArgument) (refusal : RefusedArgument) (bytes_of : KnownFiles) (usual : List (List ℕ)) (left : Option (List ℕ))
-    (EndsSo : End → Type 0) (contents : W → Option (List ℕ)) (old : W) (written : S → Option WrittenFiles) (old_files : S) → parsed ≡ Err refusal → EndsSo (Refuses refusal)
-    → EndsFor parsed bytes_of usual left EndsSo contents old old written old_files old_files
-ends_refused parsed refusal bytes_of usual left EndsSo contents old written old_files e two =
-    subst (λ (p : Result ParsedArgs RefusedArgument). EndsFor p bytes_of usual left EndsSo contents old old written old_files old_files) (sym e) (inl two, refl)
+-- Where the run is done.
+pub ends_done : {W S I : Type 0} (args : List (Bor (List ℕ))) (parsed : ParsedArgs) (bytes_of : KnownFiles) (usual : List (List ℕ))
+    (remaining : I → Option (List ℕ)) (before after : I) (contents : W → Option (List ℕ)) (old new : W) (written : S → Option WrittenFiles) (old_files new_files : S) (notes : List PageNote)
+    → IsParsed args (Ok parsed) → (list_any is_standard_input parsed.inputs ≡ false → after ≡ before)
+    → WritesNoted parsed bytes_of usual (remaining before) notes contents old new written old_files new_files
+    → EndsParsed args bytes_of usual remaining before after contents old new written old_files new_files (Done (notes_text NAME.now parsed.inputs notes))
+ends_done args parsed bytes_of usual remaining before after contents old new written old_files new_files notes is unread (results, are, noted, writes) = (
+  Ok parsed,
+  is,
+  (results, are, ap (notes_text NAME.now parsed.inputs) noted, writes),
+  λ alone. unread (not-true _ alone),
+)
 
-pub ends_no_memory : {W S : Type 0} (parsed : Result ParsedArgs RefusedArgument) (bytes_of : KnownFiles) (usual : List (List ℕ)) (left : Option (List ℕ))
-    (EndsSo : End → Type 0) (contents : W → Option (List ℕ)) (old : W) (written : S → Option WrittenFiles) (old_files : S) → EndsSo (Fails failed.Memory)
-    → EndsFor parsed bytes_of usual left EndsSo contents old old written old_files old_files
-ends_no_memory (Ok args) bytes_of usual left EndsSo contents old written old_files six = inr (failed.Memory, six, inl (tt, refl), inr refl)
-ends_no_memory (Err refusal) bytes_of usual left EndsSo contents old written old_files six = (inr six, refl)
-
--- The options are those of the program.
-pub parsed_ends : {W S I : Type 0} (args : List (Bor (List ℕ))) (expected : Expected) (forms : List OptionForm) (bytes_of : KnownFiles) (usual : List (List ℕ)) (left : Option (List ℕ)) (before after : I)
-    (EndsSo : End → Type 0) (contents : W → Option (List ℕ)) (old new : W) (written : S → Option WrittenFiles) (old_files new_files : S) → expectation expected ≡ language_words → names_of forms ≡ option_names
-    → EndsFor (parsed_by expected forms args) bytes_of usual left EndsSo contents old new written old_files new_files
-    → (names_files_alone (parsed_by expected forms args) ≡ true → after ≡ before)
-    → (parsed : Result ParsedArgs RefusedArgument) × IsParsed args parsed
-    × EndsFor parsed bytes_of usual left EndsSo contents old new written old_files new_files × (names_files_alone parsed ≡ true → after ≡ before)
-parsed_ends args expected forms bytes_of usual left before after EndsSo contents old new written old_files new_files words names ends unread =
-    (parsed_by expected forms args, (expected, forms, words, names, refl), ends, unread)
+-- Where the run failed.
+pub ends_failed : {W S I : Type 0} (args : List (Bor (List ℕ))) (parsed : ParsedArgs) (bytes_of : KnownFiles) (usual : List (List ℕ))
+    (remaining : I → Option (List ℕ)) (before after : I) (contents : W → Option (List ℕ)) (old new : W) (written : S → Option WrittenFiles) (old_files new_files : S) (failure : Failure)
+    → IsParsed args (Ok parsed) → (list_any is_standard_input parsed.inputs ≡ false → after ≡ before)
+    → IsFailureFor (AreTextsOfResults parsed bytes_of usual (remaining before)) (IsFailureBefore parsed bytes_of usual (remaining before)) parsed.options.target parsed.inputs written old_files new_files failure
+    → (failure ≡ failed.Output) ⊎ (new ≡ old)
+    → EndsParsed args bytes_of usual remaining before after contents old new written old_files new_files (Fails failure)
+ends_failed args parsed bytes_of usual remaining before after contents old new written old_files new_files failure is unread fails kept =
+    (Ok parsed, is, (fails, kept), λ alone. unread (not-true _ alone))
 
 -- The results of a run, as they are handed on to be written.
 pub writes_so : {W S : Type 0} (args : ParsedArgs) (bytes_of : KnownFiles) (usual : List (List ℕ)) (left : Option (List ℕ)) (results : List MarkedPage)

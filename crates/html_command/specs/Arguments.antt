@@ -1,7 +1,7 @@
 -- How the program `hyphenate-html` reads its arguments.
 use Rattle.std.specs.Prelude.{◌≡◌, ℕ, ◌+◌, ◌==◌, Bool, true, false, List, [], ◌∷◌, ◌++◌, codes, map, take, drop, if◌then◌else◌, Option, Some, None, option_and_then, position, Result, Ok, Err, unwrap_or}
 use Rattle.std.specs.Borrow.{Bor}
-use Rattle.command_line.specs.Options.{GivenOption, ReadArguments, RefusedArgument, refused, after_step, read_arguments, is_given, last_value, values_of, number_given, expectation}
+use Rattle.command_line.specs.Options.{GivenOption, ReadArguments, RefusedArgument, refused, after_step, read_arguments, names_of, is_given, last_value, values_of, number_given, expectation}
 use Rattle.command_line.specs.declared.options.Expected.{Expected}
 use Rattle.command_line.specs.declared.options.OptionForm.{OptionForm}
 use Rattle.hyphenation_breaks.specs.Borrowed.{texts_now}
@@ -87,10 +87,6 @@ args_as_read expected read = after_step (λ options. args_of options read.operan
 -- All arguments by the forms of options, or the first that is refused.
 abbrev pub parsed_by : Expected → List OptionForm → List (Bor (List ℕ)) → Result ParsedArgs RefusedArgument
 parsed_by expected forms args = after_step (args_as_read expected) (read_arguments forms (texts_now args))
-
--- The names of options, each with whether it takes a value.
-abbrev pub names_of : List OptionForm → List (List ℕ × Bool)
-names_of forms = map (λ form. (form.name.now, form.takes_value)) forms
 
 -- The options of the program.
 abbrev pub option_names : List (List ℕ × Bool)

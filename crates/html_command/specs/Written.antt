@@ -4,9 +4,10 @@ use Rattle.std.specs.Borrow.{Bor}
 use Rattle.std.specs.List.{AllZip, list_any}
 use Rattle.command_line.specs.About.{help_or_version}
 use Rattle.command_line.specs.Dictionaries.{KnownFiles}
-use Rattle.command_line.specs.Endings.{End, Done}
+use Rattle.command_line.specs.Endings.{End, Done, Refuses, Fails}
 use Rattle.command_line.specs.Inputs.{is_standard_input, AreTextsOf}
 use Rattle.command_line.specs.Options.{RefusedArgument}
+use Rattle.command_line.specs.Steps.{EndsIn}
 use Rattle.command_line.specs.declared.TheConstants.{VERSION}
 use Rattle.command_line.specs.declared.failure.Failure.{Failure}
 use Rattle.command_line.specs.declared.failure.Failure.TheVariants as failed
@@ -79,35 +80,43 @@ IsFailureBefore args bytes_of usual left _ = ⊥
 
 -- ---- how the program ends
 
--- The program is done: the texts of its results were written, and it tells exactly the notes on its pages, each in its line.
+-- The program is done: the texts of its results were written, and these are exactly the notes on its pages, each in its line.
 abbrev pub EndsNoted : {W S : Type 0} → ParsedArgs → KnownFiles → List (List ℕ) → Option (List ℕ)
-    → (End → Type 0) → (W → Option (List ℕ)) → W → W → (S → Option WrittenFiles) → S → S → Type 0
-EndsNoted args bytes_of usual left EndsSo contents old new written old_files new_files =
+    → (W → Option (List ℕ)) → W → W → (S → Option WrittenFiles) → S → S → List ℕ → Type 0
+EndsNoted args bytes_of usual left contents old new written old_files new_files notes =
     (results : List MarkedPage) × AreResults args bytes_of usual left results
-    × EndsSo (Done (notes_text NAME.now args.inputs (notes_of results)))
+    × (notes ≡ notes_text NAME.now args.inputs (notes_of results))
     × WritesResults (λ texts. texts ≡ texts_of results) args.options.target args.inputs contents old new
     written old_files new_files
 
 -- How the program ends for its arguments: one is refused, or the results of its pages are written or fail.
 abbrev pub EndsFor : {W S : Type 0} → Result ParsedArgs RefusedArgument → KnownFiles → List (List ℕ) → Option (List ℕ)
-    → (End → Type 0) → (W → Option (List ℕ)) → W → W → (S → Option WrittenFiles) → S → S → Type 0
-EndsFor (Err refused) bytes_of usual left EndsSo contents old new written old_files new_files =
-    EndsRefused refused EndsSo old_files new_files
-EndsFor (Ok args) bytes_of usual left EndsSo contents old new written old_files new_files =
-    EndsNoted args bytes_of usual left EndsSo contents old new written old_files new_files
-    ⊎ EndsFailed (AreTextsOfResults args bytes_of usual left) (IsFailureBefore args bytes_of usual left) args.options.target
-    args.inputs EndsSo old new written old_files new_files
+    → (W → Option (List ℕ)) → W → W → (S → Option WrittenFiles) → S → S → End → Type 0
+EndsFor (Err refused) bytes_of usual left contents old new written old_files new_files end =
+    EndsRefused refused old_files new_files end
+EndsFor (Ok args) bytes_of usual left contents old new written old_files new_files (Done notes) =
+    EndsNoted args bytes_of usual left contents old new written old_files new_files notes
+EndsFor (Ok args) bytes_of usual left contents old new written old_files new_files (Fails failure) =
+    EndsFailed (AreTextsOfResults args bytes_of usual left) (IsFailureBefore args bytes_of usual left) args.options.target
+    args.inputs old new written old_files new_files failure
+EndsFor (Ok args) bytes_of usual left contents old new written old_files new_files (Refuses refused) = ⊥
 
 -- Standard input is none of the pages of arguments, or one of the arguments is refused.
 abbrev pub names_files_alone : Result ParsedArgs RefusedArgument → Bool
 names_files_alone (Ok args) = not (list_any is_standard_input args.inputs)
 names_files_alone (Err refused) = true
 
--- If no help was asked for, the program ends so for its arguments. Standard input is then as it was if it is none of the
--- pages.
+-- The program ends so for its arguments, as they are parsed. Standard input is as it was if it is none of the pages.
+abbrev pub EndsParsed : {W S I : Type 0} → List (Bor (List ℕ)) → KnownFiles → List (List ℕ) → (I → Option (List ℕ)) → I → I
+    → (W → Option (List ℕ)) → W → W → (S → Option WrittenFiles) → S → S → End → Type 0
+EndsParsed args bytes_of usual remaining before after contents old new written old_files new_files end =
+    (parsed : Result ParsedArgs RefusedArgument) × IsParsed args parsed
+    × EndsFor parsed bytes_of usual (remaining before) contents old new written old_files new_files end
+    × (names_files_alone parsed ≡ true → after ≡ before)
+
+-- If no help was asked for, the program ends so for its arguments.
 abbrev pub EndsUnlessAsked : {W S I : Type 0} → List (Bor (List ℕ)) → KnownFiles → List (List ℕ) → (I → Option (List ℕ)) → I → I
     → (End → Type 0) → (W → Option (List ℕ)) → W → W → (S → Option WrittenFiles) → S → S → Type 0
 EndsUnlessAsked args bytes_of usual remaining before after EndsSo contents old new written old_files new_files =
-    asked_text args ≡ None → (parsed : Result ParsedArgs RefusedArgument) × IsParsed args parsed
-    × EndsFor parsed bytes_of usual (remaining before) EndsSo contents old new written old_files new_files
-    × (names_files_alone parsed ≡ true → after ≡ before)
+    asked_text args ≡ None → EndsIn EndsSo
+    (EndsParsed args bytes_of usual remaining before after contents old new written old_files new_files)

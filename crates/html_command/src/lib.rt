@@ -3,23 +3,25 @@
 //! It puts a mark into pages where the words of their text may be broken, and leaves all else as it is.
 #![tactic(auto)]
 
-ghost use Rattle.std.specs.Prelude.{◌≡◌, true, Some, is_some, map};
+ghost use Rattle.std.specs.Prelude.{◌≡◌, true, Ok, Some, is_some, map};
 ghost use Rattle.command_line.specs.About.{WritesHelp};
 ghost use Rattle.command_line.specs.Endings.{EndsBy, Tells};
 ghost use Rattle.command_line.specs.Statuses.{BeforeOutput};
 ghost use Rattle.command_line.specs.Usage.{names_options};
 ghost use Rattle.hyphenation_breaks.specs.Borrowed.{texts_now};
-ghost use Rattle.html_command.specs.Arguments.{option_names, parsed_by};
-ghost use Rattle.html_command.specs.Written.{names_files_alone, EndsFor, EndsUnlessAsked, asked_text};
+ghost use Rattle.html_command.specs.Arguments.{option_names, IsParsed};
+ghost use Rattle.html_command.specs.Notes.{notes_text};
+ghost use Rattle.html_command.specs.Private.Requests.{parsed_request};
+ghost use Rattle.html_command.specs.Written.{EndsParsed, EndsUnlessAsked, asked_text};
 
 mod dictionaries;
 mod notes;
 mod request;
 mod run;
 
-use command_line::options::{Expected, OptionForm, ReadError, report_bad_argument};
-use command_line::{Failure, Messages, NamedFiles, VERSION, report, write_help_or_version};
-use notes::write_notes;
+use command_line::options::ReadError;
+use command_line::{Failure, Messages, NamedFiles, Notes, ProgramSteps, ProgramTexts, VERSION};
+use notes::{PageNote, write_notes};
 pub use replaced_files::{Recorded, ReplaceFiles};
 use request::{Request, language_form, option_forms};
 use run::run;
@@ -67,52 +69,68 @@ pub fn usage_names_options()
     ensures { names_options USAGE.now (map (λ option. option.0) option_names) ≡ true }
 {}
 
-// A call, and by what its arguments are read: the expectation of a value of `--lang`, and the forms of the options.
-#[derive(Clone, Copy)]
-struct Reading<'w> {
-    args: &'w [&'w str],
-    folders: &'w [&'w str],
-    expected: &'w Expected,
-    forms: &'w [OptionForm],
+// The notes on the pages of a request.
+#[derive(Drop)]
+struct Noted<'w> {
+    request: Request<'w>,
+    notes: Vec<PageNote>,
 }
 
-// Does what a call asks for, and returns the status to end with.
-#[tactic(auto, using(crate::proofs::Endings::ends_done, crate::proofs::Endings::ends_by, crate::proofs::Endings::ends_refused, crate::proofs::Endings::ends_no_memory))]
-fn answer_by<F: NamedFiles, S: ReplaceFiles, I: Read, O: Write, E: Write>(
-    files: &F,
-    store: &mut S,
-    alloc: Global,
-    reading: &Reading<'_>,
-    input: &mut I,
-    output: &mut O,
-    errors: &mut Messages<E>,
-) -> u8
-    ensures ended { EndsFor (parsed_by reading.now.expected.now reading.now.forms.now reading.now.args.now) (F.bytes files.now)
-        (texts_now reading.now.folders.now) (I.remaining input.old) (EndsBy NAME.now result (Tells E.contents errors.old errors.new))
-        O.contents output.old output.new S.written store.old store.new }
-    ensures unread { names_files_alone (parsed_by reading.now.expected.now reading.now.forms.now reading.now.args.now) ≡ true
-        → input.new ≡ input.old }
-    ensures untouched { BeforeOutput result (output.new ≡ output.old) }
-{
-    let request = match Request::from_args(alloc, reading.expected, reading.forms, reading.args) {
-        Ok(request) => request,
-        Err(ReadError::Bad(bad)) => return report_bad_argument(alloc, NAME, &bad, errors),
-        Err(ReadError::Memory) => return report(alloc, NAME, &Failure::Memory, errors),
-    };
-    match run(
-        files,
-        store,
-        alloc,
-        &request,
-        reading.folders,
-        input,
-        output,
-    ) {
-        Ok(notes) => {
-            write_notes(alloc, NAME, &request.inputs, &notes, errors);
-            0
+impl<'w> Notes for Noted<'w> {
+    ghost use Rattle.html_command.specs.declared.TheConstants.{NAME};
+
+    ghost text = { λ noted. notes_text NAME.now (texts_now noted.request.inputs.items) noted.notes.items };
+
+    fn tell<E: Write>(&self, alloc: Global, errors: &mut Messages<E>) {
+        write_notes(alloc, NAME, &self.request.inputs, &self.notes, errors);
+    }
+}
+
+// The program over files, with its call.
+#[derive(Clone, Copy)]
+struct Html<'w, F> {
+    files: &'w F,
+    call: Call<'w>,
+}
+
+impl<'w, F: NamedFiles, S: ReplaceFiles, I: Read, O: Write> ProgramSteps<S, I, O> for Html<'w, F> {
+    type Request = Request<'w>;
+
+    type Told = Noted<'w>;
+
+    ghost args = { λ program. program.call.args.now };
+
+    ghost is_request = { λ program request. IsParsed program.call.args.now (Ok (parsed_request request)) };
+
+    ghost ends = { λ program end old_files new_files before after old new. EndsParsed program.call.args.now
+        (F.bytes program.files.now) (texts_now program.call.folders.now) I.remaining before after
+        O.contents old new S.written old_files new_files end };
+
+    ghost leaves_input = { λ _ _. ⊥ };
+
+    fn args(&self) -> &[&str] {
+        self.call.args
+    }
+
+    fn request(&self, alloc: Global) -> Result<Request<'w>, ReadError<'_>> {
+        let expected = language_form();
+        let forms = option_forms();
+        Request::from_args(alloc, &expected, &forms, self.call.args)
+    }
+
+    fn run(
+        &self,
+        alloc: Global,
+        request: Request<'w>,
+        store: &mut S,
+        input: &mut I,
+        output: &mut O,
+    ) -> Result<Noted<'w>, Failure> {
+        let folders = self.call.folders;
+        match run(self.files, store, alloc, &request, folders, input, output) {
+            Ok(notes) => Ok(Noted { request, notes }),
+            Err(failure) => Err(failure),
         }
-        Err(failure) => report(alloc, NAME, &failure, errors),
     }
 }
 
@@ -139,7 +157,6 @@ fn answer_by<F: NamedFiles, S: ReplaceFiles, I: Read, O: Write, E: Write>(
 /// let call = Call { args: &["--in-place", "--lang", "en=en-us.txt", "chapter.html"], folders: &[] };
 /// answer(&rt, &mut &rt, rt.alloc(), &call, &mut rt.stdin(), &mut rt.stdout(), &mut errors)    // 0
 /// ```
-#[tactic(auto, using(crate::proofs::Endings::parsed_ends))]
 pub fn answer<F: NamedFiles, S: ReplaceFiles, I: Read, O: Write, E: Write>(
     files: &F,
     store: &mut S,
@@ -156,16 +173,10 @@ pub fn answer<F: NamedFiles, S: ReplaceFiles, I: Read, O: Write, E: Write>(
     ensures quiet { is_some (asked_text call.now.args.now) ≡ true → errors.new ≡ errors.old }
     ensures untouched { BeforeOutput result (output.new ≡ output.old) }
 {
-    if let Some(status) = write_help_or_version(NAME, USAGE, call.args, output) {
-        return status;
-    }
-    let expected = language_form();
-    let forms = option_forms();
-    let reading = Reading {
-        args: call.args,
-        folders: call.folders,
-        expected: &expected,
-        forms: &forms,
+    let program = Html { files, call: *call };
+    let texts = ProgramTexts {
+        name: NAME,
+        usage: USAGE,
     };
-    answer_by(files, store, alloc, &reading, input, output, errors)
+    command_line::answer(&program, &texts, alloc, store, input, output, errors)
 }

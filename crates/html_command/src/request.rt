@@ -2,9 +2,9 @@
 
 ghost use Rattle.std.specs.Prelude.{◌≡◌, ◌==◌, IfErr, IfOk, Ok, map, option_map, position};
 ghost use Rattle.hyphenation_breaks.specs.Borrowed.{texts_now};
-ghost use Rattle.command_line.specs.Options.{expectation};
+ghost use Rattle.command_line.specs.Options.{names_of, expectation};
 ghost use Rattle.command_line.specs.Reading.{as_read, given_options, IsReadError};
-ghost use Rattle.html_command.specs.Arguments.{names_of, option_names, code_and_path, dictionaries_of, dictionaries_given, language_words};
+ghost use Rattle.html_command.specs.Arguments.{option_names, code_and_path, dictionaries_of, dictionaries_given, language_words};
 ghost use Rattle.html_command.specs.Arguments.{options_with, options_of, args_of, args_as_read, parsed_by};
 ghost use Rattle.html_command.specs.Private.Requests.{parsed_dictionary, parsed_options, parsed_request, AreAsWanted};
 

@@ -3,7 +3,7 @@ use Rattle.std.specs.Prelude.{◌≡◌, ℕ, ◌==◌, ◌&&◌, not, Bool, tru
 use Rattle.std.specs.Prelude.{codes, Option, Some, None, Result, Ok, Err, unwrap_or}
 use Rattle.std.specs.Borrow.{Bor}
 use Rattle.hyphenation_breaks.specs.Borrowed.{texts_now}
-use Rattle.command_line.specs.Options.{GivenOption, ReadArguments, RefusedArgument, refused, after_step, read_arguments}
+use Rattle.command_line.specs.Options.{GivenOption, ReadArguments, RefusedArgument, refused, after_step, read_arguments, names_of}
 use Rattle.command_line.specs.Options.{is_given, last_value, number_given}
 use Rattle.command_line.specs.declared.options.Expected.TheVariants.{EvenLines, Operand}
 use Rattle.command_line.specs.declared.options.OptionForm.{OptionForm}
@@ -74,9 +74,9 @@ args_of options (dictionary ∷ names) =
 abbrev pub args_as_read : ReadArguments → Result ParsedArgs RefusedArgument
 args_as_read read = after_step (λ options. args_of options read.operands) (options_of read.given)
 
--- The names of options, each with whether it takes a value.
-abbrev pub names_of : List OptionForm → List (List ℕ × Bool)
-names_of forms = map (λ form. (form.name.now, form.takes_value)) forms
+-- All arguments by the forms of options, or the first that is refused.
+abbrev pub parsed_by : List OptionForm → List (Bor (List ℕ)) → Result ParsedArgs RefusedArgument
+parsed_by forms args = after_step args_as_read (read_arguments forms (texts_now args))
 
 -- The options of the program.
 abbrev pub option_names : List (List ℕ × Bool)
@@ -86,8 +86,7 @@ option_names =
 
 -- Arguments are parsed so, by the options of the program: as these arguments, or as the first one that is refused.
 abbrev pub IsParsed : List (Bor (List ℕ)) → Result ParsedArgs RefusedArgument → Type 0
-IsParsed args parsed = (forms : List OptionForm) × (names_of forms ≡ option_names)
-    × (parsed ≡ after_step args_as_read (read_arguments forms (texts_now args)))
+IsParsed args parsed = (forms : List OptionForm) × (names_of forms ≡ option_names) × (parsed ≡ parsed_by forms args)
 
 -- The style that options ask for.
 abbrev pub style_for : ParsedOptions → Style

@@ -12,9 +12,10 @@ use Rattle.any_dictionary.specs.Dictionaries.{breaks_by, kind_by}
 use Rattle.any_dictionary.specs.declared.AnyDictionary.{AnyDictionary}
 use Rattle.command_line.specs.About.{help_or_version}
 use Rattle.command_line.specs.Dictionaries.{KnownFiles, IsOfArgument, IsFailureOf}
-use Rattle.command_line.specs.Endings.{End, Done, Refuses, Fails}
+use Rattle.command_line.specs.Endings.{End, Done, Refuses, Fails, IsRefusal}
 use Rattle.command_line.specs.Inputs.{is_standard_input, shown_name, IsTextOf, AreTextsOf, IsFailureOfInput}
 use Rattle.command_line.specs.Options.{RefusedArgument}
+use Rattle.command_line.specs.Steps.{EndsIn}
 use Rattle.command_line.specs.declared.TheConstants.{VERSION}
 use Rattle.command_line.specs.declared.failure.Failure.{Failure}
 use Rattle.command_line.specs.declared.failure.Failure.TheVariants as failed
@@ -127,32 +128,32 @@ abbrev pub WritesResult : {W : Type 0} → ParsedArgs → KnownFiles → List (L
 WritesResult parsed bytes_of folders left contents old new =
     (page : List ℕ) × IsResult parsed bytes_of folders left page × AppendsTo contents old new page
 
--- The program ends for a failure. The output is as it was, unless it is the output that failed.
-abbrev pub EndsFailed : {W : Type 0} → ParsedArgs → KnownFiles → List (List ℕ) → Option (List ℕ)
-    → (End → Type 0) → W → W → Type 0
-EndsFailed parsed bytes_of folders left EndsSo old new = (failure : Failure) × EndsSo (Fails failure)
-    × IsFailureFor parsed bytes_of folders left failure × ((failure ≡ failed.Output) ⊎ (new ≡ old))
-
 -- How the program ends for its arguments. If one is refused, it says which, or memory was refused. Else it is done, and
--- what they ask for was written, or it fails.
+-- what they ask for was written, or it fails. After a failure the output is as it was, unless it is the output that failed.
 abbrev pub EndsFor : {W : Type 0} → Result ParsedArgs RefusedArgument → KnownFiles → List (List ℕ) → Option (List ℕ)
-    → (End → Type 0) → (W → Option (List ℕ)) → W → W → Type 0
-EndsFor (Err refused) bytes_of folders left EndsSo contents old new =
-    EndsSo (Refuses refused) ⊎ EndsSo (Fails failed.Memory)
-EndsFor (Ok parsed) bytes_of folders left EndsSo contents old new =
-    (EndsSo (Done []) × WritesResult parsed bytes_of folders left contents old new)
-    ⊎ EndsFailed parsed bytes_of folders left EndsSo old new
+    → (W → Option (List ℕ)) → W → W → End → Type 0
+EndsFor (Err refused) bytes_of folders left contents old new end = IsRefusal refused end
+EndsFor (Ok parsed) bytes_of folders left contents old new (Done notes) =
+    (notes ≡ []) × WritesResult parsed bytes_of folders left contents old new
+EndsFor (Ok parsed) bytes_of folders left contents old new (Fails failure) =
+    IsFailureFor parsed bytes_of folders left failure × ((failure ≡ failed.Output) ⊎ (new ≡ old))
+EndsFor (Ok parsed) bytes_of folders left contents old new (Refuses refused) = ⊥
 
 -- Standard input is none of the inputs of arguments, or one of the arguments is refused.
 abbrev pub names_files_alone : Result ParsedArgs RefusedArgument → Bool
 names_files_alone (Ok parsed) = not (list_any is_standard_input parsed.inputs)
 names_files_alone (Err refused) = true
 
--- If no help was asked for, the program ends so for its arguments. Standard input is then left as it was if it is none
--- of the inputs.
+-- The program ends so for its arguments, as they are parsed. Standard input is left as it was if it is none of the inputs.
+abbrev pub EndsParsed : {W I : Type 0} → List (Bor (List ℕ)) → KnownFiles → List (List ℕ)
+    → (I → Option (List ℕ)) → I → I → (W → Option (List ℕ)) → W → W → End → Type 0
+EndsParsed args bytes_of folders remaining before after contents old new end =
+    (parsed : Result ParsedArgs RefusedArgument) × IsParsed args parsed
+    × EndsFor parsed bytes_of folders (remaining before) contents old new end
+    × (names_files_alone parsed ≡ true → after ≡ before)
+
+-- If no help was asked for, the program ends so for its arguments.
 abbrev pub EndsUnlessAsked : {W I : Type 0} → List (Bor (List ℕ)) → KnownFiles → List (List ℕ)
     → (I → Option (List ℕ)) → I → I → (End → Type 0) → (W → Option (List ℕ)) → W → W → Type 0
-EndsUnlessAsked args bytes_of folders remaining before after EndsSo contents old new =
-    asked_text args ≡ None → (parsed : Result ParsedArgs RefusedArgument) × IsParsed args parsed
-    × EndsFor parsed bytes_of folders (remaining before) EndsSo contents old new
-    × (names_files_alone parsed ≡ true → after ≡ before)
+EndsUnlessAsked args bytes_of folders remaining before after EndsSo contents old new = asked_text args ≡ None
+    → EndsIn EndsSo (EndsParsed args bytes_of folders remaining before after contents old new)

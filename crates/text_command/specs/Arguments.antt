@@ -2,7 +2,7 @@
 use Rattle.std.specs.Prelude.{◌≡◌, ℕ, Bool, true, false, List, [], ◌∷◌, codes, map, Option, Some, None, Result, Ok, Err, unwrap_or}
 use Rattle.std.specs.Borrow.{Bor}
 use Rattle.hyphenation_breaks.specs.Borrowed.{texts_now}
-use Rattle.command_line.specs.Options.{GivenOption, ReadArguments, RefusedArgument, refused, after_step, read_arguments, is_given, last_value, number_given}
+use Rattle.command_line.specs.Options.{GivenOption, ReadArguments, RefusedArgument, refused, after_step, read_arguments, names_of, is_given, last_value, number_given}
 use Rattle.command_line.specs.declared.options.Expected.TheVariants.{Operand}
 use Rattle.command_line.specs.declared.options.OptionForm.{OptionForm}
 use Rattle.text_results.specs.Targets.{Target, target_of, names_for}
@@ -56,10 +56,6 @@ args_as_read read =
 -- All arguments by the forms of options, or the first that is refused.
 abbrev pub parsed_by : List OptionForm → List (Bor (List ℕ)) → Result ParsedArgs RefusedArgument
 parsed_by forms args = after_step args_as_read (read_arguments forms (texts_now args))
-
--- The names of options, each with whether it takes a value.
-abbrev pub names_of : List OptionForm → List (List ℕ × Bool)
-names_of forms = map (λ form. (form.name.now, form.takes_value)) forms
 
 -- The options of the program.
 abbrev pub option_names : List (List ℕ × Bool)

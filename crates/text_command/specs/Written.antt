@@ -9,6 +9,7 @@ use Rattle.command_line.specs.Dictionaries.{KnownFiles, IsOfArgument, IsFailureO
 use Rattle.command_line.specs.Endings.{End}
 use Rattle.command_line.specs.Inputs.{is_standard_input, AreTextsOf}
 use Rattle.command_line.specs.Options.{RefusedArgument}
+use Rattle.command_line.specs.Steps.{EndsIn}
 use Rattle.command_line.specs.declared.TheConstants.{VERSION}
 use Rattle.command_line.specs.declared.failure.Failure.{Failure}
 use Rattle.command_line.specs.declared.failure.Failure.TheVariants as failed
@@ -58,23 +59,29 @@ IsFailureBefore args bytes_of folders left failure = (dictionary : AnyDictionary
 
 -- How the program ends for its arguments: one is refused, or the results of its texts are written or fail.
 abbrev pub EndsFor : {W S : Type 0} → Result ParsedArgs RefusedArgument → KnownFiles → List (List ℕ) → Option (List ℕ)
-    → (End → Type 0) → (W → Option (List ℕ)) → W → W → (S → Option WrittenFiles) → S → S → Type 0
-EndsFor (Err refused) bytes_of folders left EndsSo contents old new written old_files new_files =
-    EndsRefused refused EndsSo old_files new_files
-EndsFor (Ok args) bytes_of folders left EndsSo contents old new written old_files new_files =
+    → (W → Option (List ℕ)) → W → W → (S → Option WrittenFiles) → S → S → End → Type 0
+EndsFor (Err refused) bytes_of folders left contents old new written old_files new_files =
+    EndsRefused refused old_files new_files
+EndsFor (Ok args) bytes_of folders left contents old new written old_files new_files =
     Ends (AreResults args bytes_of folders left) (IsFailureBefore args bytes_of folders left) args.options.target args.inputs
-    EndsSo contents old new written old_files new_files
+    contents old new written old_files new_files
 
 -- Standard input is none of the texts of arguments, or one of the arguments is refused.
 abbrev pub names_files_alone : Result ParsedArgs RefusedArgument → Bool
 names_files_alone (Ok args) = not (list_any is_standard_input args.inputs)
 names_files_alone (Err refused) = true
 
--- If no help was asked for, the program ends so for its arguments. Standard input is then as it was if it is none of the
--- texts.
+-- The program ends so for its arguments, as they are parsed. Standard input is as it was if it is none of the texts.
+abbrev pub EndsParsed : {W S I : Type 0} → List (Bor (List ℕ)) → KnownFiles → List (List ℕ) → (I → Option (List ℕ)) → I → I
+    → (W → Option (List ℕ)) → W → W → (S → Option WrittenFiles) → S → S → End → Type 0
+EndsParsed args bytes_of folders remaining before after contents old new written old_files new_files end =
+    (parsed : Result ParsedArgs RefusedArgument) × IsParsed args parsed
+    × EndsFor parsed bytes_of folders (remaining before) contents old new written old_files new_files end
+    × (names_files_alone parsed ≡ true → after ≡ before)
+
+-- If no help was asked for, the program ends so for its arguments.
 abbrev pub EndsUnlessAsked : {W S I : Type 0} → List (Bor (List ℕ)) → KnownFiles → List (List ℕ) → (I → Option (List ℕ)) → I → I
     → (End → Type 0) → (W → Option (List ℕ)) → W → W → (S → Option WrittenFiles) → S → S → Type 0
 EndsUnlessAsked args bytes_of folders remaining before after EndsSo contents old new written old_files new_files =
-    asked_text args ≡ None → (parsed : Result ParsedArgs RefusedArgument) × IsParsed args parsed
-    × EndsFor parsed bytes_of folders (remaining before) EndsSo contents old new written old_files new_files
-    × (names_files_alone parsed ≡ true → after ≡ before)
+    asked_text args ≡ None → EndsIn EndsSo
+    (EndsParsed args bytes_of folders remaining before after contents old new written old_files new_files)

@@ -2,8 +2,9 @@
 
 ghost use Rattle.std.specs.Prelude.{◌≡◌, IfErr, IfOk, Ok, option_copied};
 ghost use Rattle.hyphenation_breaks.specs.Borrowed.{texts_now};
+ghost use Rattle.command_line.specs.Options.{names_of};
 ghost use Rattle.command_line.specs.Reading.{as_read, given_options, IsReadError};
-ghost use Rattle.text_command.specs.Arguments.{names_of, option_names, options_of};
+ghost use Rattle.text_command.specs.Arguments.{option_names, options_of};
 ghost use Rattle.text_command.specs.Arguments.{args_with, args_of, args_as_read, parsed_by};
 ghost use Rattle.text_command.specs.Private.Requests.{parsed_options, parsed_request, AreAsWanted};
 

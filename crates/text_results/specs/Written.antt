@@ -2,7 +2,7 @@
 use Rattle.std.specs.Prelude.{◌≡◌, ◌⊎◌, ℕ, List, [], ◌∷◌, ◌++◌, Option, ⊤}
 use Rattle.std.specs.List.{concat, zip}
 use Rattle.std.specs.String.{string_bytes}
-use Rattle.command_line.specs.Endings.{End, Done, Refuses, Fails}
+use Rattle.command_line.specs.Endings.{End, Done, Refuses, Fails, IsRefusal}
 use Rattle.command_line.specs.Options.{RefusedArgument}
 use Rattle.command_line.specs.declared.failure.Failure.{Failure}
 use Rattle.command_line.specs.declared.failure.Failure.TheVariants as failed
@@ -52,21 +52,22 @@ IsFailureFor AreSuch FailsBefore target names written old new failure =
     ⊎ ((results : List (List ℕ)) × AreSuch results
     × IsFailureOfWriting target names results (written old) (written new) failure)
 
--- A program ends for a failure. The output is as it was, unless it is the output that failed.
+-- A program ends for this failure. The output is as it was, unless it is the output that failed.
 abbrev pub EndsFailed : {W S : Type 0} → (List (List ℕ) → Type 0) → (Failure → Type 0) → Target → List (List ℕ)
-    → (End → Type 0) → W → W → (S → Option WrittenFiles) → S → S → Type 0
-EndsFailed AreSuch FailsBefore target names EndsSo old new written old_files new_files = (failure : Failure)
-    × EndsSo (Fails failure) × IsFailureFor AreSuch FailsBefore target names written old_files new_files failure
+    → W → W → (S → Option WrittenFiles) → S → S → Failure → Type 0
+EndsFailed AreSuch FailsBefore target names old new written old_files new_files failure =
+    IsFailureFor AreSuch FailsBefore target names written old_files new_files failure
     × ((failure ≡ failed.Output) ⊎ (new ≡ old))
 
 -- A program ends so whose arguments are accepted: it is done, and results that are right were written, or it fails.
 abbrev pub Ends : {W S : Type 0} → (List (List ℕ) → Type 0) → (Failure → Type 0) → Target → List (List ℕ)
-    → (End → Type 0) → (W → Option (List ℕ)) → W → W → (S → Option WrittenFiles) → S → S → Type 0
-Ends AreSuch FailsBefore target names EndsSo contents old new written old_files new_files =
-    (EndsSo (Done []) × WritesResults AreSuch target names contents old new written old_files new_files)
-    ⊎ EndsFailed AreSuch FailsBefore target names EndsSo old new written old_files new_files
+    → (W → Option (List ℕ)) → W → W → (S → Option WrittenFiles) → S → S → End → Type 0
+Ends AreSuch FailsBefore target names contents old new written old_files new_files (Done notes) =
+    (notes ≡ []) × WritesResults AreSuch target names contents old new written old_files new_files
+Ends AreSuch FailsBefore target names contents old new written old_files new_files (Fails failure) =
+    EndsFailed AreSuch FailsBefore target names old new written old_files new_files failure
+Ends AreSuch FailsBefore target names contents old new written old_files new_files (Refuses refused) = ⊥
 
 -- A program ends so if it refuses an argument, or is refused memory before it knows. No file was replaced.
-abbrev pub EndsRefused : {S : Type 0} → RefusedArgument → (End → Type 0) → S → S → Type 0
-EndsRefused refused EndsSo old_files new_files =
-    (EndsSo (Refuses refused) ⊎ EndsSo (Fails failed.Memory)) × (new_files ≡ old_files)
+abbrev pub EndsRefused : {S : Type 0} → RefusedArgument → S → S → End → Type 0
+EndsRefused refused old_files new_files end = IsRefusal refused end × (new_files ≡ old_files)

@@ -1,13 +1,10 @@
 -- How a request in code corresponds to parsed arguments.
-use Rattle.std.specs.Prelude.{◌≡◌, ℕ, List, option_map, Result, Ok, Err, ⊤}
-use Rattle.std.specs.Borrow.{Bor}
+use Rattle.std.specs.Prelude.{◌≡◌, ℕ, List, option_map, Result, Ok, Err}
 use Rattle.hyphenation_breaks.specs.Borrowed.{texts_now}
 use Rattle.command_line.specs.Options.{RefusedArgument}
 use Rattle.command_line.specs.Reading.{as_refused}
 use Rattle.command_line.specs.declared.options.BadArgument.{BadArgument}
-use Rattle.command_line.specs.declared.options.ReadError.{ReadError}
-use Rattle.command_line.specs.declared.options.ReadError.TheVariants.{Bad, Memory}
-use Rattle.lines_command.specs.Arguments.{ParsedOptions, ParsedArgs, IsParsed}
+use Rattle.lines_command.specs.Arguments.{ParsedOptions, ParsedArgs}
 use Rattle.lines_command.specs.declared.request.Options.{Options}
 use Rattle.lines_command.specs.declared.request.Request.{Request}
 
@@ -36,8 +33,3 @@ parsed_request request = record {
 abbrev pub AreAsWanted : Result Options BadArgument → Result ParsedOptions RefusedArgument → Type 0
 AreAsWanted (Ok options) wanted = wanted ≡ Ok (parsed_options options)
 AreAsWanted (Err bad) wanted = wanted ≡ Err (as_refused bad)
-
--- Arguments are refused so, or memory was refused.
-abbrev pub AreRefused : List (Bor (List ℕ)) → ReadError → Type 0
-AreRefused args (Bad bad) = IsParsed args (Err (as_refused bad))
-AreRefused args Memory = ⊤

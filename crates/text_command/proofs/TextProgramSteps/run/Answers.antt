@@ -1,0 +1,16 @@
+use Rattle.hyphenation_breaks.specs.Borrowed.{texts_now}
+use Rattle.text_command.specs.Private.Requests.{parsed_request}
+use Rattle.text_command.proofs.Endings.{ends_done, ends_failed}
+use Rattle.text_command.proofs.TextProgramSteps.run.Goals as goal
+
+pub returns-clause-done : goal.returns-clause-done
+returns-clause-done g c =
+    ends_done c.run.result c.args.self.now.call.args.now (parsed_request c.args.request) (g.F.NamedFiles.bytes c.args.self.now.files.now) (texts_now c.args.self.now.call.folders.now)
+    g.I.Read.remaining c.args.input.now c.run.new.input g.O.Write.contents c.args.output.now c.run.new.output g.S.ReplaceFiles.written c.args.store.now c.run.new.store
+    c.requires c.run.ensures.unread c.run.ensures.written
+
+pub returns-clause-failed : goal.returns-clause-failed
+returns-clause-failed g c =
+    ends_failed c.run.result c.args.self.now.call.args.now (parsed_request c.args.request) (g.F.NamedFiles.bytes c.args.self.now.files.now) (texts_now c.args.self.now.call.folders.now)
+    g.I.Read.remaining c.args.input.now c.run.new.input g.O.Write.contents c.args.output.now c.run.new.output g.S.ReplaceFiles.written c.args.store.now c.run.new.store
+    c.requires c.run.ensures.unread c.run.ensures.failure c.run.ensures.untouched
