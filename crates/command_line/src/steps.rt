@@ -15,7 +15,7 @@ use crate::options::{ReadError, report_bad_argument};
 use std::alloc::Global;
 use std::io::Write;
 
-/// What a program has to say once it is done. `()` is for programs that say nothing then.
+/// The notes that a program has once it is done. `()` is for programs that have none.
 pub trait Notes: Drop {
     /// The text of all notes.
     ghost text: { Self → List ℕ };
@@ -31,7 +31,7 @@ impl Notes for () {
     fn tell<E: Write>(&self, _alloc: Global, _errors: &mut Messages<E>) {}
 }
 
-/// What a program says of itself.
+/// The texts of a program about itself.
 #[derive(Clone, Copy)]
 pub struct ProgramTexts {
     /// The name, for messages and `--version`.
@@ -47,7 +47,7 @@ pub struct ProgramTexts {
 pub trait ProgramSteps<S, I, O> {
     /// The arguments as parsed.
     type Request: Drop;
-    /// The notes that the program has once it is done.
+    /// The notes of the program.
     type Told: Notes;
 
     /// The arguments.
