@@ -23,7 +23,7 @@ class Crate:
         self.top = "src/lib.rt" if (self.folder / "src/lib.rt").exists() else "src/main.rt"
 
     def library(self):
-        """The crate as the crates above it read it, where `rt ci` or `rt lib` left it."""
+        """The crate as the crates above it read it, where `tools/rt-ci`, `tools/prove` or `rt lib` left it."""
         return self.folder / "out/rlib" / f"{self.name}.rlib"
 
     def is_library(self):
