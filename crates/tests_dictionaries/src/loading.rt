@@ -197,18 +197,17 @@ fn a_dictionary_is_loaded_from_the_file_of_its_path(rt: HostRuntime) -> Result<(
     expect_outcome(rt.alloc(), extended, "loaded")
 }
 
+// Fails unless loading a dictionary of each kind from this path has this outcome.
+fn expect_both_outcomes(rt: &HostRuntime, path: &str, wanted: &str) -> Result<(), Fail> {
+    let standard = breaks_by_file(rt, Language::english_us(), path)?;
+    expect_equal(&standard.as_str(), &wanted)?;
+    let extended = Extended::from_path(rt, rt.alloc(), Language::hungarian(), path);
+    expect_outcome(rt.alloc(), extended, wanted)
+}
+
 #[test]
 fn a_missing_file_and_a_folder_are_errors_of_reading(rt: HostRuntime) -> Result<(), Fail> {
     let missing = new_path(&rt, "missing")?;
-    let rows = [
-        (missing.as_str(), "No such file or directory (os error 2)"),
-        (".", "Is a directory (os error 21)"),
-    ];
-    for (path, wanted) in &rows {
-        let standard = breaks_by_file(&rt, Language::english_us(), path)?;
-        expect_equal(&standard.as_str(), wanted)?;
-        let extended = Extended::from_path(&rt, rt.alloc(), Language::hungarian(), path);
-        expect_outcome(rt.alloc(), extended, wanted)?;
-    }
-    Ok(())
+    expect_both_outcomes(&rt, &missing, "No such file or directory (os error 2)")?;
+    expect_both_outcomes(&rt, ".", "Is a directory (os error 21)")
 }
