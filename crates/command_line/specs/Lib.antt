@@ -2,6 +2,7 @@ pub mod Private
 pub mod About
 pub mod OptionLaws
 pub mod Options
+pub mod Programs
 pub mod Usage
 pub mod Reading
 pub mod Failures

@@ -13,6 +13,7 @@ pub mod folders;
 pub mod inputs;
 mod messages;
 pub mod options;
+pub mod programs;
 mod steps;
 
 pub use about::write_help_or_version;

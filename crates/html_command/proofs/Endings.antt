@@ -17,7 +17,7 @@ use Rattle.command_line.specs.declared.options.OptionForm.{OptionForm}
 use Rattle.command_line.specs.declared.options.ReadError.{ReadError}
 use Rattle.command_line.specs.declared.options.ReadError.TheVariants.{Bad, Memory}
 use Rattle.hyphenation_load.specs.Load.{AppendsTo}
-use Rattle.replaced_files.specs.Files.{WrittenFiles, WritesFiles}
+use Rattle.text_results.specs.Files.{WrittenFiles, WritesFiles}
 use Rattle.html_command.specs.Arguments.{ParsedArgs, IsParsed, language_words, option_names, parsed_by}
 use Rattle.html_command.specs.Notes.{MarkedPage, notes_of, notes_text, texts_of}
 use Rattle.html_command.specs.Private.Runs.{WritesNoted}

@@ -12,7 +12,7 @@ use Rattle.command_line.specs.declared.failure.Failure.TheVariants as failed
 use Rattle.hyphenation_html.specs.Laws.{IsPageWithMarks, soft_hyphen}
 use Rattle.hyphenation_html.specs.Places.{IsDone, marked_page}
 use Rattle.hyphenation_html.specs.declared.languages.LanguageDictionary.{LanguageDictionary}
-use Rattle.replaced_files.specs.Files.{WrittenFiles}
+use Rattle.text_results.specs.Files.{WrittenFiles}
 use Rattle.text_results.specs.Texts.{IsFailureAmong, left_after}
 use Rattle.text_results.specs.Written.{IsFailureFor}
 use Rattle.html_command.specs.Arguments.{ParsedArgs}

@@ -15,7 +15,7 @@ use Rattle.hyphenation_html.specs.Laws.{IsPageWithMarks, soft_hyphen}
 use Rattle.hyphenation_html.specs.Places.{marked_page, IsDone}
 use Rattle.hyphenation_html.specs.declared.languages.LanguageDictionary.{LanguageDictionary}
 use Rattle.hyphenation_html.specs.declared.settings.Settings.{Settings}
-use Rattle.replaced_files.specs.Files.{WrittenFiles}
+use Rattle.text_results.specs.Files.{WrittenFiles}
 use Rattle.text_results.specs.Texts.{IsFailureAmong}
 use Rattle.text_results.specs.Written.{EndsFailed, EndsRefused, WritesResults}
 use Rattle.html_command.specs.declared.TheConstants.{NAME, USAGE}

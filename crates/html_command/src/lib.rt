@@ -22,11 +22,11 @@ mod run;
 use command_line::options::ReadError;
 use command_line::{Failure, Messages, NamedFiles, Notes, ProgramSteps, ProgramTexts, VERSION};
 use notes::{PageNote, write_notes};
-pub use replaced_files::{Recorded, ReplaceFiles};
 use request::{Request, language_form, option_forms};
 use run::run;
 use std::alloc::Global;
 use std::io::{Read, Write};
+pub use text_results::files::{Recorded, ReplaceFiles};
 
 /// A call of the program: its arguments, and the folders in which dictionaries are searched that no path names.
 #[derive(Clone, Copy)]

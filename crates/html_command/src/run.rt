@@ -13,9 +13,9 @@ use crate::notes::{Note, PageNote, note_on, push_note};
 use crate::request::{Options, Request};
 use command_line::{Failure, NamedFiles};
 use hyphenation_html::{HtmlPage, LanguageDictionary, hyphenate_html};
-use replaced_files::ReplaceFiles;
 use std::alloc::{AllocError, Global};
 use std::io::{Read, Write};
+use text_results::files::ReplaceFiles;
 use text_results::results::write_results;
 use text_results::texts::{push, read_texts};
 

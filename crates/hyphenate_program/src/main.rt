@@ -4,9 +4,9 @@
 #![tactic(auto)]
 
 use command_line::folders::default_folders;
+use command_line::programs::{Program, called, program_at};
 use command_line::{Messages, report_bad_args, with_words};
 use language_search::folders_of;
-use program_names::{Program, called, program_at};
 use std::alloc::AllocError;
 use std::env::Env;
 use std::io::Write;

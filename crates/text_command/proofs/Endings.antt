@@ -16,7 +16,7 @@ use Rattle.command_line.specs.declared.options.OptionForm.{OptionForm}
 use Rattle.command_line.specs.declared.options.ReadError.{ReadError}
 use Rattle.command_line.specs.declared.options.ReadError.TheVariants.{Bad, Memory}
 use Rattle.hyphenation_load.specs.Load.{AppendsTo}
-use Rattle.replaced_files.specs.Files.{WrittenFiles, WritesFiles}
+use Rattle.text_results.specs.Files.{WrittenFiles, WritesFiles}
 use Rattle.text_command.specs.Arguments.{ParsedArgs, IsParsed, option_names, parsed_by}
 use Rattle.text_command.specs.Written.{AreResults, EndsFor, EndsParsed, IsFailureBefore}
 use Rattle.text_results.specs.Written.{EndsFailed, IsFailureFor, IsFailureOfWriting, WritesResults, files_of, output_of}

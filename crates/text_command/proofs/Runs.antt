@@ -6,7 +6,7 @@ use Rattle.command_line.specs.Failures.{status_of}
 use Rattle.command_line.specs.Inputs.{IsFailureOfInput}
 use Rattle.command_line.specs.declared.failure.Failure.{Failure}
 use Rattle.command_line.specs.declared.failure.Failure.TheVariants as failed
-use Rattle.replaced_files.specs.Files.{WrittenFiles}
+use Rattle.text_results.specs.Files.{WrittenFiles}
 use Rattle.text_results.specs.Texts.{IsFailureAmong, left_after}
 use Rattle.text_results.specs.Written.{IsFailureFor}
 use Rattle.text_command.specs.Arguments.{ParsedArgs}

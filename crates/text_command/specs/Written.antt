@@ -15,7 +15,7 @@ use Rattle.command_line.specs.declared.failure.Failure.{Failure}
 use Rattle.command_line.specs.declared.failure.Failure.TheVariants as failed
 use Rattle.hyphenation_html.specs.Texts.{hyphenated_by}
 use Rattle.hyphenation_html.specs.Words.{within_limits}
-use Rattle.replaced_files.specs.Files.{WrittenFiles}
+use Rattle.text_results.specs.Files.{WrittenFiles}
 use Rattle.text_results.specs.Texts.{IsFailureAmong}
 use Rattle.text_results.specs.Written.{Ends, EndsRefused}
 use Rattle.text_command.specs.Arguments.{ParsedArgs, ParsedOptions, IsParsed}

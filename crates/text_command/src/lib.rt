@@ -18,11 +18,11 @@ mod run;
 
 use command_line::options::ReadError;
 use command_line::{Failure, Messages, NamedFiles, ProgramSteps, ProgramTexts, VERSION};
-pub use replaced_files::{Recorded, ReplaceFiles};
 use request::{Request, option_forms};
 use run::run;
 use std::alloc::Global;
 use std::io::{Read, Write};
+pub use text_results::files::{Recorded, ReplaceFiles};
 
 /// A call of the program: its arguments, and the folders in which dictionaries are searched that no path names.
 #[derive(Clone, Copy)]

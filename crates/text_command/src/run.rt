@@ -15,9 +15,9 @@ use any_dictionary::AnyDictionary;
 use command_line::dictionaries::load_dictionary;
 use command_line::{Failure, NamedFiles};
 use hyphenation_html::{Settings, hyphenate_text};
-use replaced_files::ReplaceFiles;
 use std::alloc::{AllocError, Global};
 use std::io::{Read, Write};
+use text_results::files::ReplaceFiles;
 use text_results::results::write_results;
 use text_results::texts::{bytes_of, push, read_texts};
 

@@ -6,7 +6,7 @@ use Rattle.std.proofs.lemmas.List.{append-nil}
 use Rattle.std.specs.Io.KnownBytes.{Appends}
 use Rattle.command_line.specs.declared.failure.Failure.{Failure}
 use Rattle.command_line.specs.declared.failure.Failure.TheVariants as failed
-use Rattle.replaced_files.specs.Files.{WrittenFiles, WritesFiles}
+use Rattle.text_results.specs.Files.{WrittenFiles, WritesFiles}
 use Rattle.text_results.specs.Targets.{InPlace, ToFile}
 use Rattle.hyphenation_breaks.specs.Borrowed.{texts_now}
 use Rattle.text_results.proofs.Reading.{names_on}

@@ -3,3 +3,4 @@ pub mod Targets
 pub mod Texts
 pub mod Written
 pub mod Reading
+pub mod Files

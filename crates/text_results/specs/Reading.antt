@@ -8,7 +8,7 @@ use Rattle.command_line.specs.Options.{RefusedArgument}
 use Rattle.command_line.specs.Reading.{as_refused}
 use Rattle.command_line.specs.declared.failure.Failure.{Failure}
 use Rattle.command_line.specs.declared.options.BadArgument.{BadArgument}
-use Rattle.replaced_files.specs.Files.{WrittenFiles}
+use Rattle.text_results.specs.Files.{WrittenFiles}
 use Rattle.text_results.specs.Targets.{Target, ToOutput, ToFile, InPlace}
 use Rattle.text_results.specs.Written.{files_of, IsFailureOfWriting}
 use Rattle.text_results.specs.declared.targets.Target as code

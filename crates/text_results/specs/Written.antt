@@ -7,7 +7,7 @@ use Rattle.command_line.specs.Options.{RefusedArgument}
 use Rattle.command_line.specs.declared.failure.Failure.{Failure}
 use Rattle.command_line.specs.declared.failure.Failure.TheVariants as failed
 use Rattle.hyphenation_load.specs.Load.{AppendsTo}
-use Rattle.replaced_files.specs.Files.{WrittenFiles, WritesFiles}
+use Rattle.text_results.specs.Files.{WrittenFiles, WritesFiles}
 use Rattle.text_results.specs.Targets.{Target, ToOutput, ToFile, InPlace}
 
 -- The files that get results. The file of the output gets all of them, one after the other, or each of the named files gets its

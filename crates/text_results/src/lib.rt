@@ -4,6 +4,7 @@
 //! or each into the file from which its text came.
 #![tactic(auto)]
 
+pub mod files;
 pub mod results;
 pub mod targets;
 pub mod texts;

@@ -9,7 +9,7 @@ use Rattle.command_line.specs.Dictionaries.{KnownFiles}
 use Rattle.command_line.specs.Inputs.{AreTextsOf}
 use Rattle.command_line.specs.declared.failure.Failure.{Failure}
 use Rattle.command_line.specs.declared.failure.Failure.TheVariants as failed
-use Rattle.replaced_files.specs.Files.{WrittenFiles}
+use Rattle.text_results.specs.Files.{WrittenFiles}
 use Rattle.text_results.specs.Written.{WritesResults, IsFailureFor}
 use Rattle.text_command.specs.Arguments.{ParsedArgs}
 use Rattle.text_command.specs.Private.Requests.{parsed_request}

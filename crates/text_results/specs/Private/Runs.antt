@@ -7,7 +7,7 @@ use Rattle.command_line.specs.Dictionaries.{KnownFiles}
 use Rattle.command_line.specs.Inputs.{AreTextsOf}
 use Rattle.command_line.specs.declared.failure.Failure.{Failure}
 use Rattle.command_line.specs.declared.failure.Failure.TheVariants as failed
-use Rattle.replaced_files.specs.Files.{WrittenFiles, WritesFiles}
+use Rattle.text_results.specs.Files.{WrittenFiles, WritesFiles}
 use Rattle.text_results.specs.Targets.{ToFile}
 use Rattle.text_results.specs.Texts.{IsFailureAmong}
 use Rattle.text_results.specs.Written.{IsFailureOfWriting}

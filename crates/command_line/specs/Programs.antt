@@ -1,8 +1,8 @@
 -- The programs that one file holds, and which of them is called.
 use Rattle.std.specs.Prelude.{ℕ, ◌==◌, if◌then◌else◌, List, [], ◌∷◌, codes, Option, Some, None}
 use Rattle.std.specs.Str.{bytes_eq}
-use Rattle.program_names.specs.declared.Program.{Program}
-use Rattle.program_names.specs.declared.Program.TheVariants as program
+use Rattle.command_line.specs.declared.programs.Program.{Program}
+use Rattle.command_line.specs.declared.programs.Program.TheVariants as program
 
 -- The byte of a slash.
 abbrev pub slash : ℕ

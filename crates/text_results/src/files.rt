@@ -2,11 +2,10 @@
 //!
 //! [`ReplaceFiles`] is implemented for the files of a runtime, and for a list that records what was written
 //! ([`Recorded`]). So a contract over any `ReplaceFiles` says which file gets which bytes.
-#![tactic(auto)]
 
 ghost use Rattle.std.specs.Prelude.{◌∷◌, [], Option, None, Some, OnErr, OnOk, map};
 ghost use Rattle.std.specs.String.{string_bytes};
-ghost use Rattle.replaced_files.specs.Files.{WrittenFiles, WritesFiles};
+ghost use Rattle.text_results.specs.Files.{WrittenFiles, WritesFiles};
 
 use std::alloc::Global;
 use std::fs::{Files, Metadata, OpenFile, OpenOptions};

@@ -1,9 +1,8 @@
 //! The programs that one file holds, and which of them a command line calls.
-#![tactic(auto)]
 
 ghost use Rattle.std.specs.Prelude.{◌≡◌, option_map};
 ghost use Rattle.hyphenation_breaks.specs.Borrowed.{texts_now};
-ghost use Rattle.program_names.specs.Names.{called, called_by_first, file_name, program_of};
+ghost use Rattle.command_line.specs.Programs.{called, called_by_first, file_name, program_of};
 
 /// A program.
 #[derive(Clone, Copy, PartialEq, Eq, Debug)]
@@ -38,7 +37,7 @@ fn file_name(path: &[u8]) -> &[u8]
 }
 
 // Returns the program of a name.
-#[tactic(auto, unfolding(crate::specs::Names::program_of))]
+#[tactic(auto, unfolding(crate::specs::Programs::program_of))]
 fn program_of(name: &[u8]) -> Option<Program>
     ensures { result ≡ program_of name.now }
 {
