@@ -153,6 +153,12 @@ def stamps_of(crates, kit):
         return found
 
 
+def commit_of(root=ROOT):
+    """The name of the commit that is checked out; where there is none, one text for all."""
+    ran = subprocess.run(["git", "rev-parse", "HEAD"], cwd=root, capture_output=True, text=True)
+    return ran.stdout.strip() or "no commit"
+
+
 def lanes(gigabytes, jobs=0):
     """How many checks run at once: one for each processor, if each finds that much free memory."""
     free = 0
