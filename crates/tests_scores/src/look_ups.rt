@@ -1,119 +1,81 @@
-//! The numbers of look-ups and of reports that a score takes.
+//! The numbers of look-ups and of reports that a score takes by a table.
 
-use crate::values::{BOTH, EXTENDED, is_extended};
-use hyphenation_dictionary::dictionary::{Extended, Standard};
+use hyphenation_dictionary::dictionary::Standard;
 use hyphenation_score::{LookUps, Score};
-use std::alloc::{AllocError, Global};
+use std::alloc::Global;
 use std::test::Fail;
 use test_dictionaries::load;
-use test_support::{expect, expect_equal_in, rows_of};
+use test_support::expect_equal_in;
 
-/// The counts of scoring a word by a loaded dictionary of either kind.
-pub fn count<'d, D: Score<'d>>(
-    alloc: Global,
-    dictionary: &'d D,
-    word: &str,
-) -> Result<LookUps, AllocError> {
+// The numbers of look-ups and of reports of scoring a word by the table of the dictionary of a text. Without a table
+// both are 0.
+fn counts_by_table(alloc: Global, text: &str, word: &str) -> Result<(u128, u128), Fail> {
+    let mut dictionary: Standard = load(alloc, text)?;
     let mut count = LookUps::new();
-    let _values = dictionary.score_counted(alloc, word, &mut count)?;
-    Ok(count)
-}
-
-/// The counts of scoring a word by the dictionary whose text is this head and these lines.
-pub fn look_ups_by(alloc: Global, head: &str, lines: &str, word: &str) -> Result<LookUps, Fail> {
-    let text = format!(in alloc; "{head}{lines}")?;
-    if is_extended(&text) {
-        Ok(count(alloc, &load::<Extended>(alloc, &text)?, word)?)
-    } else {
-        Ok(count(alloc, &load::<Standard>(alloc, &text)?, word)?)
+    if dictionary.make_table(alloc)? {
+        let _values = dictionary.score_counted(alloc, word, &mut count)?;
     }
+    Ok((count.made(), count.reported()))
 }
 
-/// Fails, with the case and both numbers, unless a score takes that many look-ups, and as many reports.
-pub fn expect_look_ups(
-    shows: &str,
-    count: &LookUps,
-    least: u128,
-    most: u128,
-    reported: u128,
-) -> Result<(), Fail> {
-    let made = count.made();
-    expect(
-        least <= made && made <= most,
-        format_args!("{shows}: {least} to {most} look-ups and not {made}"),
-    )?;
-    expect_equal_in(shows, &count.reported(), &reported)
-}
+const FIRKIN: &str =
+    "hyphenation 1 standard\nlanguage x\nminima 0 0\np .fi2\np i2r\np r2k\np r5kin\np k1in\np k2in.\n";
 
-// Each row has its sentence, and a word with the keys of a dictionary, and the number of its reports. The frame has
-// two bytes more than the word, and each takes one look-up or two.
-const LOOK_UPS: &str = "\
-six keys that occur are reported once each
-firkin by .fi2 i2r r2k r5kin k1in k2in. => 6
-five of these keys occur in a longer word
-firkins by .fi2 i2r r2k r5kin k1in k2in. => 5
-no byte is read again where a key lacks its last letter
-aaaaaaaaaaaaaaaaaaaa by aaaaaaa1b => 0
-no byte is read again where keys end
-aaaaaaaaaaaaaaaaaaaa by aaaaaaa1 => 14
-a letter that begins a key anew is read twice at most
-aab by a1b => 1
-a key is reported wherever it stands
-aaa by a1 aa => 5
-a key with an edge is reported once
-aaa by a1 aa .aa aa. => 7
-the beginning of a key is not reported
-abc by abc1d => 0
-keys within keys are reported
-ushers by he2 she1 his3 hers1 => 3
-";
+const RUN: &str = "hyphenation 1 standard\nlanguage x\nminima 0 0\np aaaaaaa1\n";
 
-// The lines of these keys, which have a space between them.
-fn lines_of(alloc: Global, keys: &str) -> Result<String, AllocError> {
-    let mut lines = String::new(alloc);
-    for key in keys.split_whitespace() {
-        lines.push_str(&format!(in alloc; "p {key}\n")?)?;
-    }
-    Ok(lines)
-}
+const EDGES: &str = "hyphenation 1 standard\nlanguage x\nminima 0 0\np a1\np aa\np .aa\np aa.\n";
 
-// Fails unless each byte of a word's frame takes one look-up or two, with that many reports, by both kinds of
-// dictionary.
-fn expect_few_look_ups(
-    alloc: Global,
-    shows: &str,
-    word: &str,
-    lines: &str,
-    heads: &[&str],
-    reported: u128,
-) -> Result<(), Fail> {
-    let least = (word.len() as u128).saturating_add(2);
-    for head in heads {
-        let count = look_ups_by(alloc, head, lines, word)?;
-        expect_look_ups(shows, &count, least, least.saturating_mul(2), reported)?;
-    }
-    Ok(())
-}
+const HERS: &str =
+    "hyphenation 1 standard\nlanguage x\nminima 0 0\np he2\np she1\np his3\np hers1\n";
 
-// Fails unless a row of the table is so.
-fn expect_row(alloc: Global, shows: &str, case: &str, reported: &str) -> Result<(), Fail> {
-    let (word, keys) = case.split_once(" by ").ok_or("keys")?;
-    let reported: u64 = reported.parse().ok().ok_or("a number")?;
-    let lines = lines_of(alloc, keys)?;
-    expect_few_look_ups(alloc, shows, word, &lines, BOTH, u128::from(reported))
-}
+const NONE: &str = "hyphenation 1 standard\nlanguage x\nminima 0 0\n";
+
+// Each row has its sentence, the text of a dictionary, a word, and the numbers of its look-ups and of its reports. The
+// frame has two bytes more than the word.
+const COUNTS: &[(&str, &str, &str, (u128, u128))] = &[
+    (
+        "six keys that occur are reported once each",
+        FIRKIN,
+        "firkin",
+        (8, 6),
+    ),
+    (
+        "five of these keys occur in a longer word",
+        FIRKIN,
+        "firkins",
+        (9, 5),
+    ),
+    (
+        "no byte is read again where keys end",
+        RUN,
+        "aaaaaaaaaaaaaaaaaaaa",
+        (22, 14),
+    ),
+    (
+        "no byte is read again where a key lacks its last letter",
+        RUN,
+        "aaaaaab",
+        (9, 0),
+    ),
+    (
+        "a key is reported wherever it stands, and with an edge once",
+        EDGES,
+        "aaa",
+        (5, 7),
+    ),
+    ("keys within keys are reported", HERS, "ushers", (8, 3)),
+    (
+        "without keys each byte is looked up once",
+        NONE,
+        "abc",
+        (5, 0),
+    ),
+];
 
 #[test]
-fn a_score_takes_few_look_ups(rt: HostRuntime) -> Result<(), Fail> {
-    let alloc = rt.alloc();
-    for (shows, case, reported) in &rows_of(alloc, LOOK_UPS, 9)? {
-        expect_row(alloc, shows, case, reported)?;
-    }
-    let changes = "p a1b 1,1,0,1,x\np ca1bd\np d1d\n";
-    expect_few_look_ups(alloc, "keys with changes", "cabd", changes, EXTENDED, 2)?;
-    for head in BOTH {
-        let count = look_ups_by(alloc, head, "", "abc")?;
-        expect_look_ups("without keys each byte is looked up once", &count, 5, 5, 0)?;
+fn each_byte_takes_one_look_up_in_a_table(rt: HostRuntime) -> Result<(), Fail> {
+    for (shows, text, word, wanted) in COUNTS {
+        expect_equal_in(*shows, &counts_by_table(rt.alloc(), text, word)?, wanted)?;
     }
     Ok(())
 }
