@@ -8,11 +8,16 @@ ghost use Rattle.hyphenation_segments.specs.Fits.{Fits};
 ghost use Rattle.hyphenation_segments.specs.Segments.{segments, marked_segments};
 ghost use Rattle.hyphenation_segments.specs.Laws.{with_marks};
 
+use hyphenation_dictionary::dictionary::Extended;
+use hyphenation_hyphenator::hyphenator::Hyphenator;
 use hyphenation_segments::Word;
 use hyphenation_segments::iter::{Hyphenating, Iter, Segments, Texts, laws, push_marked_text};
 use std::alloc::{AllocError, Global};
+use std::iter::Copied;
+use std::slice;
 use std::test::Fail;
-use test_support::{CallError, expect_text_in};
+use test_dictionaries::extended;
+use test_support::{CallError, expect};
 
 // Callers of the iterators, which are proved with the tests.
 
@@ -120,147 +125,176 @@ fn word_of<'t>(
     }
 }
 
-// The segments of a word, with a bar between each two.
-fn joined_by_bars(alloc: Global, text: &str, breaks: &[usize]) -> Result<String, CallError> {
-    let segments = left_unmarked(alloc, word_of(alloc, text, breaks)?)?;
-    let mut joined = String::new(alloc);
-    for (number, segment) in segments.iter().enumerate() {
-        if number > 0 {
-            joined.push('|')?;
-        }
-        joined.push_str(segment)?;
-    }
-    Ok(joined)
+// Whether the segments of a word are these.
+fn has_segments(
+    alloc: Global,
+    text: &str,
+    breaks: &[usize],
+    wanted: &[&str],
+) -> Result<bool, CallError> {
+    Ok(left_unmarked(alloc, word_of(alloc, text, breaks)?)?.as_slice() == wanted)
 }
 
-// The segments of a word with their marks, and a space between each two.
-fn joined_by_spaces(alloc: Global, text: &str, breaks: &[usize]) -> Result<String, CallError> {
+// Whether the segments of a word with their marks are these.
+fn has_marked(
+    alloc: Global,
+    text: &str,
+    breaks: &[usize],
+    wanted: &[&str],
+) -> Result<bool, CallError> {
     let list = all_marked(alloc, word_of(alloc, text, breaks)?)?;
-    let mut joined = String::new(alloc);
-    for (number, item) in list.iter().enumerate() {
-        if number > 0 {
-            joined.push(' ')?;
-        }
-        joined.push_str(item.as_str())?;
+    let mut is_so = list.len() == wanted.len();
+    for (item, text) in list.iter().zip(wanted) {
+        is_so = is_so && item.as_str() == *text;
     }
-    Ok(joined)
+    Ok(is_so)
 }
 
-// The first item of a word, and the number of the items of a copy that is made then, with their text.
-fn copy_midway(alloc: Global, text: &str, breaks: &[usize]) -> Result<String, CallError> {
+// Whether the size hint of segments falls from this number to 0 as they are taken, and stays there.
+fn counts_down(mut segments: Segments<'_, Copied<slice::Iter<'_, usize>>>, number: usize) -> bool {
+    let mut is_so = true;
+    for taken in 0..number.saturating_add(2) {
+        let left = number.saturating_sub(taken);
+        is_so = is_so && segments.size_hint() == (left, Some(left));
+        is_so = is_so && segments.next().is_some() == (left > 0);
+    }
+    is_so
+}
+
+// Whether the items of a word are these, where the mark is `=` after the first one, with the number of the remaining
+// ones before each.
+fn has_new_mark<I: Texts>(
+    mut items: Hyphenating<'_, I>,
+    wanted: &[&str],
+) -> Result<bool, AllocError> {
+    let mut is_so = true;
+    for (number, text) in wanted.iter().enumerate() {
+        let left = wanted.len().saturating_sub(number);
+        is_so = is_so && items.size_hint() == (left, Some(left));
+        match items.next() {
+            Some(item) => is_so = is_so && item?.as_str() == *text,
+            None => is_so = false,
+        }
+        items.mark_with("=");
+    }
+    Ok(is_so && items.next().is_none() && items.next().is_none())
+}
+
+// Whether the items of a word of an extended dictionary are these, with a new mark after the first one.
+fn changed_has_new_mark(
+    alloc: Global,
+    dictionary: &Extended,
+    word: &str,
+    wanted: &[&str],
+) -> Result<bool, AllocError> {
+    has_new_mark(dictionary.hyphenate(alloc, word)?.into_iter(), wanted)
+}
+
+// Whether a copy that is made after the first item of a word has the number of items to come, and this text.
+fn copy_goes_on(
+    alloc: Global,
+    text: &str,
+    breaks: &[usize],
+    number: usize,
+    wanted: &str,
+) -> Result<bool, CallError> {
     let word = word_of(alloc, text, breaks)?;
     let mut items = word.iter();
-    let first = items.next().ok_or("none")??;
+    let _first = items.next();
     let copy = items.clone()?;
-    let left = copy.len();
-    let joined = marked_text(alloc, copy)?;
-    Ok(format!(in alloc; "{first} {left} {joined}")?)
+    let is_so = copy.len() == number;
+    Ok(marked_text(alloc, copy)?.as_str() == wanted && is_so)
 }
 
-// The size hint of the segments of a word, and what they return at three calls, each with the size hint after it.
-fn trace_word(alloc: Global, text: &str, breaks: &[usize]) -> Result<String, CallError> {
-    let word = word_of(alloc, text, breaks)?;
-    let mut segments = word.iter().segments();
-    let mut output = format!(in alloc; "{:?} ", segments.size_hint())?;
-    for _ in 0..3 {
-        let item = segments.next().unwrap_or("none");
-        output.push_str(&format!(in alloc; "{item} {:?},", segments.size_hint())?)?;
+// Whether the segments of a text join to it, and are so many, as a caller promises.
+fn join_and_count(
+    alloc: Global,
+    text: &str,
+    breaks: &[usize],
+    number: usize,
+) -> Result<bool, CallError> {
+    if !Word::fits(text, breaks) {
+        return Ok(false);
     }
-    Ok(output)
+    let is_so = number_of_segments(text, Vec::from_slice(alloc, breaks)?) == number
+        && all_segments(alloc, text, breaks)?.len() == number;
+    Ok(joined_segments(alloc, text, breaks)?.as_str() == text && is_so)
 }
 
-// The joined segments of a text, their number, and the number that a caller promises.
-fn join_and_count(alloc: Global, text: &str, breaks: &[usize]) -> Result<String, CallError> {
-    if Word::fits(text, breaks) {
-        let joined = joined_segments(alloc, text, breaks)?;
-        let all = all_segments(alloc, text, breaks)?.len();
-        let number = number_of_segments(text, Vec::from_slice(alloc, breaks)?);
-        Ok(format!(in alloc; "{joined} {all} {number}")?)
-    } else {
-        Err(CallError::from("the breaks do not fit"))
-    }
-}
-
-// The joined items of a word with a mark, their number, and the number that a caller promises.
-fn mark_and_count(alloc: Global, text: &str, breaks: &[usize]) -> Result<String, CallError> {
-    let word = word_of(alloc, text, breaks)?;
-    let number = number_of_marked_segments(&word);
+// Whether the items of a word with a mark join to a text, and are so many, as a caller promises.
+fn mark_and_count(
+    alloc: Global,
+    word: Word<'_, usize>,
+    wanted: &str,
+    number: usize,
+) -> Result<bool, CallError> {
+    let is_so = number_of_marked_segments(&word) == number;
     let joined = marked_word(alloc, word.try_clone(alloc)?, "=")?;
-    let all = all_items(alloc, word)?.len();
-    Ok(format!(in alloc; "{joined} {all} {number}")?)
+    let is_so = is_so && joined.as_str() == wanted;
+    Ok(all_items(alloc, word)?.len() == number && is_so)
 }
 
-// A parenthesis with a text and its marks appended to it.
-fn appended(alloc: Global, text: &str, breaks: &[usize]) -> Result<String, AllocError> {
+// Whether a text with its marks is appended to a parenthesis so.
+fn is_appended(
+    alloc: Global,
+    text: &str,
+    breaks: &[usize],
+    wanted: &str,
+) -> Result<bool, AllocError> {
     let mut page = String::from_str(alloc, "(")?;
     if Word::fits(text, breaks) {
         push_marked_text(&mut page, text, breaks, "-")?;
     }
-    Ok(page)
+    Ok(page.as_str() == wanted)
 }
 
-// Each row has its sentence, the text, its breaks, and its segments with a bar between each two.
-const CUT: &[(&str, &str, &[usize], &str)] = &[
+// Each row has its sentence, the text, its breaks, and its segments.
+const CUT: &[(&str, &str, &[usize], &[&str])] = &[
     (
         "a text is cut at its breaks",
         "hyphenation",
         &[2, 6, 7],
-        "hy|phen|a|tion",
+        &["hy", "phen", "a", "tion"],
     ),
     (
         "a break at an end leaves an empty one",
         "ab",
         &[0, 2],
-        "|ab|",
+        &["", "ab", ""],
     ),
-    ("the empty text is one empty segment", "", &[], ""),
+    ("the empty text is one empty segment", "", &[], &[""]),
 ];
 
 // Each row has its sentence, the text, its breaks, and its segments with their marks.
-const MARKED: &[(&str, &str, &[usize], &str)] = &[
+const MARKED: &[(&str, &str, &[usize], &[&str])] = &[
     (
         "a mark stands after each segment but the last",
         "hyphenation",
         &[2, 6, 7],
-        "hy- phen- a- tion",
+        &["hy-", "phen-", "a-", "tion"],
     ),
     (
         "each break has its mark",
         "anfractuous",
         &[2, 6, 8],
-        "an- frac- tu- ous",
+        &["an-", "frac-", "tu-", "ous"],
     ),
-    ("one break has one mark", "firkin", &[3], "fir- kin"),
-    ("a text without breaks has no mark", "bevies", &[], "bevies"),
-];
-
-// Each row has its sentence, the text, its breaks, the size hint of its segments, and three items with the ones after them.
-const TRACED: &[(&str, &str, &[usize], &str)] = &[
+    ("one break has one mark", "firkin", &[3], &["fir-", "kin"]),
     (
-        "a text without breaks is one segment",
+        "a text without breaks has no mark",
         "bevies",
         &[],
-        "(1, Some(1)) bevies (0, Some(0)),none (0, Some(0)),none (0, Some(0)),",
-    ),
-    (
-        "each segment leaves one less",
-        "hypha",
-        &[2],
-        "(2, Some(2)) hy (1, Some(1)),pha (0, Some(0)),none (0, Some(0)),",
+        &["bevies"],
     ),
 ];
 
 #[test]
 fn segments_are_cut_and_marked_at_the_breaks(rt: HostRuntime) -> Result<(), Fail> {
-    let alloc = rt.alloc();
     for (shows, text, breaks, wanted) in CUT {
-        expect_text_in(*shows, joined_by_bars(alloc, text, breaks), wanted)?;
+        expect(has_segments(rt.alloc(), text, breaks, wanted)?, *shows)?;
     }
     for (shows, text, breaks, wanted) in MARKED {
-        expect_text_in(*shows, joined_by_spaces(alloc, text, breaks), wanted)?;
-    }
-    for (shows, text, breaks, wanted) in TRACED {
-        expect_text_in(*shows, trace_word(alloc, text, breaks), wanted)?;
+        expect(has_marked(rt.alloc(), text, breaks, wanted)?, *shows)?;
     }
     Ok(())
 }
@@ -270,26 +304,50 @@ const TEXT: &str = "hyphenation";
 const BREAKS: &[usize] = &[2, 6, 7];
 
 #[test]
+fn a_new_mark_holds_for_the_segments_to_come(rt: HostRuntime) -> Result<(), Fail> {
+    let alloc = rt.alloc();
+    expect(
+        has_new_mark(
+            word_of(alloc, TEXT, BREAKS)?.into_iter(),
+            &["hy-", "phen=", "a=", "tion"],
+        )?,
+        "of a word",
+    )?;
+    expect(
+        has_new_mark(word_of(alloc, "", &[])?.into_iter(), &[""])?,
+        "the empty word is one item",
+    )?;
+    let dictionary = extended(alloc, "2 2", "e asszonnyal 2,1,2,2,szsz 6,1,2,2,nyny")?;
+    let wanted = ["asz-", "szony=", "nyal"];
+    expect(
+        changed_has_new_mark(alloc, &dictionary, "asszonnyal", &wanted)?,
+        "of a word with changes",
+    )
+}
+
+#[test]
 fn copies_go_on_and_segments_join(rt: HostRuntime) -> Result<(), Fail> {
     let alloc = rt.alloc();
-    expect_text_in(
+    if Word::fits(TEXT, BREAKS) {
+        expect(
+            counts_down(Segments::new(TEXT, BREAKS.iter().copied()), 4),
+            "each segment leaves one less",
+        )?;
+    }
+    expect(
+        copy_goes_on(alloc, TEXT, BREAKS, 3, "phen-a-tion")?,
         "a copy has the segments to come",
-        copy_midway(alloc, TEXT, BREAKS),
-        "hy- 3 phen-a-tion",
     )?;
-    expect_text_in(
+    expect(
+        join_and_count(alloc, TEXT, BREAKS, 4)?,
         "segments join to the text and are one more than its breaks",
-        join_and_count(alloc, TEXT, BREAKS),
-        "hyphenation 4 4",
     )?;
-    expect_text_in(
+    expect(
+        mark_and_count(alloc, word_of(alloc, "firkin", &[3])?, "fir=kin", 2)?,
         "marked segments join to the marked text",
-        mark_and_count(alloc, "firkin", &[3]),
-        "fir=kin 2 2",
     )?;
-    expect_text_in(
+    expect(
+        is_appended(alloc, TEXT, BREAKS, "(hy-phen-a-tion")?,
         "marked segments of a text are appended to another",
-        appended(alloc, TEXT, BREAKS),
-        "(hy-phen-a-tion",
     )
 }
