@@ -80,52 +80,57 @@ fn breaks_fit_a_text_where_they_ascend_on_its_characters(rt: HostRuntime) -> Res
     Ok(())
 }
 
-// Whether the breaks that are listed for `abcdef` fit it together.
-fn listed_fit(alloc: Global, dictionary: &Extended) -> Result<bool, AllocError> {
-    let listed = dictionary.exception_within(alloc, "abcdef", (0, 6))?;
-    Ok(listed.is_some_and(|breaks| Word::fits("abcdef", &breaks)))
+// Whether the breaks that are listed for a word of six letters fit it together.
+fn listed_fit(alloc: Global, dictionary: &Extended, word: &str) -> Result<bool, AllocError> {
+    match dictionary.exception_within(alloc, word, (0, 6))? {
+        Some(breaks) => Ok(Word::fits(word, &breaks)),
+        None => Ok(false),
+    }
 }
 
-// In the second list the range at 3 begins within that at 2.
+// The ranges of `spaced` are apart. One of `nested` begins within the one before it.
+const RANGES: &str = "e spaced 2,1,2,1,x 5,0,0,0,z\ne nested 2,1,2,1,x 3,0,1,0,y 5,0,0,0,z";
+
 #[test]
 fn breaks_fit_where_no_range_begins_before_the_end_of_another(rt: HostRuntime) -> Result<(), Fail> {
-    let apart = extended(rt.alloc(), "1 1", "e abcdef 2,1,2,1,x 5,0,0,0,z")?;
-    expect(listed_fit(rt.alloc(), &apart)?, "ranges apart fit")?;
-    let within = extended(rt.alloc(), "1 1", "e abcdef 2,1,2,1,x 3,0,1,0,y 5,0,0,0,z")?;
-    expect(
-        !listed_fit(rt.alloc(), &within)?,
-        "a range within another does not",
-    )
+    let dictionary = extended(rt.alloc(), "1 1", RANGES)?;
+    let apart = listed_fit(rt.alloc(), &dictionary, "spaced")?;
+    let within = listed_fit(rt.alloc(), &dictionary, "nested")?;
+    expect_equal(&(apart, within), &(true, false))
 }
 
-// Whether the segments of a word are borrowed where this says so.
-fn are_borrowed(
+// Whether a segment was made, and is borrowed.
+fn is_borrowed(segment: Option<Result<CowStr<'_>, AllocError>>) -> Option<bool> {
+    match segment {
+        Some(Ok(CowStr::Borrowed(_))) => Some(true),
+        Some(Ok(CowStr::Owned(_))) => Some(false),
+        _ => None,
+    }
+}
+
+// How many segments of a word are borrowed after the first ones that are owned.
+fn borrowed_after_owned(
     alloc: Global,
     dictionary: &Extended,
     word: &str,
-    wanted: &[bool],
-) -> Result<bool, AllocError> {
+) -> Result<(usize, usize), AllocError> {
     let mut segments = dictionary.hyphenate(alloc, word)?.into_iter().segments();
-    let mut is_so = segments.len() == wanted.len();
-    for borrowed in wanted {
-        is_so = is_so
-            && match segments.next() {
-                Some(Ok(CowStr::Borrowed(_))) => *borrowed,
-                Some(Ok(CowStr::Owned(_))) => !*borrowed,
-                _ => false,
-            };
+    let (mut owned, mut borrowed) = (0usize, 0usize);
+    for _ in 0..segments.len() {
+        match is_borrowed(segments.next()) {
+            Some(true) => borrowed = borrowed.saturating_add(1),
+            Some(false) if borrowed == 0 => owned = owned.saturating_add(1),
+            _ => {}
+        }
     }
-    Ok(is_so)
+    Ok((owned, borrowed))
 }
 
 #[test]
 fn segments_next_to_no_change_are_borrowed(rt: HostRuntime) -> Result<(), Fail> {
     let dictionary = extended(rt.alloc(), "1 1", "e abcdefg 2,1,2,1,x 5 6")?;
-    let wanted = [false, false, true, true];
-    expect(
-        are_borrowed(rt.alloc(), &dictionary, "abcdefg", &wanted)?,
-        "those next to the change are owned",
-    )
+    let found = borrowed_after_owned(rt.alloc(), &dictionary, "abcdefg")?;
+    expect_equal(&found, &(2, 2))
 }
 
 #[test]

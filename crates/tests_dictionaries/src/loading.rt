@@ -8,14 +8,18 @@ use std::fs::remove_file;
 use std::io;
 use std::io::Read;
 use std::test::Fail;
-use test_dictionaries::{AMERICAN, FIRKIN, SMALLEST};
-use test_support::expect_equal_in;
-use test_support::files::{new_file, new_path};
+use test_dictionaries::SMALLEST;
+use test_support::files::new_file;
 use test_support::io_errors::{CONNECTION_RESET, INTERRUPTED, OUT_OF_MEMORY, has_code, io_error};
 use test_support::readers::{failing_from, failing_once};
+use test_support::{expect_equal, expect_equal_in};
 
 // An extended text of 61 bytes.
 const EXTENDED: &[u8] = b"hyphenation 1 extended\nlanguage hu\nminima 2 2\np a1b 1,1,0,1,x";
+
+// A standard text, in British English.
+const BRITISH: &[u8] =
+    b"hyphenation 1 standard\nlanguage en-gb\nminima 2 3\np .fi2\np i2r\np r2k\n";
 
 // The system's codes of a file that is missing, and of a folder in its place.
 const NO_FILE: i32 = 2;
@@ -42,75 +46,82 @@ fn end_from<D: Load + Drop, R: Read>(alloc: Global, code: &str, reader: &mut R) 
     end_of(D::from_reader(alloc, language, reader))
 }
 
-// The codes of errors that end a loading, each with its end.
-const ERRORS: &[(i32, &str)] = &[(CONNECTION_RESET, "reset"), (OUT_OF_MEMORY, "no memory")];
-
 // A text, the code of its language, and the end of loading it where no read fails.
 type Row = (&'static [u8], &'static str, &'static str);
 
-// Fails unless each read of a text may fail, the one that finds its end too: this one and all later ones, where each
-// takes one byte, and only this one, where each takes two. An error comes before any line is judged, and nothing is read
-// after the end.
-fn expect_each_read_decides<D: Load + Drop>(alloc: Global, row: &Row) -> Result<(), Fail> {
+// Fails unless loading from a reader of one byte a read, of which the read of a number and all later ones fail, ends so
+// for each number up to that of the read that finds the end. Nothing is read after that.
+fn expect_failing_from<D: Load + Drop>(
+    alloc: Global,
+    row: &Row,
+    error: i32,
+    fails: &'static str,
+) -> Result<(), Fail> {
     let (text, code, whole) = *row;
     let bytes = text.len().saturating_add(1);
-    let pairs = (bytes / 2).saturating_add(1);
-    for (error, fails) in ERRORS {
-        for number in 1..=bytes.saturating_add(1) {
-            let wanted = if number <= bytes { *fails } else { whole };
-            let end = end_from::<D, _>(alloc, code, &mut failing_from(text, number, *error));
-            expect_equal_in(number, &end, &wanted)?;
-        }
-        for number in 1..=pairs.saturating_add(1) {
-            let wanted = if number <= pairs { *fails } else { whole };
-            let end = end_from::<D, _>(alloc, code, &mut failing_once(text, number, *error));
-            expect_equal_in(number, &end, &wanted)?;
-        }
+    for number in 1..=bytes.saturating_add(1) {
+        let wanted = if number <= bytes { fails } else { whole };
+        let end = end_from::<D, _>(alloc, code, &mut failing_from(text, number, error));
+        expect_equal_in(number, &end, &wanted)?;
     }
     Ok(())
 }
 
-// Fails unless a read of a text that is interrupted is tried again.
-fn expect_each_read_goes_on<D: Load + Drop>(alloc: Global, row: &Row) -> Result<(), Fail> {
+// Fails unless that is true of a reader of two bytes a read, of which only the read of a number fails.
+fn expect_failing_once<D: Load + Drop>(
+    alloc: Global,
+    row: &Row,
+    error: i32,
+    fails: &'static str,
+) -> Result<(), Fail> {
     let (text, code, whole) = *row;
-    for number in 1..=(text.len() / 2).saturating_add(1) {
-        let end = end_from::<D, _>(alloc, code, &mut failing_once(text, number, INTERRUPTED));
-        expect_equal_in(number, &end, &whole)?;
+    let reads = (text.len().saturating_add(1) / 2).saturating_add(1);
+    for number in 1..=reads.saturating_add(1) {
+        let wanted = if number <= reads { fails } else { whole };
+        let end = end_from::<D, _>(alloc, code, &mut failing_once(text, number, error));
+        expect_equal_in(number, &end, &wanted)?;
     }
     Ok(())
 }
 
+// Fails unless each read of a text may fail. An error comes before any line is judged, and an interrupted read is tried
+// again.
 fn expect_reads<D: Load + Drop>(alloc: Global, row: &Row) -> Result<(), Fail> {
-    expect_each_read_decides::<D>(alloc, row)?;
-    expect_each_read_goes_on::<D>(alloc, row)
+    expect_failing_from::<D>(alloc, row, CONNECTION_RESET, "reset")?;
+    expect_failing_from::<D>(alloc, row, OUT_OF_MEMORY, "no memory")?;
+    expect_failing_once::<D>(alloc, row, CONNECTION_RESET, "reset")?;
+    expect_failing_once::<D>(alloc, row, OUT_OF_MEMORY, "no memory")?;
+    expect_failing_once::<D>(alloc, row, INTERRUPTED, row.2)
 }
+
+// Texts that are loaded as standard ones, and as extended ones.
+const STANDARD_ROWS: &[Row] = &[
+    (BRITISH, "en-gb", "loaded"),
+    (SMALLEST, "en-us", "loaded"),
+    (SMALLEST, "en-gb", "another language"),
+    (b"no head\n", "en-us", "refused"),
+];
+
+const EXTENDED_ROWS: &[Row] = &[(EXTENDED, "hu", "loaded"), (SMALLEST, "hu", "refused")];
 
 #[test]
 fn a_read_that_fails_decides_the_outcome(rt: HostRuntime) -> Result<(), Fail> {
-    expect_reads::<Standard>(rt.alloc(), &(FIRKIN.as_bytes(), "en-gb", "loaded"))?;
-    expect_reads::<Standard>(rt.alloc(), &(SMALLEST, "en-us", "loaded"))?;
-    expect_reads::<Standard>(rt.alloc(), &(SMALLEST, "en-gb", "another language"))?;
-    expect_reads::<Standard>(rt.alloc(), &(b"no head\n", "en-us", "refused"))?;
-    expect_reads::<Extended>(rt.alloc(), &(EXTENDED, "hu", "loaded"))?;
-    expect_reads::<Extended>(rt.alloc(), &(SMALLEST, "hu", "refused"))
-}
-
-// How loading ends of the bytes that a read returned.
-fn end_of_bytes(alloc: Global, bytes: &[u8]) -> Result<&'static str, Fail> {
-    let bytes = Vec::from_slice(alloc, bytes)?;
-    Ok(end_of(Standard::from_read(alloc, Ok(bytes))))
+    for row in STANDARD_ROWS {
+        expect_reads::<Standard>(rt.alloc(), row)?;
+    }
+    for row in EXTENDED_ROWS {
+        expect_reads::<Extended>(rt.alloc(), row)?;
+    }
+    Ok(())
 }
 
 #[test]
-fn the_bytes_of_a_read_are_judged_and_its_error_is_passed_on(rt: HostRuntime) -> Result<(), Fail> {
-    let alloc = rt.alloc();
-    expect_equal_in("a text", &end_of_bytes(alloc, SMALLEST)?, &"loaded")?;
-    expect_equal_in("no text", &end_of_bytes(alloc, b"binary \0")?, &"refused")?;
+fn the_error_of_a_read_is_passed_on(rt: HostRuntime) -> Result<(), Fail> {
     let denied = io::Error::new(io::ErrorKind::PermissionDenied, "the door is locked");
-    let end = end_of(Standard::from_read(alloc, Err(denied)));
-    expect_equal_in("an error", &end, &"another error")?;
-    let end = end_of(Standard::from_read(alloc, Err(io_error(OUT_OF_MEMORY))));
-    expect_equal_in("refused memory", &end, &"no memory")
+    let end = end_of(Standard::from_read(rt.alloc(), Err(denied)));
+    expect_equal(&end, &"another error")?;
+    let end = end_of(Standard::from_read(rt.alloc(), Err(io_error(OUT_OF_MEMORY))));
+    expect_equal(&end, &"no memory")
 }
 
 // How loading a standard dictionary of American English from a path ends.
@@ -118,23 +129,24 @@ fn end_at(rt: &HostRuntime, path: &str) -> &'static str {
     end_of(Standard::from_path(rt, rt.alloc(), Language::english_us(), path))
 }
 
-// How loading from a new file of this name ends, which is removed then.
-fn end_of_file(rt: &HostRuntime, name: &str, text: &str) -> Result<&'static str, Fail> {
-    let path = new_file(rt, name, text.as_bytes())?;
+// How loading from a new file of this name ends, and after the file was removed.
+fn ends_of_file(
+    rt: &HostRuntime,
+    name: &str,
+    bytes: &[u8],
+) -> Result<(&'static str, &'static str), Fail> {
+    let path = new_file(rt, name, bytes)?;
     let end = end_at(rt, &path);
     remove_file(rt, path.as_str())?;
-    Ok(end)
+    Ok((end, end_at(rt, &path)))
 }
 
 #[test]
 fn a_dictionary_is_loaded_from_the_file_of_its_path(rt: HostRuntime) -> Result<(), Fail> {
-    expect_equal_in("american", &end_of_file(&rt, "a", AMERICAN)?, &"loaded")?;
-    expect_equal_in(
-        "british",
-        &end_of_file(&rt, "a ", FIRKIN)?,
-        &"another language",
+    expect_equal(&ends_of_file(&rt, "a", SMALLEST)?, &("loaded", "no file"))?;
+    expect_equal(
+        &ends_of_file(&rt, "a ", BRITISH)?,
+        &("another language", "no file"),
     )?;
-    expect_equal_in("a folder", &end_at(&rt, "."), &"a folder")?;
-    let missing = new_path(&rt, "missing")?;
-    expect_equal_in("a missing file", &end_at(&rt, &missing), &"no file")
+    expect_equal(&end_at(&rt, "."), &"a folder")
 }

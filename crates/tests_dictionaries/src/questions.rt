@@ -76,8 +76,12 @@ const ANISOTROPIC: &[Row] = &[
         Exception("anisotropic"),
         Some(&[(2, false), (5, false)]),
     ),
-    ("of another word", Exception("other"), None),
-    ("of a word left whole", Exception("ab"), None),
+    (
+        "no list within the boundaries of another word",
+        Exception("other"),
+        None,
+    ),
+    ("none of a word left whole", Exception("ab"), None),
     (
         "within bounds",
         Listed("anisotropic", (0, 11)),
@@ -196,14 +200,24 @@ const TABLES: &[Table] = &[
     ("1 1", "p .a1b 2,2,0,1,x", PAST_THE_EDGE),
 ];
 
+// Fails unless a dictionary answers each of these questions so.
+fn expect_answers(alloc: Global, dictionary: &Extended, rows: &[Row]) -> Result<(), Fail> {
+    for (shows, question, wanted) in rows {
+        expect(answers(alloc, dictionary, *question, *wanted)?, *shows)?;
+    }
+    Ok(())
+}
+
+// Fails unless the dictionary with these minima and lines does.
+fn expect_table(alloc: Global, table: &Table) -> Result<(), Fail> {
+    let dictionary = extended(alloc, table.0, table.1)?;
+    expect_answers(alloc, &dictionary, table.2)
+}
+
 #[test]
 fn a_hyphenator_answers_each_question(rt: HostRuntime) -> Result<(), Fail> {
-    for (minima, lines, rows) in TABLES {
-        let dictionary = extended(rt.alloc(), minima, lines)?;
-        for (shows, question, wanted) in *rows {
-            let is_so = answers(rt.alloc(), &dictionary, *question, *wanted)?;
-            expect(is_so, format_args!("{lines}: {shows}"))?;
-        }
+    for table in TABLES {
+        expect_table(rt.alloc(), table)?;
     }
     Ok(())
 }

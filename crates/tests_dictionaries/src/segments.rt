@@ -1,6 +1,6 @@
 //! Segments of words, with marks or without, and contracts that callers can promise.
 
-ghost use Rattle.std.specs.Prelude.{◌≡◌, ◌+◌, map, vec_len, IfOk, codes};
+ghost use Rattle.std.specs.Prelude.{◌≡◌, ◌+◌, map, vec_len, IfOk};
 ghost use Rattle.std.specs.List.{concat};
 ghost use Rattle.std.specs.String.{string_bytes};
 ghost use Rattle.hyphenation_breaks.specs.Break.{plain_break};
@@ -11,35 +11,15 @@ ghost use Rattle.hyphenation_segments.specs.Laws.{with_marks};
 use hyphenation_dictionary::dictionary::Extended;
 use hyphenation_hyphenator::hyphenator::Hyphenator;
 use hyphenation_segments::Word;
-use hyphenation_segments::iter::{Hyphenating, Iter, Segments, Texts, laws, push_marked_text};
+use hyphenation_segments::iter::{Hyphenating, Iter, Segments, Texts, laws};
 use std::alloc::{AllocError, Global};
 use std::iter::Copied;
 use std::slice;
 use std::test::Fail;
 use test_dictionaries::extended;
-use test_support::{CallError, expect};
+use test_support::{CallError, expect, expect_equal};
 
 // Callers of the iterators, which are proved with the tests.
-
-fn all_segments<'t>(
-    alloc: Global,
-    text: &'t str,
-    breaks: &[usize],
-) -> Result<Vec<&'t str>, AllocError>
-    requires { Fits text.now (map plain_break breaks.now) }
-    ensures { IfOk result (λ list. map (λ segment. segment.now) list.items
-        ≡ segments text.now (map plain_break breaks.now)) }
-{
-    Segments::new(text, breaks.iter().copied()).collect(alloc)
-}
-
-fn number_of_segments(text: &str, breaks: Vec<usize>) -> usize
-    requires { Fits text.now (map plain_break breaks.items) }
-    ensures { result ≡ vec_len breaks + 1 }
-{
-    laws::segments_are_one_more_than_breaks();
-    Segments::new(text, breaks.into_iter()).len()
-}
 
 fn joined_segments(alloc: Global, text: &str, breaks: &[usize]) -> Result<String, AllocError>
     requires { Fits text.now (map plain_break breaks.now) }
@@ -86,25 +66,6 @@ fn number_of_marked_segments(word: &Word<'_, usize>) -> usize
     word.iter().len()
 }
 
-fn all_items<'t>(
-    alloc: Global,
-    word: Word<'t, usize>,
-) -> Result<Vec<Result<String, AllocError>>, AllocError> {
-    word.into_iter().collect(alloc)
-}
-
-fn all_marked(alloc: Global, word: Word<'_, usize>) -> Result<Vec<String>, AllocError>
-    ensures { IfOk result (λ v.
-        map string_bytes v.items
-        ≡ marked_segments (codes "-") (segments word.entry.text.now (map plain_break word.entry.breaks.items))) }
-{
-    let mut list = Vec::new(alloc);
-    for item in word {
-        list.push(item?)?;
-    }
-    Ok(list)
-}
-
 fn left_unmarked<'t>(alloc: Global, word: Word<'t, usize>) -> Result<Vec<&'t str>, AllocError>
     ensures { IfOk result (λ list.
         map (λ segment. segment.now) list.items ≡ segments word.entry.text.now
@@ -135,19 +96,15 @@ fn has_segments(
     Ok(left_unmarked(alloc, word_of(alloc, text, breaks)?)?.as_slice() == wanted)
 }
 
-// Whether the segments of a word with their marks are these.
-fn has_marked(
+// Whether a word with a mark at each break is this text.
+fn has_marks(
     alloc: Global,
     text: &str,
     breaks: &[usize],
-    wanted: &[&str],
+    mark: &str,
+    wanted: &str,
 ) -> Result<bool, CallError> {
-    let list = all_marked(alloc, word_of(alloc, text, breaks)?)?;
-    let mut is_so = list.len() == wanted.len();
-    for (item, text) in list.iter().zip(wanted) {
-        is_so = is_so && item.as_str() == *text;
-    }
-    Ok(is_so)
+    Ok(marked_word(alloc, word_of(alloc, text, breaks)?, mark)?.as_str() == wanted)
 }
 
 // Whether the size hint of segments falls from this number to 0 as they are taken, and stays there.
@@ -161,23 +118,22 @@ fn counts_down(mut segments: Segments<'_, Copied<slice::Iter<'_, usize>>>, numbe
     is_so
 }
 
-// Whether the items of a word are these, where the mark is `=` after the first one, with the number of the remaining
-// ones before each.
-fn has_new_mark<I: Texts>(
-    mut items: Hyphenating<'_, I>,
-    wanted: &[&str],
-) -> Result<bool, AllocError> {
-    let mut is_so = true;
-    for (number, text) in wanted.iter().enumerate() {
-        let left = wanted.len().saturating_sub(number);
-        is_so = is_so && items.size_hint() == (left, Some(left));
-        match items.next() {
-            Some(item) => is_so = is_so && item?.as_str() == *text,
-            None => is_so = false,
-        }
+// Whether an item is this text.
+fn is_text(item: Option<Result<String, AllocError>>, wanted: &str) -> bool {
+    match item {
+        Some(Ok(text)) => text.as_str() == wanted,
+        _ => false,
+    }
+}
+
+// Whether the items of a word are these, where the mark is `=` after the first one.
+fn has_new_mark<I: Texts>(mut items: Hyphenating<'_, I>, wanted: &[&str]) -> bool {
+    let mut is_so = items.len() == wanted.len();
+    for text in wanted {
+        is_so = is_so && is_text(items.next(), text);
         items.mark_with("=");
     }
-    Ok(is_so && items.next().is_none() && items.next().is_none())
+    is_so && items.next().is_none() && items.next().is_none()
 }
 
 // Whether the items of a word of an extended dictionary are these, with a new mark after the first one.
@@ -187,65 +143,26 @@ fn changed_has_new_mark(
     word: &str,
     wanted: &[&str],
 ) -> Result<bool, AllocError> {
-    has_new_mark(dictionary.hyphenate(alloc, word)?.into_iter(), wanted)
+    Ok(has_new_mark(dictionary.hyphenate(alloc, word)?.into_iter(), wanted))
 }
 
-// Whether a copy that is made after the first item of a word has the number of items to come, and this text.
+// Whether a copy that is made after the first item of a word has this text.
 fn copy_goes_on(
     alloc: Global,
     text: &str,
     breaks: &[usize],
-    number: usize,
     wanted: &str,
 ) -> Result<bool, CallError> {
     let word = word_of(alloc, text, breaks)?;
     let mut items = word.iter();
     let _first = items.next();
     let copy = items.clone()?;
-    let is_so = copy.len() == number;
-    Ok(marked_text(alloc, copy)?.as_str() == wanted && is_so)
+    Ok(marked_text(alloc, copy)?.as_str() == wanted)
 }
 
-// Whether the segments of a text join to it, and are so many, as a caller promises.
-fn join_and_count(
-    alloc: Global,
-    text: &str,
-    breaks: &[usize],
-    number: usize,
-) -> Result<bool, CallError> {
-    if !Word::fits(text, breaks) {
-        return Ok(false);
-    }
-    let is_so = number_of_segments(text, Vec::from_slice(alloc, breaks)?) == number
-        && all_segments(alloc, text, breaks)?.len() == number;
-    Ok(joined_segments(alloc, text, breaks)?.as_str() == text && is_so)
-}
-
-// Whether the items of a word with a mark join to a text, and are so many, as a caller promises.
-fn mark_and_count(
-    alloc: Global,
-    word: Word<'_, usize>,
-    wanted: &str,
-    number: usize,
-) -> Result<bool, CallError> {
-    let is_so = number_of_marked_segments(&word) == number;
-    let joined = marked_word(alloc, word.try_clone(alloc)?, "=")?;
-    let is_so = is_so && joined.as_str() == wanted;
-    Ok(all_items(alloc, word)?.len() == number && is_so)
-}
-
-// Whether a text with its marks is appended to a parenthesis so.
-fn is_appended(
-    alloc: Global,
-    text: &str,
-    breaks: &[usize],
-    wanted: &str,
-) -> Result<bool, AllocError> {
-    let mut page = String::from_str(alloc, "(")?;
-    if Word::fits(text, breaks) {
-        push_marked_text(&mut page, text, breaks, "-")?;
-    }
-    Ok(page.as_str() == wanted)
+// Whether the segments of a text join to it, as a caller promises.
+fn is_joined(alloc: Global, text: &str, breaks: &[usize]) -> Result<bool, AllocError> {
+    Ok(Word::fits(text, breaks) && joined_segments(alloc, text, breaks)?.as_str() == text)
 }
 
 // Each row has its sentence, the text, its breaks, and its segments.
@@ -265,26 +182,29 @@ const CUT: &[(&str, &str, &[usize], &[&str])] = &[
     ("the empty text is one empty segment", "", &[], &[""]),
 ];
 
-// Each row has its sentence, the text, its breaks, and its segments with their marks.
-const MARKED: &[(&str, &str, &[usize], &[&str])] = &[
+// Each row has its sentence, the text, its breaks, the mark, and the text with it.
+const MARKED: &[(&str, &str, &[usize], &str, &str)] = &[
     (
         "a mark stands after each segment but the last",
         "hyphenation",
         &[2, 6, 7],
-        &["hy-", "phen-", "a-", "tion"],
+        "-",
+        "hy-phen-a-tion",
     ),
     (
         "each break has its mark",
         "anfractuous",
         &[2, 6, 8],
-        &["an-", "frac-", "tu-", "ous"],
+        "==",
+        "an==frac==tu==ous",
     ),
-    ("one break has one mark", "firkin", &[3], &["fir-", "kin"]),
+    ("one break has one mark", "firkin", &[3], "=", "fir=kin"),
     (
         "a text without breaks has no mark",
         "bevies",
         &[],
-        &["bevies"],
+        "-",
+        "bevies",
     ),
 ];
 
@@ -293,8 +213,8 @@ fn segments_are_cut_and_marked_at_the_breaks(rt: HostRuntime) -> Result<(), Fail
     for (shows, text, breaks, wanted) in CUT {
         expect(has_segments(rt.alloc(), text, breaks, wanted)?, *shows)?;
     }
-    for (shows, text, breaks, wanted) in MARKED {
-        expect(has_marked(rt.alloc(), text, breaks, wanted)?, *shows)?;
+    for (shows, text, breaks, mark, wanted) in MARKED {
+        expect(has_marks(rt.alloc(), text, breaks, mark, wanted)?, *shows)?;
     }
     Ok(())
 }
@@ -306,16 +226,14 @@ const BREAKS: &[usize] = &[2, 6, 7];
 #[test]
 fn a_new_mark_holds_for_the_segments_to_come(rt: HostRuntime) -> Result<(), Fail> {
     let alloc = rt.alloc();
+    let word = word_of(alloc, TEXT, BREAKS)?;
     expect(
-        has_new_mark(
-            word_of(alloc, TEXT, BREAKS)?.into_iter(),
-            &["hy-", "phen=", "a=", "tion"],
-        )?,
-        "of a word",
+        number_of_marked_segments(&word) == 4,
+        "segments are one more than the breaks",
     )?;
     expect(
-        has_new_mark(word_of(alloc, "", &[])?.into_iter(), &[""])?,
-        "the empty word is one item",
+        has_new_mark(word.into_iter(), &["hy-", "phen=", "a=", "tion"]),
+        "of a word",
     )?;
     let dictionary = extended(alloc, "2 2", "e asszonnyal 2,1,2,2,szsz 6,1,2,2,nyny")?;
     let wanted = ["asz-", "szony=", "nyal"];
@@ -327,27 +245,9 @@ fn a_new_mark_holds_for_the_segments_to_come(rt: HostRuntime) -> Result<(), Fail
 
 #[test]
 fn copies_go_on_and_segments_join(rt: HostRuntime) -> Result<(), Fail> {
-    let alloc = rt.alloc();
-    if Word::fits(TEXT, BREAKS) {
-        expect(
-            counts_down(Segments::new(TEXT, BREAKS.iter().copied()), 4),
-            "each segment leaves one less",
-        )?;
-    }
-    expect(
-        copy_goes_on(alloc, TEXT, BREAKS, 3, "phen-a-tion")?,
-        "a copy has the segments to come",
-    )?;
-    expect(
-        join_and_count(alloc, TEXT, BREAKS, 4)?,
-        "segments join to the text and are one more than its breaks",
-    )?;
-    expect(
-        mark_and_count(alloc, word_of(alloc, "firkin", &[3])?, "fir=kin", 2)?,
-        "marked segments join to the marked text",
-    )?;
-    expect(
-        is_appended(alloc, TEXT, BREAKS, "(hy-phen-a-tion")?,
-        "marked segments of a text are appended to another",
-    )
+    let copied = copy_goes_on(rt.alloc(), TEXT, BREAKS, "phen-a-tion")?;
+    let joined = is_joined(rt.alloc(), TEXT, BREAKS)?;
+    let counted = Word::fits(TEXT, BREAKS)
+        && counts_down(Segments::new(TEXT, BREAKS.iter().copied()), 4);
+    expect_equal(&(copied, joined, counted), &(true, true, true))
 }

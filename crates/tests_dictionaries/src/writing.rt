@@ -11,7 +11,7 @@ use std::test::Fail;
 use test_dictionaries::{SMALLEST, load};
 use test_support::io_errors::{BROKEN_PIPE, OUT_OF_MEMORY, has_code};
 use test_support::writers::failing_at;
-use test_support::{expect, expect_equal};
+use test_support::{expect, expect_text};
 
 // Whether writing a dictionary to a writer that fails at this write returns its error, after the bytes before it.
 fn stops_at_write(
@@ -72,19 +72,19 @@ fn a_language_is_shown_by_its_code_and_patterns_by_their_number_of_nodes(
 ) -> Result<(), Fail> {
     let code = "abcdefghijklmnopqrstuvwxyz-12345";
     let language = Language::from_code(code).ok_or("a code")?;
-    let shown = format!(in rt.alloc(); "{language} {language:?}")?;
     let wanted = "abcdefghijklmnopqrstuvwxyz-12345 Language(\"abcdefghijklmnopqrstuvwxyz-12345\")";
-    expect_equal(&shown.as_str(), &wanted)?;
-    let shown = patterns_debugged(rt.alloc(), SMALLEST)?;
-    expect_equal(&shown.as_str(), &"Automaton { nodes: 3 }")
+    expect_text(format!(in rt.alloc(); "{language} {language:?}"), wanted)?;
+    expect_text(
+        patterns_debugged(rt.alloc(), SMALLEST),
+        "Automaton { nodes: 3 }",
+    )
 }
 
 // No file was found of which this is noted, so that no row of a program shows it.
 #[test]
 fn patterns_that_fit_no_dictionary_have_their_note(rt: HostRuntime) -> Result<(), Fail> {
-    let shown = format!(in rt.alloc(); "{}", NoteKind::Unfit)?;
-    expect_equal(
-        &shown.as_str(),
-        &"patterns that fit no dictionary, left out",
+    expect_text(
+        format!(in rt.alloc(); "{}", NoteKind::Unfit),
+        "patterns that fit no dictionary, left out",
     )
 }
