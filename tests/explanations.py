@@ -1,4 +1,5 @@
-"""Compares hyphenate-explain with an implementation of its own, over random dictionaries and words. tests/explain runs it.
+"""Compares hyphenate-explain with an implementation of its own, over random dictionaries and words. tests/explain runs it, and
+random_dictionaries.py takes its dictionaries and facts.
 
 Usage: explanations.py PROGRAM FOLDER. The last line is `N passed, M failed`.
 
@@ -46,7 +47,7 @@ def escaped(text):
 
 def token(text):
     """A text in a dictionary text. A brace is escaped only in patterns."""
-    return text.replace("\\", "\\\\").replace("\n", "\\n").replace("\r", "\\r")
+    return "\\e" if not text else text.replace("\\", "\\\\").replace("\n", "\\n").replace("\r", "\\r")
 
 
 def random_text(random_of, letters, least, most):
@@ -63,6 +64,8 @@ def places_of(text):
 
 class Dictionary:
     """A random dictionary of either kind."""
+
+    version = 2
 
     def __init__(self, random_of, kind, letters=LETTERS):
         self.kind = kind
@@ -91,21 +94,25 @@ class Dictionary:
         return (place - begin, end - place, random_of.choice(places_of(substitution)), substitution)
 
     def text(self):
-        lines = [f"hyphenation 2 {self.kind}", "language x", "minima %d %d" % self.minima]
+        lines = [f"hyphenation {self.version} {self.kind}", "language x", "minima %d %d" % self.minima]
         for key, entries in self.patterns.items():
             values = {place: value for place, value, _ in entries}
             written, place = "", 0
             for c in [*key.decode(), ""]:
                 value = values.get(place)
                 written += "" if value is None else str(value) if value < 10 else "{%d}" % value
-                written += "\\{" if c == "{" else token(c)
+                written += "\\{" if c == "{" else c and token(c)
                 place += size(c)
             changes = "".join(" %d,%s" % (p, change_token(change)) for p, _, change in entries if change)
             lines.append(f"p {written}{changes}")
         for word, listed in self.exceptions.items():
-            tokens = "".join(" %d,%s" % (p, change_token(change)) if change else f" {p}" for p, change in listed)
-            lines.append(f"e {token(word)}{tokens}")
+            lines.append(f"e {listing(word, listed)}")
         return "\n".join(lines) + "\n"
+
+
+def listing(word, listed):
+    """A word with its breaks, as a line of an exception or an edit has them."""
+    return token(word) + "".join(" %d,%s" % (p, change_token(change)) if change else f" {p}" for p, change in listed)
 
 
 def change_token(change):
@@ -124,9 +131,10 @@ class Facts:
         self.word = word
         self.folded = fold(word)
         self.framed = f".{self.folded}.".encode()
-        ends = range(len(self.framed) + 1)
-        self.rows = [(start, end, dictionary.patterns[self.framed[start:end]])
-                     for start in ends for end in ends if start < end and self.framed[start:end] in dictionary.patterns]
+        longest = max(map(len, dictionary.patterns), default=0)
+        self.rows = [(start, end, dictionary.patterns[self.framed[start:end]]) for start in range(len(self.framed))
+                     for end in range(start + 1, min(start + longest, len(self.framed)) + 1)
+                     if self.framed[start:end] in dictionary.patterns]
         length = size(self.folded)
         self.scores = [(0, None)] * max(length - 1, 0)
         for start, _, entries in self.rows:
@@ -406,4 +414,5 @@ def main():
     sys.exit(1 if failed else 0)
 
 
-main()
+if __name__ == "__main__":
+    main()

@@ -1,53 +1,9 @@
-//! Dictionaries that several tests use, loaded from their texts, and the outcomes of loading.
+//! Dictionaries that several tests use, loaded from their texts.
 #![tactic(auto)]
 
 use hyphenation_dictionary::dictionary::{Extended, Standard};
 use hyphenation_load::{Error, Load};
 use std::alloc::{AllocError, Global};
-use std::test::Fail;
-use test_support::expect_text;
-use test_support::readers::one_byte_reads;
-
-/// The outcome of loading: `loaded`, the line and cause of a refusal such as `4 Change`, or the message of any other
-/// error.
-pub fn loading_outcome<D: Drop>(
-    alloc: Global,
-    loaded: Result<D, Error>,
-) -> Result<String, AllocError> {
-    match &loaded {
-        Ok(_) => String::from_str(alloc, "loaded"),
-        Err(error) => error_outcome(alloc, error),
-    }
-}
-
-// The line and the cause of a refusal, or the message of any other error.
-fn error_outcome(alloc: Global, error: &Error) -> Result<String, AllocError> {
-    match error {
-        Error::Deserialization { line, cause } => format!(in alloc; "{line} {cause:?}"),
-        _ => format!(in alloc; "{error}"),
-    }
-}
-
-/// Fails unless loading has this outcome.
-pub fn expect_outcome<D: Drop>(
-    alloc: Global,
-    loaded: Result<D, Error>,
-    wanted: &str,
-) -> Result<(), Fail> {
-    expect_text(loading_outcome(alloc, loaded), wanted)
-}
-
-/// The outcome of loading a text, read whole and one byte a read. If they differ, both.
-pub fn text_outcome<D: Load + Drop>(alloc: Global, text: &[u8]) -> Result<String, AllocError> {
-    let mut reader = text;
-    let whole = loading_outcome(alloc, D::any_from_reader(alloc, &mut reader))?;
-    let by_bytes = loading_outcome(alloc, D::any_from_reader(alloc, &mut one_byte_reads(text)))?;
-    if whole.as_str() == by_bytes.as_str() {
-        Ok(whole)
-    } else {
-        format!(in alloc; "{whole}, and one byte a read {by_bytes}")
-    }
-}
 
 /// The shortest text with a pattern that is accepted.
 pub const SMALLEST: &[u8] = b"hyphenation 1 standard\nlanguage en-us\nminima 2 3\np a1b";
@@ -81,16 +37,6 @@ fn load_made<D: Load>(alloc: Global, text: Result<String, AllocError>) -> Result
 /// The standard dictionary of this text.
 pub fn dictionary(alloc: Global, text: &str) -> Result<Standard, Error> {
     load(alloc, text)
-}
-
-/// The standard dictionary of a text with these minima and lines.
-pub fn standard(alloc: Global, minima: &str, lines: &str) -> Result<Standard, Error> {
-    load_made(alloc, standard_text(alloc, minima, lines))
-}
-
-// A standard text with these minima and lines.
-fn standard_text(alloc: Global, minima: &str, lines: &str) -> Result<String, AllocError> {
-    format!(in alloc; "hyphenation 1 standard\nlanguage x\nminima {minima}\n{lines}\n")
 }
 
 /// The extended dictionary of a text with these minima and lines.

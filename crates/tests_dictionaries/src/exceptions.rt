@@ -1,7 +1,5 @@
 //! Exceptions that callers add and remove, with the lists that they replace, and breaks that fit a word.
 
-use crate::questions::{describe_exception, places_of};
-use hyphenation_breaks::extended::Subregion;
 use hyphenation_dictionary::dictionary::{Extended, Standard};
 use hyphenation_hyphenator::hyphenator::Hyphenator;
 use hyphenation_segments::Word;
@@ -9,93 +7,52 @@ use hyphenation_segments::iter::Iter;
 use std::alloc::{AllocError, Global};
 use std::borrow::CowStr;
 use std::test::Fail;
-use test_dictionaries::{FIRKIN, dictionary, extended, standard};
-use test_support::{expect, expect_equal, expect_equal_in, expect_text};
+use test_dictionaries::{FIRKIN, extended, load};
+use test_support::{expect, expect_equal, expect_equal_in};
 
-// Lists places for a word if they fit, and describes the old list.
-fn list_places(
-    alloc: Global,
-    dictionary: &mut Standard,
-    word: &str,
-    places: &[usize],
-) -> Result<String, AllocError> {
-    let word = String::from_str(alloc, word)?;
-    if Standard::fits(&word, places) {
-        let places = Vec::from_slice(alloc, places)?;
-        describe_exception(alloc, dictionary.add_exception(word, places)?)
-    } else {
-        String::from_str(alloc, "unfit")
-    }
-}
-
-// Lists breaks for a word if they fit, and describes the old list.
-fn list_changes(
-    alloc: Global,
-    dictionary: &mut Extended,
-    word: &str,
-    breaks: Vec<(usize, Option<Subregion>)>,
-) -> Result<String, AllocError> {
-    let word = String::from_str(alloc, word)?;
-    if Extended::fits(&word, &breaks) {
-        describe_exception(alloc, dictionary.add_exception(word, breaks)?)
-    } else {
-        String::from_str(alloc, "unfit")
-    }
-}
-
-// Lists a place for `firkins`, or removes the word. Describes the old list, and then the breaks of the listed word, in
-// capitals too, and of one that is not listed.
-fn after_edit(
+// Lists a place for `firkins`, or removes the word, and returns the first place of the list that it had.
+fn replaced(
     alloc: Global,
     dictionary: &mut Standard,
     place: Option<usize>,
-) -> Result<String, AllocError> {
-    let old = match place {
-        Some(place) => list_places(alloc, dictionary, "firkins", &[place])?,
-        None => describe_exception(alloc, dictionary.remove_exception("firkins"))?,
+) -> Result<Option<usize>, AllocError> {
+    let Some(place) = place else {
+        return Ok(first_of(dictionary.remove_exception("firkins")));
     };
-    let breaks = places_of::<Standard>(alloc, dictionary, "firkins FIRKINS firkin")?;
-    format!(in alloc; "{old};{breaks}")
+    let places = vec![in alloc; place]?;
+    let word = String::from_str(alloc, "firkins")?;
+    if Standard::fits(&word, &places) {
+        Ok(first_of(dictionary.add_exception(word, places)?))
+    } else {
+        Ok(None)
+    }
 }
 
+// The first place of a list.
+fn first_of(list: Option<Vec<usize>>) -> Option<usize> {
+    list.and_then(|places| places.first().copied())
+}
+
+// Each row has its sentence, the place that is listed, or none where the word is removed, and the place before.
+const REPLACED: &[(&str, Option<usize>, Option<usize>)] = &[
+    ("a word that is new had no list", Some(3), None),
+    (
+        "a word that is added again had the first list",
+        Some(4),
+        Some(3),
+    ),
+    ("a word that is removed had the second list", None, Some(4)),
+    ("a word that is removed again had none", None, None),
+];
+
 #[test]
-fn a_word_is_added_twice_and_removed_twice(rt: HostRuntime) -> Result<(), Fail> {
-    let mut firkin = dictionary(rt.alloc(), FIRKIN)?;
-    let rows = [
-        (Some(3), "none;3 ,3 ,3 ,"),
-        (Some(4), "3 ;4 ,4 ,3 ,"),
-        (None, "4 ;3 4 ,3 4 ,3 ,"),
-        (None, "none;3 4 ,3 4 ,3 ,"),
-    ];
-    for (place, wanted) in &rows {
-        expect_text(after_edit(rt.alloc(), &mut firkin, *place), wanted)?;
+fn a_list_that_is_replaced_or_removed_is_returned(rt: HostRuntime) -> Result<(), Fail> {
+    let mut dictionary: Standard = load(rt.alloc(), FIRKIN)?;
+    for (shows, place, wanted) in REPLACED {
+        let before = replaced(rt.alloc(), &mut dictionary, *place)?;
+        expect_equal_in(*shows, &before, wanted)?;
     }
     Ok(())
-}
-
-#[test]
-fn an_empty_list_replaces_another(rt: HostRuntime) -> Result<(), Fail> {
-    let mut dictionary = standard(rt.alloc(), "0 0", "p a1b\ne ab 1")?;
-    expect_text(list_places(rt.alloc(), &mut dictionary, "ab", &[]), "1 ")?;
-    expect_text(
-        places_of::<Standard>(rt.alloc(), &dictionary, "ab aab"),
-        ",2 ,",
-    )
-}
-
-#[test]
-fn a_listed_change_is_replaced(rt: HostRuntime) -> Result<(), Fail> {
-    let mut dictionary = extended(rt.alloc(), "0 0", "p a1b\ne ab 1,1,1,1,xy")?;
-    let plain = vec![in rt.alloc(); (1, None)]?;
-    expect_text(
-        list_changes(rt.alloc(), &mut dictionary, "ab", plain),
-        "1,1,1,1,xy ",
-    )?;
-    expect_text(
-        list_changes(rt.alloc(), &mut dictionary, "ab", Vec::new(rt.alloc())),
-        "1 ",
-    )?;
-    expect_text(places_of::<Extended>(rt.alloc(), &dictionary, "ab"), ",")
 }
 
 // Each row has its sentence, the text, the breaks, and whether they fit it.
@@ -123,48 +80,57 @@ fn breaks_fit_a_text_where_they_ascend_on_its_characters(rt: HostRuntime) -> Res
     Ok(())
 }
 
-// Whether the breaks that are listed for `abcdef`, but those at a place, fit it.
-fn others_fit(alloc: Global, dictionary: &Extended, place: usize) -> Result<bool, Fail> {
-    let listed = dictionary.exception_within(alloc, "abcdef", (0, 6))?;
-    let mut others = listed.ok_or("a list")?;
-    others.retain(|found| found.0 != place);
-    Ok(Word::fits("abcdef", &others))
+// Whether the breaks that are listed for a word of six letters fit it together.
+fn listed_fit(alloc: Global, dictionary: &Extended, word: &str) -> Result<bool, AllocError> {
+    match dictionary.exception_within(alloc, word, (0, 6))? {
+        Some(breaks) => Ok(Word::fits(word, &breaks)),
+        None => Ok(false),
+    }
 }
 
-// The range at 3 begins within that at 2.
+// The ranges of `spaced` are apart. One of `nested` begins within the one before it.
+const RANGES: &str = "e spaced 2,1,2,1,x 5,0,0,0,z\ne nested 2,1,2,1,x 3,0,1,0,y 5,0,0,0,z";
+
 #[test]
 fn breaks_fit_where_no_range_begins_before_the_end_of_another(rt: HostRuntime) -> Result<(), Fail> {
-    let dictionary = extended(rt.alloc(), "1 1", "e abcdef 2,1,2,1,x 3,0,1,0,y 5,0,0,0,z")?;
-    expect(
-        !others_fit(rt.alloc(), &dictionary, 0)?,
-        "all breaks do not fit",
-    )?;
-    expect(others_fit(rt.alloc(), &dictionary, 3)?, "those but 3 fit")
+    let dictionary = extended(rt.alloc(), "1 1", RANGES)?;
+    let apart = listed_fit(rt.alloc(), &dictionary, "spaced")?;
+    let within = listed_fit(rt.alloc(), &dictionary, "nested")?;
+    expect_equal(&(apart, within), &(true, false))
 }
 
-// Whether each segment of a word is borrowed or owned.
-fn borrowed_or_owned(
+// Whether a segment was made, and is borrowed.
+fn is_borrowed(segment: Option<Result<CowStr<'_>, AllocError>>) -> Option<bool> {
+    match segment {
+        Some(Ok(CowStr::Borrowed(_))) => Some(true),
+        Some(Ok(CowStr::Owned(_))) => Some(false),
+        _ => None,
+    }
+}
+
+// How many segments of a word are borrowed after the first ones that are owned.
+fn borrowed_after_owned(
     alloc: Global,
     dictionary: &Extended,
     word: &str,
-) -> Result<String, AllocError> {
-    let mut output = String::new(alloc);
-    for segment in dictionary.hyphenate(alloc, word)?.into_iter().segments() {
-        output.push_str(match segment? {
-            CowStr::Borrowed(_) => "borrowed ",
-            CowStr::Owned(_) => "owned ",
-        })?;
+) -> Result<(usize, usize), AllocError> {
+    let mut segments = dictionary.hyphenate(alloc, word)?.into_iter().segments();
+    let (mut owned, mut borrowed) = (0usize, 0usize);
+    for _ in 0..segments.len() {
+        match is_borrowed(segments.next()) {
+            Some(true) => borrowed = borrowed.saturating_add(1),
+            Some(false) if borrowed == 0 => owned = owned.saturating_add(1),
+            _ => {}
+        }
     }
-    Ok(output)
+    Ok((owned, borrowed))
 }
 
 #[test]
 fn segments_next_to_no_change_are_borrowed(rt: HostRuntime) -> Result<(), Fail> {
     let dictionary = extended(rt.alloc(), "1 1", "e abcdefg 2,1,2,1,x 5 6")?;
-    expect_text(
-        borrowed_or_owned(rt.alloc(), &dictionary, "abcdefg"),
-        "owned owned borrowed borrowed ",
-    )
+    let found = borrowed_after_owned(rt.alloc(), &dictionary, "abcdefg")?;
+    expect_equal(&found, &(2, 2))
 }
 
 #[test]

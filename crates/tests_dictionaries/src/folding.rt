@@ -4,83 +4,108 @@ use hyphenation_hyphenator::case_folding::{Shift, realign, refold};
 use std::alloc::{AllocError, Global};
 use std::borrow::CowStr;
 use std::test::Fail;
-use test_support::{expect_equal, expect_equal_in, expect_text_in};
+use test_support::{expect, expect_equal, expect_equal_in};
 use ucd_age::Age;
 
-// Whether a folded word is borrowed or owned, the word, and its shifts, each as the place from which it holds and its
-// bytes.
-fn folded(alloc: Global, word: &str) -> Result<String, AllocError> {
+// Whether a word folds to a text with these shifts, and is borrowed where this says so.
+fn folds_to(
+    alloc: Global,
+    word: &str,
+    borrowed: bool,
+    wanted: &str,
+    wanted_shifts: &[Shift],
+) -> Result<bool, AllocError> {
     let (text, shifts) = refold(alloc, word)?;
-    let mut all = String::from_str(
-        alloc,
-        match &text {
-            CowStr::Borrowed(_) => "borrowed ",
-            CowStr::Owned(_) => "owned ",
-        },
-    )?;
-    all.push_str(text.as_str())?;
-    for shift in &shifts {
-        all.push_str(&format!(in alloc; " {}:{}", shift.index, shift.delta)?)?;
-    }
-    Ok(all)
+    let is_borrowed = matches!(&text, CowStr::Borrowed(_));
+    Ok(is_borrowed == borrowed && text.as_str() == wanted && shifts.as_slice() == wanted_shifts)
 }
 
-// Each row has its sentence, the word, and the word in small letters.
-const FOLDED: &[(&str, &str, &str)] = &[
+// Each row has its sentence, the word, whether its folding is borrowed, the word in small letters, and its shifts.
+const FOLDED: &[(&str, &str, bool, &str, &[Shift])] = &[
     (
         "two letters that lose bytes shift the places after both",
         "İẞab",
-        "owned ißab 0:-1 1:-2",
+        false,
+        "ißab",
+        TWO_SHIFTS,
     ),
     (
         "a letter that loses two bytes shifts the places after it by two",
         "\u{212a}ilim",
-        "owned kilim 0:-2",
+        false,
+        "kilim",
+        &[Shift {
+            index: 0,
+            delta: -2,
+        }],
     ),
     (
         "a letter that gains a byte shifts the places after it the other way",
         "ȺAB",
-        "owned ⱥab 0:1",
+        false,
+        "ⱥab",
+        &[Shift { index: 0, delta: 1 }],
     ),
     (
         "two shifts that differ in their sign add up",
         "aȺİb",
-        "owned aⱥib 1:1 4:0",
+        false,
+        "aⱥib",
+        &[Shift { index: 1, delta: 1 }, Shift { index: 4, delta: 0 }],
     ),
     (
         "letters of as many bytes shift nothing, and a sigma is the same at the end",
         "ΑΣ",
-        "owned ασ",
+        false,
+        "ασ",
+        &[],
     ),
-    ("a dot above a capital stays", "I\u{307}", "owned i\u{307}"),
-    ("the empty word is borrowed", "", "borrowed "),
+    (
+        "a dot above a capital stays",
+        "I\u{307}",
+        false,
+        "i\u{307}",
+        &[],
+    ),
+    ("the empty word is borrowed", "", true, "", &[]),
     (
         "a word in small letters is borrowed",
         "kilim",
-        "borrowed kilim",
+        true,
+        "kilim",
+        &[],
     ),
     (
         "a dot above a small letter stays",
         "i\u{307}",
-        "borrowed i\u{307}",
+        true,
+        "i\u{307}",
+        &[],
     ),
     (
         "a titlecase letter is not Uppercase, so that it stays",
         "\u{1c5}",
-        "borrowed \u{1c5}",
+        true,
+        "\u{1c5}",
+        &[],
     ),
-    ("a sharp s stays", "ß", "borrowed ß"),
+    ("a sharp s stays", "ß", true, "ß", &[]),
     (
         "a Cherokee capital is Uppercase, and its own folding",
         "\u{13a0}",
-        "owned \u{13a0}",
+        false,
+        "\u{13a0}",
+        &[],
     ),
 ];
 
 #[test]
 fn words_fold_with_their_shifts(rt: HostRuntime) -> Result<(), Fail> {
-    for (shows, word, wanted) in FOLDED {
-        expect_text_in(*shows, folded(rt.alloc(), word), wanted)?;
+    for (shows, word, borrowed, wanted, shifts) in FOLDED {
+        expect(
+            folds_to(rt.alloc(), word, *borrowed, wanted, shifts)?,
+            *shows,
+        )?;
     }
     Ok(())
 }

@@ -1,6 +1,7 @@
-//! Tests of dictionaries by calls that no program makes: loaded, edited, written, asked for breaks and segments, and long ones.
+//! Tests of dictionaries by calls that no program makes: loaded, edited, written, and asked for breaks, segments and look-ups.
 //!
-//! Readers, writers and files fail. `tests/rows` has what programs show of dictionary texts, words and files of patterns.
+//! Readers, writers and files fail. `tests/rows` has what programs show of dictionary texts, words and files of patterns,
+//! and `tests/long-texts` what they show of long ones.
 #![tactic(auto)]
 
 #[cfg(test)]
@@ -10,14 +11,14 @@ mod exceptions;
 #[cfg(test)]
 mod folding;
 #[cfg(test)]
-mod language_paths;
-#[cfg(test)]
 mod loading;
 #[cfg(test)]
-mod long;
+mod look_ups;
 #[cfg(test)]
 mod questions;
 #[cfg(test)]
 mod segments;
+#[cfg(test)]
+mod tables;
 #[cfg(test)]
 mod writing;

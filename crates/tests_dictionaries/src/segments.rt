@@ -1,6 +1,6 @@
 //! Segments of words, with marks or without, and contracts that callers can promise.
 
-ghost use Rattle.std.specs.Prelude.{◌≡◌, ◌+◌, map, vec_len, IfOk, codes};
+ghost use Rattle.std.specs.Prelude.{◌≡◌, ◌+◌, map, vec_len, IfOk};
 ghost use Rattle.std.specs.List.{concat};
 ghost use Rattle.std.specs.String.{string_bytes};
 ghost use Rattle.hyphenation_breaks.specs.Break.{plain_break};
@@ -8,33 +8,18 @@ ghost use Rattle.hyphenation_segments.specs.Fits.{Fits};
 ghost use Rattle.hyphenation_segments.specs.Segments.{segments, marked_segments};
 ghost use Rattle.hyphenation_segments.specs.Laws.{with_marks};
 
+use hyphenation_dictionary::dictionary::Extended;
+use hyphenation_hyphenator::hyphenator::Hyphenator;
 use hyphenation_segments::Word;
-use hyphenation_segments::iter::{Hyphenating, Iter, Segments, Texts, laws, push_marked_text};
+use hyphenation_segments::iter::{Hyphenating, Iter, Segments, Texts, laws};
 use std::alloc::{AllocError, Global};
+use std::iter::Copied;
+use std::slice;
 use std::test::Fail;
-use test_support::{CallError, expect_text_in};
+use test_dictionaries::extended;
+use test_support::{CallError, expect, expect_equal};
 
 // Callers of the iterators, which are proved with the tests.
-
-fn all_segments<'t>(
-    alloc: Global,
-    text: &'t str,
-    breaks: &[usize],
-) -> Result<Vec<&'t str>, AllocError>
-    requires { Fits text.now (map plain_break breaks.now) }
-    ensures { IfOk result (λ list. map (λ segment. segment.now) list.items
-        ≡ segments text.now (map plain_break breaks.now)) }
-{
-    Segments::new(text, breaks.iter().copied()).collect(alloc)
-}
-
-fn number_of_segments(text: &str, breaks: Vec<usize>) -> usize
-    requires { Fits text.now (map plain_break breaks.items) }
-    ensures { result ≡ vec_len breaks + 1 }
-{
-    laws::segments_are_one_more_than_breaks();
-    Segments::new(text, breaks.into_iter()).len()
-}
 
 fn joined_segments(alloc: Global, text: &str, breaks: &[usize]) -> Result<String, AllocError>
     requires { Fits text.now (map plain_break breaks.now) }
@@ -81,25 +66,6 @@ fn number_of_marked_segments(word: &Word<'_, usize>) -> usize
     word.iter().len()
 }
 
-fn all_items<'t>(
-    alloc: Global,
-    word: Word<'t, usize>,
-) -> Result<Vec<Result<String, AllocError>>, AllocError> {
-    word.into_iter().collect(alloc)
-}
-
-fn all_marked(alloc: Global, word: Word<'_, usize>) -> Result<Vec<String>, AllocError>
-    ensures { IfOk result (λ v.
-        map string_bytes v.items
-        ≡ marked_segments (codes "-") (segments word.entry.text.now (map plain_break word.entry.breaks.items))) }
-{
-    let mut list = Vec::new(alloc);
-    for item in word {
-        list.push(item?)?;
-    }
-    Ok(list)
-}
-
 fn left_unmarked<'t>(alloc: Global, word: Word<'t, usize>) -> Result<Vec<&'t str>, AllocError>
     ensures { IfOk result (λ list.
         map (λ segment. segment.now) list.items ≡ segments word.entry.text.now
@@ -120,147 +86,135 @@ fn word_of<'t>(
     }
 }
 
-// The segments of a word, with a bar between each two.
-fn joined_by_bars(alloc: Global, text: &str, breaks: &[usize]) -> Result<String, CallError> {
-    let segments = left_unmarked(alloc, word_of(alloc, text, breaks)?)?;
-    let mut joined = String::new(alloc);
-    for (number, segment) in segments.iter().enumerate() {
-        if number > 0 {
-            joined.push('|')?;
-        }
-        joined.push_str(segment)?;
-    }
-    Ok(joined)
+// Whether the segments of a word are these.
+fn has_segments(
+    alloc: Global,
+    text: &str,
+    breaks: &[usize],
+    wanted: &[&str],
+) -> Result<bool, CallError> {
+    Ok(left_unmarked(alloc, word_of(alloc, text, breaks)?)?.as_slice() == wanted)
 }
 
-// The segments of a word with their marks, and a space between each two.
-fn joined_by_spaces(alloc: Global, text: &str, breaks: &[usize]) -> Result<String, CallError> {
-    let list = all_marked(alloc, word_of(alloc, text, breaks)?)?;
-    let mut joined = String::new(alloc);
-    for (number, item) in list.iter().enumerate() {
-        if number > 0 {
-            joined.push(' ')?;
-        }
-        joined.push_str(item.as_str())?;
-    }
-    Ok(joined)
+// Whether a word with a mark at each break is this text.
+fn has_marks(
+    alloc: Global,
+    text: &str,
+    breaks: &[usize],
+    mark: &str,
+    wanted: &str,
+) -> Result<bool, CallError> {
+    Ok(marked_word(alloc, word_of(alloc, text, breaks)?, mark)?.as_str() == wanted)
 }
 
-// The first item of a word, and the number of the items of a copy that is made then, with their text.
-fn copy_midway(alloc: Global, text: &str, breaks: &[usize]) -> Result<String, CallError> {
+// Whether the size hint of segments falls from this number to 0 as they are taken, and stays there.
+fn counts_down(mut segments: Segments<'_, Copied<slice::Iter<'_, usize>>>, number: usize) -> bool {
+    let mut is_so = true;
+    for taken in 0..number.saturating_add(2) {
+        let left = number.saturating_sub(taken);
+        is_so = is_so && segments.size_hint() == (left, Some(left));
+        is_so = is_so && segments.next().is_some() == (left > 0);
+    }
+    is_so
+}
+
+// Whether an item is this text.
+fn is_text(item: Option<Result<String, AllocError>>, wanted: &str) -> bool {
+    match item {
+        Some(Ok(text)) => text.as_str() == wanted,
+        _ => false,
+    }
+}
+
+// Whether the items of a word are these, where the mark is `=` after the first one.
+fn has_new_mark<I: Texts>(mut items: Hyphenating<'_, I>, wanted: &[&str]) -> bool {
+    let mut is_so = items.len() == wanted.len();
+    for text in wanted {
+        is_so = is_so && is_text(items.next(), text);
+        items.mark_with("=");
+    }
+    is_so && items.next().is_none() && items.next().is_none()
+}
+
+// Whether the items of a word of an extended dictionary are these, with a new mark after the first one.
+fn changed_has_new_mark(
+    alloc: Global,
+    dictionary: &Extended,
+    word: &str,
+    wanted: &[&str],
+) -> Result<bool, AllocError> {
+    Ok(has_new_mark(dictionary.hyphenate(alloc, word)?.into_iter(), wanted))
+}
+
+// Whether a copy that is made after the first item of a word has this text.
+fn copy_goes_on(
+    alloc: Global,
+    text: &str,
+    breaks: &[usize],
+    wanted: &str,
+) -> Result<bool, CallError> {
     let word = word_of(alloc, text, breaks)?;
     let mut items = word.iter();
-    let first = items.next().ok_or("none")??;
+    let _first = items.next();
     let copy = items.clone()?;
-    let left = copy.len();
-    let joined = marked_text(alloc, copy)?;
-    Ok(format!(in alloc; "{first} {left} {joined}")?)
+    Ok(marked_text(alloc, copy)?.as_str() == wanted)
 }
 
-// The size hint of the segments of a word, and what they return at three calls, each with the size hint after it.
-fn trace_word(alloc: Global, text: &str, breaks: &[usize]) -> Result<String, CallError> {
-    let word = word_of(alloc, text, breaks)?;
-    let mut segments = word.iter().segments();
-    let mut output = format!(in alloc; "{:?} ", segments.size_hint())?;
-    for _ in 0..3 {
-        let item = segments.next().unwrap_or("none");
-        output.push_str(&format!(in alloc; "{item} {:?},", segments.size_hint())?)?;
-    }
-    Ok(output)
+// Whether the segments of a text join to it, as a caller promises.
+fn is_joined(alloc: Global, text: &str, breaks: &[usize]) -> Result<bool, AllocError> {
+    Ok(Word::fits(text, breaks) && joined_segments(alloc, text, breaks)?.as_str() == text)
 }
 
-// The joined segments of a text, their number, and the number that a caller promises.
-fn join_and_count(alloc: Global, text: &str, breaks: &[usize]) -> Result<String, CallError> {
-    if Word::fits(text, breaks) {
-        let joined = joined_segments(alloc, text, breaks)?;
-        let all = all_segments(alloc, text, breaks)?.len();
-        let number = number_of_segments(text, Vec::from_slice(alloc, breaks)?);
-        Ok(format!(in alloc; "{joined} {all} {number}")?)
-    } else {
-        Err(CallError::from("the breaks do not fit"))
-    }
-}
-
-// The joined items of a word with a mark, their number, and the number that a caller promises.
-fn mark_and_count(alloc: Global, text: &str, breaks: &[usize]) -> Result<String, CallError> {
-    let word = word_of(alloc, text, breaks)?;
-    let number = number_of_marked_segments(&word);
-    let joined = marked_word(alloc, word.try_clone(alloc)?, "=")?;
-    let all = all_items(alloc, word)?.len();
-    Ok(format!(in alloc; "{joined} {all} {number}")?)
-}
-
-// A parenthesis with a text and its marks appended to it.
-fn appended(alloc: Global, text: &str, breaks: &[usize]) -> Result<String, AllocError> {
-    let mut page = String::from_str(alloc, "(")?;
-    if Word::fits(text, breaks) {
-        push_marked_text(&mut page, text, breaks, "-")?;
-    }
-    Ok(page)
-}
-
-// Each row has its sentence, the text, its breaks, and its segments with a bar between each two.
-const CUT: &[(&str, &str, &[usize], &str)] = &[
+// Each row has its sentence, the text, its breaks, and its segments.
+const CUT: &[(&str, &str, &[usize], &[&str])] = &[
     (
         "a text is cut at its breaks",
         "hyphenation",
         &[2, 6, 7],
-        "hy|phen|a|tion",
+        &["hy", "phen", "a", "tion"],
     ),
     (
         "a break at an end leaves an empty one",
         "ab",
         &[0, 2],
-        "|ab|",
+        &["", "ab", ""],
     ),
-    ("the empty text is one empty segment", "", &[], ""),
+    ("the empty text is one empty segment", "", &[], &[""]),
 ];
 
-// Each row has its sentence, the text, its breaks, and its segments with their marks.
-const MARKED: &[(&str, &str, &[usize], &str)] = &[
+// Each row has its sentence, the text, its breaks, the mark, and the text with it.
+const MARKED: &[(&str, &str, &[usize], &str, &str)] = &[
     (
         "a mark stands after each segment but the last",
         "hyphenation",
         &[2, 6, 7],
-        "hy- phen- a- tion",
+        "-",
+        "hy-phen-a-tion",
     ),
     (
         "each break has its mark",
         "anfractuous",
         &[2, 6, 8],
-        "an- frac- tu- ous",
+        "==",
+        "an==frac==tu==ous",
     ),
-    ("one break has one mark", "firkin", &[3], "fir- kin"),
-    ("a text without breaks has no mark", "bevies", &[], "bevies"),
-];
-
-// Each row has its sentence, the text, its breaks, the size hint of its segments, and three items with the ones after them.
-const TRACED: &[(&str, &str, &[usize], &str)] = &[
+    ("one break has one mark", "firkin", &[3], "=", "fir=kin"),
     (
-        "a text without breaks is one segment",
+        "a text without breaks has no mark",
         "bevies",
         &[],
-        "(1, Some(1)) bevies (0, Some(0)),none (0, Some(0)),none (0, Some(0)),",
-    ),
-    (
-        "each segment leaves one less",
-        "hypha",
-        &[2],
-        "(2, Some(2)) hy (1, Some(1)),pha (0, Some(0)),none (0, Some(0)),",
+        "-",
+        "bevies",
     ),
 ];
 
 #[test]
 fn segments_are_cut_and_marked_at_the_breaks(rt: HostRuntime) -> Result<(), Fail> {
-    let alloc = rt.alloc();
     for (shows, text, breaks, wanted) in CUT {
-        expect_text_in(*shows, joined_by_bars(alloc, text, breaks), wanted)?;
+        expect(has_segments(rt.alloc(), text, breaks, wanted)?, *shows)?;
     }
-    for (shows, text, breaks, wanted) in MARKED {
-        expect_text_in(*shows, joined_by_spaces(alloc, text, breaks), wanted)?;
-    }
-    for (shows, text, breaks, wanted) in TRACED {
-        expect_text_in(*shows, trace_word(alloc, text, breaks), wanted)?;
+    for (shows, text, breaks, mark, wanted) in MARKED {
+        expect(has_marks(rt.alloc(), text, breaks, mark, wanted)?, *shows)?;
     }
     Ok(())
 }
@@ -270,26 +224,30 @@ const TEXT: &str = "hyphenation";
 const BREAKS: &[usize] = &[2, 6, 7];
 
 #[test]
-fn copies_go_on_and_segments_join(rt: HostRuntime) -> Result<(), Fail> {
+fn a_new_mark_holds_for_the_segments_to_come(rt: HostRuntime) -> Result<(), Fail> {
     let alloc = rt.alloc();
-    expect_text_in(
-        "a copy has the segments to come",
-        copy_midway(alloc, TEXT, BREAKS),
-        "hy- 3 phen-a-tion",
+    let word = word_of(alloc, TEXT, BREAKS)?;
+    expect(
+        number_of_marked_segments(&word) == 4,
+        "segments are one more than the breaks",
     )?;
-    expect_text_in(
-        "segments join to the text and are one more than its breaks",
-        join_and_count(alloc, TEXT, BREAKS),
-        "hyphenation 4 4",
+    expect(
+        has_new_mark(word.into_iter(), &["hy-", "phen=", "a=", "tion"]),
+        "of a word",
     )?;
-    expect_text_in(
-        "marked segments join to the marked text",
-        mark_and_count(alloc, "firkin", &[3]),
-        "fir=kin 2 2",
-    )?;
-    expect_text_in(
-        "marked segments of a text are appended to another",
-        appended(alloc, TEXT, BREAKS),
-        "(hy-phen-a-tion",
+    let dictionary = extended(alloc, "2 2", "e asszonnyal 2,1,2,2,szsz 6,1,2,2,nyny")?;
+    let wanted = ["asz-", "szony=", "nyal"];
+    expect(
+        changed_has_new_mark(alloc, &dictionary, "asszonnyal", &wanted)?,
+        "of a word with changes",
     )
+}
+
+#[test]
+fn copies_go_on_and_segments_join(rt: HostRuntime) -> Result<(), Fail> {
+    let copied = copy_goes_on(rt.alloc(), TEXT, BREAKS, "phen-a-tion")?;
+    let joined = is_joined(rt.alloc(), TEXT, BREAKS)?;
+    let counted = Word::fits(TEXT, BREAKS)
+        && counts_down(Segments::new(TEXT, BREAKS.iter().copied()), 4);
+    expect_equal(&(copied, joined, counted), &(true, true, true))
 }

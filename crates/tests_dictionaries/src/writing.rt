@@ -1,7 +1,8 @@
 //! Dictionaries that are written: to writers that fail, after edits, and as `Debug` shows their parts.
 
+use any_dictionary::AnyDictionary;
 use hyphenation_breaks::language::Language;
-use hyphenation_dictionary::dictionary::{Extended, Standard};
+use hyphenation_dictionary::dictionary::Standard;
 use hyphenation_dictionary::search::automaton_of;
 use hyphenation_load::{Error, Load};
 use pattern_results::notes::NoteKind;
@@ -10,12 +11,12 @@ use std::test::Fail;
 use test_dictionaries::{SMALLEST, load};
 use test_support::io_errors::{BROKEN_PIPE, OUT_OF_MEMORY, has_code};
 use test_support::writers::failing_at;
-use test_support::{expect, expect_equal};
+use test_support::{expect, expect_text};
 
 // Whether writing a dictionary to a writer that fails at this write returns its error, after the bytes before it.
-fn stops_at_write<D: Load>(
+fn stops_at_write(
     alloc: Global,
-    dictionary: &D,
+    dictionary: &AnyDictionary,
     text: &[u8],
     number: usize,
     code: i32,
@@ -28,15 +29,15 @@ fn stops_at_write<D: Load>(
 }
 
 // Whether a writer of one byte a write that does not fail gets the whole text of a dictionary.
-fn takes_whole_text<D: Load>(alloc: Global, dictionary: &D, text: &[u8]) -> Result<bool, Error> {
+fn takes_whole_text(alloc: Global, dictionary: &AnyDictionary, text: &[u8]) -> Result<bool, Error> {
     let mut output = failing_at(alloc, text.len() + 1, BROKEN_PIPE);
     dictionary.to_writer(alloc, &mut output)?;
     Ok(output.taken.as_slice() == text)
 }
 
 // Fails unless the error of each write of a canonical text is returned, whether or not it is out of memory.
-fn expect_each_write_can_fail<D: Load + Drop>(alloc: Global, text: &str) -> Result<(), Fail> {
-    let dictionary = load::<D>(alloc, text)?;
+fn expect_each_write_can_fail(alloc: Global, text: &str) -> Result<(), Fail> {
+    let dictionary: AnyDictionary = load(alloc, text)?;
     let text = text.as_bytes();
     for number in 1..=text.len() {
         let is_so = stops_at_write(alloc, &dictionary, text, number, BROKEN_PIPE)
@@ -52,9 +53,9 @@ fn expect_each_write_can_fail<D: Load + Drop>(alloc: Global, text: &str) -> Resu
 #[test]
 fn an_error_of_the_writer_is_returned(rt: HostRuntime) -> Result<(), Fail> {
     let text = "hyphenation 1 standard\nlanguage x\nminima 2 3\np a1b\n";
-    expect_each_write_can_fail::<Standard>(rt.alloc(), text)?;
+    expect_each_write_can_fail(rt.alloc(), text)?;
     let text = "hyphenation 1 extended\nlanguage hu\nminima 2 2\np a1b 1,1,0,1,x\n";
-    expect_each_write_can_fail::<Extended>(rt.alloc(), text)
+    expect_each_write_can_fail(rt.alloc(), text)
 }
 
 // The patterns of a text's dictionary as `Debug` shows them.
@@ -71,19 +72,19 @@ fn a_language_is_shown_by_its_code_and_patterns_by_their_number_of_nodes(
 ) -> Result<(), Fail> {
     let code = "abcdefghijklmnopqrstuvwxyz-12345";
     let language = Language::from_code(code).ok_or("a code")?;
-    let shown = format!(in rt.alloc(); "{language} {language:?}")?;
     let wanted = "abcdefghijklmnopqrstuvwxyz-12345 Language(\"abcdefghijklmnopqrstuvwxyz-12345\")";
-    expect_equal(&shown.as_str(), &wanted)?;
-    let shown = patterns_debugged(rt.alloc(), SMALLEST)?;
-    expect_equal(&shown.as_str(), &"Automaton { nodes: 3 }")
+    expect_text(format!(in rt.alloc(); "{language} {language:?}"), wanted)?;
+    expect_text(
+        patterns_debugged(rt.alloc(), SMALLEST),
+        "Automaton { nodes: 3 }",
+    )
 }
 
 // No file was found of which this is noted, so that no row of a program shows it.
 #[test]
 fn patterns_that_fit_no_dictionary_have_their_note(rt: HostRuntime) -> Result<(), Fail> {
-    let shown = format!(in rt.alloc(); "{}", NoteKind::Unfit)?;
-    expect_equal(
-        &shown.as_str(),
-        &"patterns that fit no dictionary, left out",
+    expect_text(
+        format!(in rt.alloc(); "{}", NoteKind::Unfit),
+        "patterns that fit no dictionary, left out",
     )
 }
