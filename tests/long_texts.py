@@ -1,12 +1,14 @@
-"""Runs the programs over long words, keys, lists and texts, and many short ones. tests/long-texts runs it.
+"""Runs the programs over long words, keys, lists and texts, many short ones, and texts in lines beside all their divisions.
+tests/long-texts runs it.
 
 Usage: long_texts.py PROGRAMS FOLDER. PROGRAMS is a folder with the programs. The last line is `N passed, M failed`.
 
-The input of a run and the output that it must have are made here of the same pieces. A run of more than a minute fails, so
-the time can't grow with the square of such lengths.
+The input of a run and the output that it must have are made here of the same pieces, or by trying each division into lines. A
+run of more than a minute fails, so the time can't grow with the square of such lengths.
 """
 
 import itertools
+import os
 import pathlib
 import string
 import subprocess
@@ -28,7 +30,7 @@ CAUSES = {
 }
 # How each beginning of it is refused, from the empty one on; a dot is one that is accepted.
 BEGINNINGS = "h" * 22 + "l" * 11 + "m" * 15 + "..ut..."
-CHECKS = 352
+CHECKS = 464
 
 
 class Runs:
@@ -158,9 +160,78 @@ def short_texts(runs):
                         says=f"hyphenate-canonical: standard input: {CAUSES[cause]}\n")
 
 
+def million_bytes(runs):
+    """A text is a piece, repeated to 15,000 or a million bytes, and so is its result."""
+    american = runs.dictionary("standard", "2 3", "p .fi2\np i2r\np r2k\np r5kin\np k1in\np k2in.")
+    doubled = runs.file("doubled.txt", "hyphenation 1 extended\nlanguage hu\nminima 2 2\ne asszonnyal 2,1,2,2,szsz 6,1,2,2,nyny\n")
+    rows = [
+        ("is hyphenated", ["hyphenate", "standard", "x", american, "-"], "Firkin, firkins. ", "Fir-kin, fir-k-ins. "),
+        ("is hyphenated with changes", ["hyphenate", "extended", "hu", doubled, "-"], "Az asszonnyal. ", "Az asz-szony-nyal. "),
+        # two words have eight characters with the space after the second
+        ("is filled", ["hyphenate", "fill", "x", american, "7"], "fir ", "fir \n"),
+        ("is divided into full lines", ["hyphenate-lines", "--width", "5", american], "aa bb ", "aa bb\n"),
+        ("is divided into even lines", ["hyphenate-lines", "--even", "--width", "5", american], "aa bb ", "aa bb\n"),
+    ]
+    for (shows, words, piece, result), size in itertools.product(rows, (15_000, 1_000_000)):
+        times = -(-size // len(piece))
+        runs.writes(f"a text of {size} bytes {shows}", result * times, *words, given=piece.encode() * times)
+
+
+def memory(runs):
+    """Lines and paragraphs have little more room than they need: a byte of a text takes at most fifty bytes."""
+    path = runs.dictionary("standard", "2 3", "")
+
+    def peak(text, *options):
+        """The most memory of a run over a text, in bytes, as the system reports it; 0 if the run fails."""
+        given = runs.folder / "given"
+        given.write_bytes(text)
+        words = [str(runs.programs / "hyphenate-lines"), *options, path]
+        with given.open("rb") as text, subprocess.Popen(words, stdin=text, stdout=subprocess.DEVNULL) as ran:
+            _, status, usage = os.wait4(ran.pid, 0)
+            ran.returncode = os.waitstatus_to_exitcode(status)
+        return usage.ru_maxrss * 1024 if ran.returncode == 0 else 0
+
+    small = peak(b"aa bb\n")
+    texts = [("lines of 5 columns", "5", b"aa bb "), ("lines of 72 columns", "72", b"aa bb ")]
+    texts += [(f"paragraphs of {size} bytes", "72", b"a" * size + b"\n\n") for size in (60, 300, 5_000)]
+    for (shows, width, piece), aim in itertools.product(texts, ([], ["--even"])):
+        text = piece * (1_000_000 // len(piece))
+        found = peak(text, *aim, "--width", width)
+        runs.check(0 < found <= small + 50 * len(text), shows, *aim, f"{found} bytes of memory for {len(text)}")
+
+
+# Texts, and the places in bytes where a line of each may end.
+DIVIDED = [
+    ("I know noble accents", [2, 7, 9, 13, 15, 20]),
+    ("a  b   noble", [2, 3, 5, 6, 7, 9, 12]),
+    ("\u00adri\u00adbo nu", [4, 9, 11]),
+    ("noble accents lucid inescapable noble", [2, 6, 8, 14, 16, 20, 22, 32, 34, 37]),
+    ("lucid größe lucid größe noble lucid", [2, 6, 10, 14, 16, 20, 24, 28, 30, 34, 36, 39]),
+]
+
+
+def divisions(runs):
+    """At each width at which a division fits, no division into lines has fewer of them."""
+    path = runs.dictionary("standard", "2 2", "e noble 2\ne accents 2\ne lucid 2\ne inescapable 2\ne größe 4")
+    for text, cuts in DIVIDED:
+        whole = text.encode()
+        chosen = itertools.chain.from_iterable(itertools.combinations(cuts[:-1], count) for count in range(len(cuts)))
+        every = []
+        for ends in chosen:
+            lines = [whole[start:end].decode() for start, end in zip([0, *ends], [*ends, len(whole)])]
+            every.append([line if line.endswith(" ") else line + "-" for line in lines[:-1]] + lines[-1:])
+        for width in range(len(text) + 1):
+            fit = [lines for lines in every if all(len(line) <= width for line in lines)]
+            if fit:
+                words = [str(runs.programs / "hyphenate"), "fill", "x", path, str(width)]
+                found = subprocess.run(words, input=whole, stdout=subprocess.PIPE, check=False).stdout.decode()
+                lines = found.removesuffix("\n").split("\n")
+                runs.check(lines in fit and len(lines) == min(map(len, fit)), f"{text}, in {width} columns:", lines)
+
+
 def main():
     runs = Runs(sys.argv[1], sys.argv[2])
-    for part in (long_words, long_keys, long_texts, short_texts):
+    for part in (long_words, long_keys, long_texts, short_texts, million_bytes, memory, divisions):
         part(runs)
     runs.check(runs.passed + runs.failed == CHECKS, "there are", runs.passed + runs.failed, "checks, and not", CHECKS)
     print(f"{runs.passed} passed, {runs.failed} failed")
