@@ -1,6 +1,6 @@
 //! Segments of words, with marks or without, and contracts that callers can promise.
 
-ghost use Rattle.std.specs.Prelude.{◌≡◌, ◌+◌, map, vec_len, IfOk};
+ghost use Rattle.std.specs.Prelude.{◌≡◌, ◌+◌, map, vec_len, IfOk, codes};
 ghost use Rattle.std.specs.List.{concat};
 ghost use Rattle.std.specs.String.{string_bytes};
 ghost use Rattle.hyphenation_breaks.specs.Break.{plain_break};
@@ -20,6 +20,26 @@ use test_dictionaries::extended;
 use test_support::{CallError, expect, expect_equal};
 
 // Callers of the iterators, which are proved with the tests.
+
+fn all_segments<'t>(
+    alloc: Global,
+    text: &'t str,
+    breaks: &[usize],
+) -> Result<Vec<&'t str>, AllocError>
+    requires { Fits text.now (map plain_break breaks.now) }
+    ensures { IfOk result (λ list. map (λ segment. segment.now) list.items
+        ≡ segments text.now (map plain_break breaks.now)) }
+{
+    Segments::new(text, breaks.iter().copied()).collect(alloc)
+}
+
+fn number_of_segments(text: &str, breaks: Vec<usize>) -> usize
+    requires { Fits text.now (map plain_break breaks.items) }
+    ensures { result ≡ vec_len breaks + 1 }
+{
+    laws::segments_are_one_more_than_breaks();
+    Segments::new(text, breaks.into_iter()).len()
+}
 
 fn joined_segments(alloc: Global, text: &str, breaks: &[usize]) -> Result<String, AllocError>
     requires { Fits text.now (map plain_break breaks.now) }
@@ -64,6 +84,18 @@ fn number_of_marked_segments(word: &Word<'_, usize>) -> usize
 {
     laws::segments_are_one_more_than_breaks();
     word.iter().len()
+}
+
+fn all_marked(alloc: Global, word: Word<'_, usize>) -> Result<Vec<String>, AllocError>
+    ensures { IfOk result (λ v.
+        map string_bytes v.items
+        ≡ marked_segments (codes "-") (segments word.entry.text.now (map plain_break word.entry.breaks.items))) }
+{
+    let mut list = Vec::new(alloc);
+    for item in word {
+        list.push(item?)?;
+    }
+    Ok(list)
 }
 
 fn left_unmarked<'t>(alloc: Global, word: Word<'t, usize>) -> Result<Vec<&'t str>, AllocError>
@@ -160,9 +192,25 @@ fn copy_goes_on(
     Ok(marked_text(alloc, copy)?.as_str() == wanted)
 }
 
-// Whether the segments of a text join to it, as a caller promises.
-fn is_joined(alloc: Global, text: &str, breaks: &[usize]) -> Result<bool, AllocError> {
-    Ok(Word::fits(text, breaks) && joined_segments(alloc, text, breaks)?.as_str() == text)
+// Whether the segments of a text join to it, and are so many, as callers promise.
+fn join_and_count(
+    alloc: Global,
+    text: &str,
+    breaks: &[usize],
+    number: usize,
+) -> Result<bool, AllocError> {
+    if !Word::fits(text, breaks) {
+        return Ok(false);
+    }
+    let all = all_segments(alloc, text, breaks)?.len();
+    let counted = number_of_segments(text, Vec::from_slice(alloc, breaks)?);
+    let joined = joined_segments(alloc, text, breaks)?;
+    Ok(joined.as_str() == text && all == number && counted == number)
+}
+
+// The number of the items of a word.
+fn number_of_items(alloc: Global, text: &str, breaks: &[usize]) -> Result<usize, CallError> {
+    Ok(all_marked(alloc, word_of(alloc, text, breaks)?)?.len())
 }
 
 // Each row has its sentence, the text, its breaks, and its segments.
@@ -246,8 +294,9 @@ fn a_new_mark_holds_for_the_segments_to_come(rt: HostRuntime) -> Result<(), Fail
 #[test]
 fn copies_go_on_and_segments_join(rt: HostRuntime) -> Result<(), Fail> {
     let copied = copy_goes_on(rt.alloc(), TEXT, BREAKS, "phen-a-tion")?;
-    let joined = is_joined(rt.alloc(), TEXT, BREAKS)?;
+    let joined = join_and_count(rt.alloc(), TEXT, BREAKS, 4)?;
+    let items = number_of_items(rt.alloc(), TEXT, BREAKS)?;
     let counted = Word::fits(TEXT, BREAKS)
         && counts_down(Segments::new(TEXT, BREAKS.iter().copied()), 4);
-    expect_equal(&(copied, joined, counted), &(true, true, true))
+    expect_equal(&(copied, joined, counted, items), &(true, true, true, 4))
 }
