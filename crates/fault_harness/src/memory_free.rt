@@ -1,7 +1,6 @@
 //! Calls that request no memory.
 
-use crate::dictionary_texts::{CHANGES, WORDS, dictionary};
-use crate::pass_gate;
+use crate::gate::{CHANGES, WORDS, extended, pass_gate, say, say_number, standard};
 use hyphenation::case_folding::{Shift, realign, refold};
 use hyphenation::engine::Kind;
 use hyphenation::extended::{Extended, Subregion};
@@ -13,19 +12,19 @@ use hyphenation::{Language, Standard};
 use std::alloc::{AllocError, Global};
 use std::borrow::CowStr;
 use std::io;
-use std::io::{ErrorKind, Read};
+use std::io::ErrorKind;
 
 // Counts results, and those that were right.
 #[derive(Clone, Copy)]
 struct Tally {
-    made: u32,
-    right: u32,
+    made: usize,
+    right: usize,
 }
 
 impl Tally {
     fn note(&mut self, is_right: bool) {
         self.made = self.made.saturating_add(1);
-        self.right = self.right.saturating_add(u32::from(is_right));
+        self.right = self.right.saturating_add(usize::from(is_right));
     }
 }
 
@@ -103,47 +102,37 @@ fn is_borrowed(item: Result<CowStr<'_>, AllocError>, text: &str) -> bool {
     }
 }
 
-fn check_marked_segments<G: Read>(
-    tally: &mut Tally,
-    alloc: Global,
-    gate: &mut G,
-) -> io::Result<()> {
-    let dictionary: Standard = dictionary(alloc, WORDS)?;
-    let word = dictionary.hyphenate(alloc, "hyphenation")?;
-    pass_gate(gate);
+fn check_marked_segments(tally: &mut Tally, rt: &HostRuntime, word: &Word<'_, usize>) {
+    pass_gate(rt);
     let mut items = word.iter();
     items.mark_with("=");
     tally.note(items.len() == 4 && items.size_hint() == (4, Some(4)));
-    let copy = items.clone()?;
-    tally.note(copy.len() == 4);
-    pass_gate(gate);
-    Ok(())
+    if let Ok(copy) = items.clone() {
+        tally.note(copy.len() == 4);
+    }
+    pass_gate(rt);
 }
 
-fn check_segments<G: Read>(tally: &mut Tally, alloc: Global, gate: &mut G) -> io::Result<()> {
-    let dictionary: Standard = dictionary(alloc, WORDS)?;
-    let word = dictionary.hyphenate(alloc, "hyphenation")?;
-    pass_gate(gate);
+fn check_segments(tally: &mut Tally, rt: &HostRuntime, word: Word<'_, usize>) {
+    pass_gate(rt);
     let mut segments = word.iter().segments();
     tally.note(segments.next() == Some("hy"));
     tally.note(segments.pull() == Some("phen"));
     tally.note(segments.len() == 2 && segments.left() == 2);
-    let mut copied = segments.clone()?;
-    tally.note(copied.next() == Some("a"));
+    if let Ok(mut copied) = segments.clone() {
+        tally.note(copied.next() == Some("a"));
+    }
     tally.note(word.into_iter().len() == 4);
-    pass_gate(gate);
-    Ok(())
+    pass_gate(rt);
 }
 
-fn check_changed_segments<G: Read>(
-    tally: &mut Tally,
-    alloc: Global,
-    gate: &mut G,
-) -> io::Result<()> {
-    let breaks = vec![in alloc; 2, 6, 7]?;
-    pass_gate(gate);
-    if Word::fits("hyphenation", &breaks) {
-        let mut borrowed = SegmentsExt::new(alloc, "hyphenation", breaks.iter().copied());
+// The breaks of `hyphenation` that are tried.
+const PLACES: [usize; 3] = [2, 6, 7];
+
+fn check_changed_segments(tally: &mut Tally, rt: &HostRuntime) {
+    pass_gate(rt);
+    if Word::fits("hyphenation", &PLACES) {
+        let mut borrowed = SegmentsExt::new(rt.alloc(), "hyphenation", PLACES.iter().copied());
         match borrowed.next() {
             Some(item) => tally.note(is_borrowed(item, "hy")),
             None => tally.note(false),
@@ -153,29 +142,24 @@ fn check_changed_segments<G: Read>(
             None => tally.note(false),
         }
         tally.note(borrowed.len() == 2 && borrowed.left() == 2);
-        let mut places = breaks.iter().copied();
+        let mut places = PLACES.iter().copied();
         tally.note(places.left() == 3 && places.pull() == Some(2) && places.left() == 2);
-        let segments = Segments::new("hyphenation", breaks.iter().copied());
-        let rest = Hyphenating::new(alloc, segments);
+        let segments = Segments::new("hyphenation", PLACES.iter().copied());
+        let rest = Hyphenating::new(rt.alloc(), segments);
         tally.note(rest.len() == 4);
-        let word = Word::new("hyphenation", breaks);
-        tally.note(word.breaks.len() == 3);
     }
-    pass_gate(gate);
-    Ok(())
+    pass_gate(rt);
 }
 
-fn check_owned_breaks<G: Read>(tally: &mut Tally, alloc: Global, gate: &mut G) -> io::Result<()> {
-    let breaks = vec![in alloc; 2, 6, 7]?;
-    let dictionary: Extended = dictionary(alloc, CHANGES)?;
-    let word = dictionary.hyphenate(alloc, "asszonnyal")?;
-    pass_gate(gate);
-    let mut places = breaks.into_iter();
-    tally.note(places.left() == 3 && places.pull() == Some(2) && places.left() == 2);
-    let items = word.into_iter();
-    tally.note(items.len() == 3 && items.size_hint() == (3, Some(3)));
-    pass_gate(gate);
-    Ok(())
+fn check_owned_breaks(tally: &mut Tally, rt: &HostRuntime, breaks: Vec<usize>) {
+    if Word::fits("hyphenation", &breaks) {
+        pass_gate(rt);
+        let word = Word::new("hyphenation", breaks);
+        tally.note(word.breaks.len() == 3);
+        let mut places = word.breaks.into_iter();
+        tally.note(places.left() == 3 && places.pull() == Some(2) && places.left() == 2);
+        pass_gate(rt);
+    }
 }
 
 fn check_texts(tally: &mut Tally) {
@@ -184,30 +168,62 @@ fn check_texts(tally: &mut Tally) {
     tally.note(matches!(borrowed.text(), Ok("ab")));
 }
 
-fn check_dictionaries<G: Read>(tally: &mut Tally, alloc: Global, gate: &mut G) -> io::Result<()> {
-    let mut words: Standard = dictionary(alloc, WORDS)?;
-    let mut changes: Extended = dictionary(alloc, CHANGES)?;
-    let substitution = String::from_str(alloc, "szsz")?;
-    pass_gate(gate);
-    check_standard(tally, &mut words);
-    check_extended(tally, &mut changes);
-    check_breaks(tally, substitution);
-    pass_gate(gate);
-    Ok(())
+fn check_words_of(tally: &mut Tally, rt: &HostRuntime, mut dictionary: Standard) {
+    if let Ok(word) = dictionary.hyphenate(rt.alloc(), "hyphenation") {
+        check_marked_segments(tally, rt, &word);
+        check_segments(tally, rt, word);
+    }
+    pass_gate(rt);
+    check_standard(tally, &mut dictionary);
+    pass_gate(rt);
+}
+
+fn check_changes_of(tally: &mut Tally, rt: &HostRuntime, mut dictionary: Extended) {
+    if let Ok(word) = dictionary.hyphenate(rt.alloc(), "asszonnyal") {
+        pass_gate(rt);
+        let items = word.into_iter();
+        tally.note(items.len() == 3 && items.size_hint() == (3, Some(3)));
+        pass_gate(rt);
+    }
+    pass_gate(rt);
+    check_extended(tally, &mut dictionary);
+    pass_gate(rt);
+}
+
+fn check_dictionaries(tally: &mut Tally, rt: &HostRuntime) {
+    if let Ok(words) = standard(rt, WORDS) {
+        check_words_of(tally, rt, words);
+    }
+    if let Ok(changes) = extended(rt, CHANGES) {
+        check_changes_of(tally, rt, changes);
+    }
+}
+
+fn check_made(tally: &mut Tally, rt: &HostRuntime) {
+    let substitution: Result<_, _> = String::from_str(rt.alloc(), "szsz");
+    if let Ok(substitution) = substitution {
+        pass_gate(rt);
+        check_breaks(tally, substitution);
+        pass_gate(rt);
+    }
+    let breaks: Result<_, _> = Vec::from_slice(rt.alloc(), &PLACES);
+    if let Ok(breaks) = breaks {
+        check_owned_breaks(tally, rt, breaks);
+    }
 }
 
 /// Makes each call that requests no memory, and says how many results were right.
-pub fn call_each<G: Read>(alloc: Global, gate: &mut G) -> io::Result<String> {
+pub fn call_each(rt: &HostRuntime) {
     let mut tally = Tally { made: 0, right: 0 };
-    pass_gate(gate);
+    pass_gate(rt);
     check_names(&mut tally);
-    check_words(&mut tally, alloc);
+    check_words(&mut tally, rt.alloc());
     check_texts(&mut tally);
-    pass_gate(gate);
-    check_dictionaries(&mut tally, alloc, gate)?;
-    check_marked_segments(&mut tally, alloc, gate)?;
-    check_segments(&mut tally, alloc, gate)?;
-    check_changed_segments(&mut tally, alloc, gate)?;
-    check_owned_breaks(&mut tally, alloc, gate)?;
-    Ok(format!(in alloc; "{} results, {} right", tally.made, tally.right)?)
+    pass_gate(rt);
+    check_dictionaries(&mut tally, rt);
+    check_changed_segments(&mut tally, rt);
+    check_made(&mut tally, rt);
+    say_number(rt, "", tally.made);
+    say_number(rt, " results, ", tally.right);
+    say(rt, " right");
 }
