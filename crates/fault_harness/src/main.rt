@@ -8,13 +8,10 @@
 //! With four arguments after `measure` it does a task whose instructions `bench/measure` counts.
 #![tactic(auto)]
 
-mod breaks;
-mod exceptions;
+mod calls;
 mod gate;
 mod measuring;
 mod memory_free;
-mod segments;
-mod words;
 
 use gate::{say, say_number};
 use std::process::ExitCode;
@@ -22,12 +19,13 @@ use std::{env, io};
 
 // Makes the call of this name, and writes its result.
 fn make_call(rt: &HostRuntime, name: &str) {
-    match name.split_once(' ') {
-        Some(("add", which)) => exceptions::add(rt, which),
-        Some(("score", which)) => breaks::score(rt, which),
-        Some(("breaks", which)) => breaks::ask(rt, which),
-        Some(("word", which)) => words::word(rt, which),
-        Some(("iterate", which)) => segments::iterate(rt, which),
+    match name {
+        "add" => calls::add(rt, calls::FULL),
+        "add again" => calls::add(rt, gate::WORDS),
+        "copy" => calls::copy(rt),
+        "borrowed segments" => calls::iterate(rt, true),
+        "segments" => calls::iterate(rt, false),
+        "changed segments" => calls::iterate_changed(rt),
         _ => memory_free::call_each(rt),
     }
     say(rt, "\n");
@@ -37,8 +35,8 @@ fn make_call(rt: &HostRuntime, name: &str) {
 // standard input, so that its memory can be looked at.
 fn measure(rt: &HostRuntime, task: &str, kind: &str, path: &str, list: &str) {
     match measuring::measure(rt, task, kind, path, list) {
-        Ok(count) => say_number(rt, "", count),
-        Err(_) => say(rt, "an error"),
+        Some(count) => say_number(rt, "", count),
+        None => say(rt, "an error"),
     }
     say(rt, "\n");
     if task == "memory" {

@@ -50,16 +50,31 @@ fn do_task<'d, D: Score<'d> + Hyphenator<'d>>(
     }
 }
 
-/// Does a task with the dictionary of a kind and a path, and with the words of a list, and returns the number that it
-/// counts.
-pub fn measure(rt: &HostRuntime, task: &str, kind: &str, path: &str, list: &str) -> Result<usize> {
-    let words = fs::read_to_string(rt, list)?;
+// Does a task with a dictionary that was loaded, or returns why it was not.
+fn do_with<'d, D: Score<'d> + Hyphenator<'d>>(
+    rt: &HostRuntime,
+    task: &str,
+    dictionary: &'d Result<D>,
+    list: &str,
+) -> Option<usize> {
+    match (dictionary, fs::read_to_string(rt, list)) {
+        (Ok(dictionary), Ok(words)) => do_task(rt.alloc(), task, dictionary, &words).ok(),
+        _ => None,
+    }
+}
+
+// Loads the dictionary of a file.
+fn load<D: Load>(rt: &HostRuntime, path: &str) -> Result<D> {
     let mut file = fs::open(rt, path)?;
+    D::any_from_reader(rt.alloc(), &mut file)
+}
+
+/// Does a task with the dictionary of a kind and a path, and with the words of a list, and returns the number that it
+/// counts, or `None` after an error.
+pub fn measure(rt: &HostRuntime, task: &str, kind: &str, path: &str, list: &str) -> Option<usize> {
     if kind == "extended" {
-        let dictionary = Extended::any_from_reader(rt.alloc(), &mut file)?;
-        do_task(rt.alloc(), task, &dictionary, &words)
+        do_with(rt, task, &load::<Extended>(rt, path), list)
     } else {
-        let dictionary = Standard::any_from_reader(rt.alloc(), &mut file)?;
-        do_task(rt.alloc(), task, &dictionary, &words)
+        do_with(rt, task, &load::<Standard>(rt, path), list)
     }
 }

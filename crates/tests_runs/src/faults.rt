@@ -13,12 +13,12 @@ use test_support::io_errors::{BROKEN_PIPE, CONNECTION_RESET, INTERRUPTED, OUT_OF
 use test_support::readers::failing_once;
 use test_support::writers::failing_at;
 
-// What a run writes of its input.
+// The task of a run.
 #[derive(Clone, Copy)]
 enum Task {
-    // It, with hyphens.
+    // Its input with hyphens.
     Text,
-    // Its lines, of five columns.
+    // The lines of its input, of five columns.
     Lines,
     // The values of `firkin`, whatever the input is.
     Values,

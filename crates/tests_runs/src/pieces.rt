@@ -2,7 +2,7 @@
 
 use std::alloc::Global;
 use std::test::Fail;
-use test_support::{expect, expect_equal_in};
+use test_support::expect;
 use unicode_segmentation::UnicodeSegmentation;
 use word_pieces::WordPieceIndices;
 
@@ -107,7 +107,7 @@ fn pieces_before_a_place_are_passed(rt: HostRuntime) -> Result<(), Fail> {
     for (shows, text, place, offset, piece) in PASSED {
         let mut pieces = WordPieceIndices::new(text);
         pieces.pass_before(*place);
-        expect_equal_in(*shows, &pieces.next(), &Some((*offset, *piece)))?;
+        expect(pieces.next() == Some((*offset, *piece)), *shows)?;
     }
     Ok(())
 }
