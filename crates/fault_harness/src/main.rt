@@ -31,33 +31,38 @@ fn make_call(rt: &HostRuntime, name: &str) {
     say(rt, "\n");
 }
 
-// Does the task of these arguments, and writes the number that it counts. After the task `memory` it waits for the end of
-// standard input, so that its memory can be looked at.
-fn measure(rt: &HostRuntime, task: &str, kind: &str, path: &str, list: &str) {
+// Does the task of these arguments, writes the number that it counts, and reports whether it was done. After the task
+// `memory` it waits for the end of standard input, so that its memory can be looked at.
+fn measure(rt: &HostRuntime, task: &str, kind: &str, path: &str, list: &str) -> bool {
     match measuring::measure(rt, task, kind, path, list) {
-        Some(count) => say_number(rt, "", count),
-        None => say(rt, "an error"),
-    }
-    say(rt, "\n");
-    if task == "memory" {
-        gate::pass_gate(rt);
+        Some(count) => {
+            say_number(rt, "", count);
+            say(rt, "\n");
+            if task == "memory" {
+                gate::pass_gate(rt);
+            }
+            true
+        }
+        None => false,
     }
 }
 
-// Does what the arguments ask for.
-fn run_args(rt: &HostRuntime) -> io::Result<()> {
+// Does what the arguments ask for, and reports whether they ask for anything that can be done.
+fn run_args(rt: &HostRuntime) -> io::Result<bool> {
     let words: Vec<String> = env::args(rt)?.collect(rt.alloc())?;
-    match words.as_slice() {
-        [_, name] => make_call(rt, name),
+    Ok(match words.as_slice() {
+        [_, name] => {
+            make_call(rt, name);
+            true
+        }
         [_, _, task, kind, path, list] => measure(rt, task, kind, path, list),
-        _ => {}
-    }
-    Ok(())
+        _ => false,
+    })
 }
 
 fn main(rt: HostRuntime) -> ExitCode {
     match run_args(&rt) {
-        Ok(()) => ExitCode::SUCCESS,
-        Err(_) => ExitCode::FAILURE,
+        Ok(true) => ExitCode::SUCCESS,
+        _ => ExitCode::FAILURE,
     }
 }
