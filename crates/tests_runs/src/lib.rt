@@ -1,16 +1,14 @@
-//! Tests of runs, lines and pages that no program shows: readers and writers that fail, long texts, calls of the
-//! library, and pages and texts in pieces. Each name of `hyphenation` that users have is called once.
+//! Tests of calls of the libraries, that no program shows: each name of `hyphenation` that users have is called once, and
+//! so is each caller in `callers`; readers and writers fail; texts in pieces are those of the kit's iterator.
 #![tactic(auto)]
 
+#[cfg(test)]
+mod caller_examples;
 #[cfg(test)]
 mod faults;
 #[cfg(test)]
 mod first_example;
 #[cfg(test)]
-mod lines;
-#[cfg(test)]
 mod names;
 #[cfg(test)]
 mod pieces;
-#[cfg(test)]
-mod runs;

@@ -4,72 +4,98 @@ use hyphenation::case_folding::{Shift, realign, refold};
 use hyphenation::extended::{Extended, Subregion};
 use hyphenation::grammar::{Kind, apply_edit};
 use hyphenation::hyphenator::{Word, boundaries_of, soft_hyphen_indices};
-use hyphenation::iter::{Hyphenating, Segments, SegmentsExt, Texts};
+use hyphenation::iter::{Hyphenating, Iter, Segments, SegmentsExt, Texts};
 use hyphenation::load::Load;
 use hyphenation::score::{LookUps, Score};
-use hyphenation::{Iter, hyphenate_text};
+use hyphenation::{Standard, hyphenate_text};
 use std::alloc::{AllocError, Global};
 use std::test::Fail;
 use test_dictionaries::{DOUBLED, FIRKIN, dictionary};
-use test_support::{expect, expect_equal, expect_text};
+use test_support::{expect, expect_text};
+
+// Whether `İẞab` folds to `ißab`, and the place 3 of that is 5 of the word.
+fn is_folded(alloc: Global) -> bool {
+    match refold(alloc, "İẞab") {
+        Ok((folded, shifts)) => folded.as_str() == "ißab" && realign(3, &shifts) == 5,
+        Err(_) => false,
+    }
+}
 
 #[test]
 fn words_are_folded_and_bounded(rt: HostRuntime) -> Result<(), Fail> {
-    let (folded, shifts) = refold(rt.alloc(), "İẞab")?;
-    expect(folded.as_str() == "ißab", "İẞab folds to ißab")?;
-    expect_equal(&realign(3, &shifts), &5)?;
-    expect_equal(&realign(1, &[Shift { index: 0, delta: 2 }]), &0)?;
-    expect_equal(&boundaries_of((2, 3), "firkin"), &Some((2, 3)))?;
-    expect(
-        soft_hyphen_indices(rt.alloc(), "firkin")?.is_none(),
-        "no soft hyphen",
-    )
+    expect(is_folded(rt.alloc()), "İẞab folds to ißab")?;
+    let back = realign(1, &[Shift { index: 0, delta: 2 }]);
+    expect(back == 0, "a place is carried back")?;
+    let bounds = boundaries_of((2, 3), "firkin");
+    expect(bounds == Some((2, 3)), "the bounds of firkin")?;
+    let soft = soft_hyphen_indices(rt.alloc(), "firkin");
+    expect(matches!(soft, Ok(None)), "no soft hyphen")
 }
 
-// Items with a space after each.
-fn with_spaces<I: Texts>(alloc: Global, items: Hyphenating<'_, I>) -> Result<String, AllocError> {
-    let mut spaced = String::new(alloc);
-    for item in items {
-        spaced.push_str(item?.as_str())?;
-        spaced.push(' ')?;
+// Whether an item is this text.
+fn is_item(item: Option<Result<String, AllocError>>, wanted: &str) -> bool {
+    match item {
+        Some(Ok(item)) => item.as_str() == wanted,
+        _ => false,
     }
-    Ok(spaced)
 }
 
-// The segments of `firkin`, broken at 3: those of a word, and those of only its breaks.
-fn segments_of_firkin(alloc: Global) -> Result<String, Fail> {
-    let pair: (usize, Option<&Subregion>) = (3, None);
-    if !Word::fits("firkin", &[3]) || !Word::fits("firkin", &[pair]) {
-        return Err(Fail::from("the break does not fit"));
+// Whether items are the segments of `fir-kin`.
+fn are_of_firkin<I: Texts>(mut items: Hyphenating<'_, I>) -> bool {
+    is_item(items.next(), "fir-") && is_item(items.next(), "kin") && items.next().is_none()
+}
+
+const PLACES: [usize; 1] = [3];
+
+const PAIRS: [(usize, Option<&Subregion>); 1] = [(3, None)];
+
+fn word_has_them(alloc: Global) -> bool {
+    let breaks: Result<_, _> = vec![in alloc; 3];
+    match breaks {
+        Ok(breaks) => {
+            Word::fits("firkin", &breaks) && are_of_firkin(Word::new("firkin", breaks).into_iter())
+        }
+        Err(_) => false,
     }
-    let breaks = vec![in alloc; 3]?;
-    let mut found = with_spaces(alloc, Word::new("firkin", breaks).iter())?;
-    let (places, pairs) = ([3], [pair]);
-    let plain = Segments::new("firkin", places.iter().copied());
-    found.push_str(&with_spaces(alloc, Hyphenating::new(alloc, plain))?)?;
-    let changed = SegmentsExt::new(alloc, "firkin", pairs.iter().copied());
-    found.push_str(&with_spaces(alloc, Hyphenating::new(alloc, changed))?)?;
-    Ok(found)
+}
+
+fn breaks_have_them(alloc: Global) -> bool {
+    Word::fits("firkin", &PLACES)
+        && are_of_firkin(Hyphenating::new(alloc, Segments::new("firkin", PLACES.iter().copied())))
+}
+
+fn changes_have_them(alloc: Global) -> bool {
+    Word::fits("firkin", &PAIRS)
+        && are_of_firkin(Hyphenating::new(
+            alloc,
+            SegmentsExt::new(alloc, "firkin", PAIRS.iter().copied()),
+        ))
 }
 
 #[test]
 fn each_type_of_segments_has_the_same_segments(rt: HostRuntime) -> Result<(), Fail> {
-    expect_text(
-        segments_of_firkin(rt.alloc()),
-        "fir- kin fir- kin fir- kin ",
-    )
+    expect(word_has_them(rt.alloc()), "a word")?;
+    expect(breaks_have_them(rt.alloc()), "breaks")?;
+    expect(changes_have_them(rt.alloc()), "breaks with changes")
+}
+
+// Whether the score of `firkin` counts six reports.
+fn counts_reports(alloc: Global, dictionary: &Standard) -> bool {
+    let mut count = LookUps::new();
+    match dictionary.score_counted(alloc, "firkin", &mut count) {
+        Ok(values) => values.as_slice() == [0, 2, 5, 2, 0].as_slice() && count.reported() == 6,
+        Err(_) => false,
+    }
 }
 
 #[test]
 fn look_ups_are_counted_and_an_edit_is_made(rt: HostRuntime) -> Result<(), Fail> {
     let mut firkin = dictionary(rt.alloc(), FIRKIN)?;
-    let mut count = LookUps::new();
-    let values = firkin.score_counted(rt.alloc(), "firkin", &mut count)?;
-    expect_equal(&values.as_slice(), &[0, 2, 5, 2, 0].as_slice())?;
-    expect_equal(&count.reported(), &6)?;
+    let is_counted = counts_reports(rt.alloc(), &firkin);
+    let edited = apply_edit(rt.alloc(), Kind::Standard, &mut firkin, "+firkins 3");
     expect(
-        apply_edit(rt.alloc(), Kind::Standard, &mut firkin, "+firkins 3")?,
-        "the edit is done",
+        is_counted && matches!(edited, Ok(true)),
+        "counts, and an edit",
     )
 }
 
