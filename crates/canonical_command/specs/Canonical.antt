@@ -9,6 +9,7 @@ use Rattle.command_line.specs.Dictionaries.{KnownFiles, IsOfArgument, IsFailureO
 use Rattle.command_line.specs.Endings.{End, Done, Refuses, Fails, IsRefusal}
 use Rattle.command_line.specs.Options.{ReadArguments, RefusedArgument, refused, after_step, read_arguments}
 use Rattle.command_line.specs.Steps.{EndsIn}
+use Rattle.command_line.specs.Usage.{options_in}
 use Rattle.command_line.specs.declared.TheConstants.{VERSION}
 use Rattle.command_line.specs.declared.failure.Failure.{Failure}
 use Rattle.command_line.specs.declared.failure.Failure.TheVariants as failed
@@ -31,7 +32,7 @@ named_by (dictionary ∷ other ∷ rest) = Err (refused other None NoMore)
 
 -- The path or the language that all arguments name, or the first argument that is refused.
 abbrev pub parsed_args : List (Bor (List ℕ)) → Result (Option (List ℕ)) RefusedArgument
-parsed_args args = after_step (λ read. named_by read.operands) (read_arguments [] (texts_now args))
+parsed_args args = after_step (λ read. named_by read.operands) (read_arguments (options_in USAGE.now) (texts_now args))
 
 -- ---- dictionaries
 

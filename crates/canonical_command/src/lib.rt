@@ -59,7 +59,7 @@ fn parsed_args<'w>(alloc: Global, args: &'w [&'w str]) -> Result<Option<&'w str>
     ensures parsed { IfOk result (λ named. parsed_args args.now ≡ Ok (option_copied named)) }
     ensures refused { IfErr result (IsReadError (parsed_args args.now)) }
 {
-    let arguments = read(alloc, &[], args)?;
+    let arguments = read(alloc, USAGE, args)?;
     named_by(&arguments.operands)
 }
 

@@ -8,7 +8,7 @@ use Rattle.std.proofs.lemmas.List.{append_assoc, append-nil}
 use Rattle.hyphenation_grammar.specs.Lines.{is_same}
 use Rattle.command_line.specs.Options.{ReadArguments, RefusedArgument, refused, Any, OperandsAlone, is_operand, form_of, name_in, value_in, with_given, with_operand, with_option, with_option_if_known, with_argument, after_step, read_after}
 use Rattle.command_line.specs.OptionLaws.{ValuesJoin, OperandsFollowDashes, OperandsAreRead, OptionsMove, OperandsAreKept, stands_alone}
-use Rattle.command_line.specs.declared.options.OptionForm.{OptionForm}
+use Rattle.command_line.specs.Usage.{OptionForm}
 use Rattle.command_line.specs.declared.options.Expected.TheVariants.{KnownOption, NoValue}
 use Rattle.command_line.proofs.OptionTexts.{name_in_name, value_in_name, name_in_joined, value_in_joined, joined_is_no_operand, joined_is_not_dashes, operand_is_not_dashes}
 
@@ -79,7 +79,7 @@ option_moves forms so_far operand rest form (Some text) fits alone = by form.tak
     by true e =
         ap (after_step (λ step. read_after forms step.0 step.1 rest)) (cond-true _ _ _ e)
         ∙ sym (ap (after_step (λ step. read_after forms step.0 step.1 (operand ∷ rest))) (cond-true _ _ _ e)
-        ∙ ap (after_step (λ step. read_after forms step.0 step.1 rest)) (as_operand forms (with_given so_far form.name.now (Some text)) operand fits))
+        ∙ ap (after_step (λ step. read_after forms step.0 step.1 rest)) (as_operand forms (with_given so_far form.name (Some text)) operand fits))
     by false e =
         ap (after_step (λ step. read_after forms step.0 step.1 rest)) (cond-false _ _ _ e)
         ∙ sym (ap (after_step (λ step. read_after forms step.0 step.1 (operand ∷ rest))) (cond-false _ _ _ e))
@@ -92,7 +92,7 @@ option_moves forms so_far operand rest form None fits alone = by form.takes_valu
     by false e =
         ap (after_step (λ step. read_after forms step.0 step.1 rest)) (cond-false _ _ _ e)
         ∙ sym (ap (after_step (λ step. read_after forms step.0 step.1 (operand ∷ rest))) (cond-false _ _ _ e)
-        ∙ ap (after_step (λ step. read_after forms step.0 step.1 rest)) (as_operand forms (with_given so_far form.name.now None) operand fits))
+        ∙ ap (after_step (λ step. read_after forms step.0 step.1 rest)) (as_operand forms (with_given so_far form.name None) operand fits))
 
 option_if_known_moves : (forms : List OptionForm) (so_far : ReadArguments) (operand text : List ℕ) (rest : List (List ℕ)) (found : Option OptionForm)
     → is_operand operand ≡ true → not (option_map_or (λ form. form.takes_value) found false && is_none (value_in text)) ≡ true
@@ -132,15 +132,15 @@ option_keeps forms so_far rest read form (Some text) keeps alone h = by form.tak
   where
     by : (takes : Bool) → form.takes_value ≡ takes → read.operands ≡ so_far.operands ++ filter is_operand rest
     by true e =
-        keeps (with_given so_far form.name.now (Some text)) (sym (ap (after_step (λ step. read_after forms step.0 step.1 rest)) (cond-true _ _ _ e)) ∙ h)
+        keeps (with_given so_far form.name (Some text)) (sym (ap (after_step (λ step. read_after forms step.0 step.1 rest)) (cond-true _ _ _ e)) ∙ h)
     by false e =
-        no_refusal (refused form.name.now (Some text) NoValue) read (sym (ap (after_step (λ step. read_after forms step.0 step.1 rest)) (cond-false _ _ _ e)) ∙ h)
+        no_refusal (refused form.name (Some text) NoValue) read (sym (ap (after_step (λ step. read_after forms step.0 step.1 rest)) (cond-false _ _ _ e)) ∙ h)
 option_keeps forms so_far rest read form None keeps alone h = by form.takes_value refl
   where
     by : (takes : Bool) → form.takes_value ≡ takes → read.operands ≡ so_far.operands ++ filter is_operand rest
     by true e = absurd (true≢false (sym (sym (ap (λ t. not (t && true)) e) ∙ alone)))
     by false e =
-        keeps (with_given so_far form.name.now None) (sym (ap (after_step (λ step. read_after forms step.0 step.1 rest)) (cond-false _ _ _ e)) ∙ h)
+        keeps (with_given so_far form.name None) (sym (ap (after_step (λ step. read_after forms step.0 step.1 rest)) (cond-false _ _ _ e)) ∙ h)
 
 option_if_known_keeps : (forms : List OptionForm) (so_far : ReadArguments) (text : List ℕ) (rest : List (List ℕ)) (read : ReadArguments) (found : Option OptionForm)
     → Keeps forms rest read → not (option_map_or (λ form. form.takes_value) found false && is_none (value_in text)) ≡ true

@@ -4,7 +4,7 @@ use Rattle.std.specs.List.{filter, list_all}
 use Rattle.std.specs.Option.{option_map_or}
 use Rattle.hyphenation_grammar.specs.Lines.{is_same}
 use Rattle.command_line.specs.Options.{ReadArguments, Any, is_operand, form_of, name_in, value_in, read_after, read_arguments}
-use Rattle.command_line.specs.declared.options.OptionForm.{OptionForm}
+use Rattle.command_line.specs.Usage.{OptionForm}
 
 -- A name that an option can have: it begins with `-`, has no `=`, and is neither `-` nor `--`.
 abbrev pub is_option_name : List ℕ → Bool

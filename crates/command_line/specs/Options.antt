@@ -1,16 +1,12 @@
 -- How programs read their arguments: options with their values, and operands.
-use Rattle.std.specs.Prelude.{ℕ, ◌+◌, ◌==◌, ◌&&◌, ◌||◌, nat_le, not, Bool, if◌then◌else◌, List, [], ◌∷◌, ◌++◌, codes, map, take, drop, position, Option, Some, None, option_map, option_and_then, Result, Ok, Err}
+use Rattle.std.specs.Prelude.{ℕ, ◌+◌, ◌==◌, ◌&&◌, ◌||◌, nat_le, not, Bool, if◌then◌else◌, List, [], ◌∷◌, ◌++◌, codes, take, drop, position, Option, Some, None, option_map, option_and_then, Result, Ok, Err}
 use Rattle.std.specs.Fmt.{decimal}
 use Rattle.std.specs.List.{find, filter_map, last_or, list_any}
 use Rattle.std.specs.Option.{option_map_or}
 use Rattle.hyphenation_grammar.specs.Lines.{is_same, starts_with, number_of}
-use Rattle.command_line.specs.declared.options.OptionForm.{OptionForm}
+use Rattle.command_line.specs.Usage.{OptionForm}
 use Rattle.command_line.specs.declared.options.Expected.{Expected}
-use Rattle.command_line.specs.declared.options.Expected.TheVariants.{KnownOption, Value, NoValue, Number, Code, Form, OneOf, EvenLines, Operand, NoMore}
-
--- The names of options, each with whether it takes a value.
-abbrev pub names_of : List OptionForm → List (List ℕ × Bool)
-names_of forms = map (λ form. (form.name.now, form.takes_value)) forms
+use Rattle.command_line.specs.declared.options.Expected.TheVariants.{KnownOption, Value, NoValue, Number, Code, CodeAndPath, OneOf, EvenLines, Operand, NoMore}
 
 -- An option that is given: its name with its dashes, and its value if it has one.
 pub record GivenOption : Type 0 where
@@ -61,7 +57,7 @@ value_in text = option_map (λ at. drop (at + 1) text) (position (λ b. b == 61)
 
 -- The first form of that name.
 abbrev pub form_of : List OptionForm → List ℕ → Option OptionForm
-form_of forms name = find (λ form. is_same form.name.now name) forms
+form_of forms name = find (λ form. is_same form.name name) forms
 
 -- The refusal of an option or operand.
 abbrev pub refused : List ℕ → Option (List ℕ) → Expected → RefusedArgument
@@ -70,11 +66,11 @@ refused argument value expected = record { argument = argument; value = value; e
 -- Arguments with an option of that form, and what may come next. A value may be in the same argument, else it is the next one.
 abbrev pub with_option : ReadArguments → OptionForm → Option (List ℕ) → Result (ReadArguments × Next) RefusedArgument
 with_option so_far form (Some value) =
-    if form.takes_value then Ok (with_given so_far form.name.now (Some value), Any)
-    else Err (refused form.name.now (Some value) NoValue)
+    if form.takes_value then Ok (with_given so_far form.name (Some value), Any)
+    else Err (refused form.name (Some value) NoValue)
 with_option so_far form None =
-    if form.takes_value then Ok (so_far, ValueOf form.name.now)
-    else Ok (with_given so_far form.name.now None, Any)
+    if form.takes_value then Ok (so_far, ValueOf form.name)
+    else Ok (with_given so_far form.name None, Any)
 
 -- Arguments with an option, if there is a form of its name.
 abbrev pub with_option_if_known : ReadArguments → Option OptionForm → List ℕ → Result (ReadArguments × Next) RefusedArgument
@@ -152,7 +148,7 @@ expectation NoValue = codes "takes no value"
 expectation (Number least greatest) =
     codes "not a number from " ++ (decimal least ++ (codes " to " ++ decimal greatest))
 expectation Code = codes "not the code of a language"
-expectation (Form form) = codes "not of the form " ++ form.now
+expectation CodeAndPath = codes "not of the form CODE=PATH"
 expectation (OneOf names) = codes "not one of " ++ names.now
 expectation EvenLines = codes "only with --even"
 expectation Operand = codes "is missing"

@@ -1,31 +1,30 @@
--- Which options the text of a program's help names.
-use Rattle.std.specs.Prelude.{ℕ, ◌==◌, ◌&&◌, ◌||◌, nat_le, Bool, if◌then◌else◌, List, [], ◌∷◌, ◌++◌, codes}
-use Rattle.std.specs.List.{filter, list_all, list_any}
-use Rattle.hyphenation_grammar.specs.Lines.{is_same, starts_with}
+-- The options that the usage of a program has.
+use Rattle.std.specs.Prelude.{ℕ, ◌==◌, Bool, false, not, if◌then◌else◌, List, [], ◌∷◌, codes, length, Option, Some, None, option_and_then}
+use Rattle.std.specs.List.{filter_map}
+use Rattle.hyphenation_grammar.specs.Lines.{between_spaces, lines_of, starts_with, strip_prefix}
 
--- A byte of the name of an option: a small letter, or a hyphen.
-abbrev pub is_name_byte : ℕ → Bool
-is_name_byte byte = byte == 45 || (nat_le 97 byte && nat_le byte 122)
+-- An option of a program: its name with its dashes, and whether it takes a value.
+pub record OptionForm : Type 0 where
+  pub name : List ℕ
+  pub takes_value : Bool
 
--- The parts of a text between all other bytes. These bytes are before it.
-abbrev pub parts_after : List ℕ → List ℕ → List (List ℕ)
-parts_after so_far [] = so_far ∷ []
-parts_after so_far (byte ∷ text) =
-    if is_name_byte byte then parts_after (so_far ++ byte ∷ []) text else so_far ∷ parts_after [] text
+-- A word comes first among pieces between spaces, and not a second space.
+abbrev pub begin_with_word : List (List ℕ) → Bool
+begin_with_word [] = false
+begin_with_word (piece ∷ pieces) = not (length piece == 0)
 
--- The options that a text names: its parts that begin with two hyphens.
-abbrev pub options_in : List ℕ → List (List ℕ)
-options_in text = filter (starts_with (codes "--")) (parts_after [] text)
+-- The option of a text that begins with its name, by the pieces between its spaces. It takes a value if a word for that comes
+-- next.
+abbrev pub option_by : List (List ℕ) → OptionForm
+option_by [] = record { name = []; takes_value = false }
+option_by (name ∷ pieces) = record { name = name; takes_value = begin_with_word pieces }
 
--- A name is one of some.
-abbrev pub is_among : List (List ℕ) → List ℕ → Bool
-is_among names name = list_any (is_same name) names
+-- The option of a line of a usage, if it has one: the line begins with two spaces, and then with two hyphens.
+abbrev pub option_in : List ℕ → Option OptionForm
+option_in line = option_and_then
+    (λ text. if starts_with (codes "--") text then Some (option_by (between_spaces text)) else None)
+    (strip_prefix (codes "  ") line)
 
--- The options of a program, and those that each program has.
-abbrev pub with_common : List (List ℕ) → List (List ℕ)
-with_common names = names ++ (codes "--help" ∷ codes "--version" ∷ [])
-
--- The text of a program's help names each of its options, and no other.
-abbrev pub names_options : List ℕ → List (List ℕ) → Bool
-names_options usage names = list_all (is_among (options_in usage)) (with_common names)
-    && list_all (is_among (with_common names)) (options_in usage)
+-- The options of a usage, in their order.
+unfoldable pub options_in : List ℕ → List OptionForm
+options_in usage = filter_map option_in (lines_of usage)

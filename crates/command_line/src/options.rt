@@ -1,37 +1,30 @@
-//! The arguments of a program, read by the forms of its options.
+//! The arguments of a program, read by the options that its usage has.
 
-ghost use Rattle.std.specs.Prelude.{◌≡◌, ◌==◌, ◌++◌, IfErr, IfOk, MatchResult, OnOk, map, option_copied, position};
+ghost use Rattle.std.specs.Prelude.{◌≡◌, ◌==◌, ◌++◌, IfErr, IfOk, MatchResult, OnOk, map, option_copied, option_map, position};
 ghost use Rattle.std.specs.Option.{option_to_list};
+ghost use Rattle.hyphenation_grammar.specs.Lines.{tokens_after};
 ghost use Rattle.command_line.specs.Endings.{EndsBy, Refuses, Tells};
 ghost use Rattle.command_line.specs.Options.{Any, no_arguments, with_given, with_operand, is_operand, name_in, value_in, form_of};
 ghost use Rattle.command_line.specs.Options.{with_option, with_option_if_known, with_argument, ended, read_arguments};
 ghost use Rattle.command_line.specs.Options.{is_given, values_of, last_value, number_within, number_given};
 ghost use Rattle.command_line.specs.OptionLaws.{ValuesJoin, OperandsFollowDashes, OperandsAreRead, OptionsMove, OperandsAreKept};
 ghost use Rattle.command_line.specs.Reading.{given_options, as_read, as_refused, IsAsWanted, IsReadError};
-ghost use Rattle.command_line.specs.Private.Readers.{as_next, IsReader, IsStep};
+ghost use Rattle.command_line.specs.Usage.{begin_with_word, option_in, options_in};
+ghost use Rattle.command_line.specs.Private.Readers.{as_form, as_form_in, as_next, IsReader, IsStep};
 
 use crate::messages::Messages;
-use hyphenation_grammar::lines::{number_of, starts_with};
+use hyphenation_grammar::lines::{first_token, next_line, number_of, starts_with, strip_prefix};
 use std::alloc::{AllocError, Global};
 use std::fmt;
 use std::fmt::Display;
 use std::io::Write;
 
-/// An option that a program has.
-#[derive(Clone, Copy)]
-pub struct OptionForm {
-    /// The name with its dashes, as `--width`.
-    pub name: &'static str,
-    /// Whether a value comes with it.
-    pub takes_value: bool,
-}
-
 /// An option that is given.
 #[derive(Clone, Copy)]
 pub struct Given<'w> {
-    /// The name of its form.
-    pub name: &'static str,
-    /// The value, if its form takes one.
+    /// The name with its dashes, as `--width`.
+    pub name: &'w str,
+    /// The value, if it takes one.
     pub value: Option<&'w str>,
 }
 
@@ -57,8 +50,8 @@ pub enum Expected {
     Number { least: usize, greatest: usize },
     /// The code of a language.
     Code,
-    /// A text of this form, as `CODE=PATH`.
-    Form(&'static str),
+    /// The code of a language, and a path, as `CODE=PATH`.
+    CodeAndPath,
     /// One of these names, as `standard, extended`.
     OneOf(&'static str),
     /// The option `--even` beside it.
@@ -100,13 +93,20 @@ impl From<AllocError> for ReadError<'_> {
     }
 }
 
+// An option that a program has.
+#[derive(Clone, Copy)]
+struct OptionForm<'w> {
+    name: &'w str,
+    takes_value: bool,
+}
+
 // Which arguments may come next.
 #[derive(Clone, Copy)]
-enum Next {
+enum Next<'w> {
     // Any.
     Any,
     // The value of the option of that name.
-    ValueOf(&'static str),
+    ValueOf(&'w str),
     // Only operands.
     OperandsAlone,
 }
@@ -115,7 +115,7 @@ enum Next {
 #[derive(Drop)]
 struct Reader<'w> {
     arguments: Arguments<'w>,
-    next: Next,
+    next: Next<'w>,
 }
 
 // The place of the first `=`.
@@ -144,14 +144,41 @@ fn is_operand(text: &str) -> bool
     !starts_with(b"-", text.as_bytes()) || text == "-"
 }
 
-// The first form of that name.
-fn form_of(forms: &[OptionForm], name: &str) -> Option<OptionForm>
-    ensures { result ≡ form_of forms.now name.now }
+// Whether a word for a value comes after the name of an option and a space.
+fn begins_with_word(rest: Option<&[u8]>) -> bool
+    ensures { result ≡ begin_with_word (tokens_after (option_map (λ rest. rest.now) rest.entry)) }
 {
-    for form in forms {
-        if form.name == name {
-            return Some(*form);
+    match rest {
+        Some(rest) => !first_token(rest).0.is_empty(),
+        None => false,
+    }
+}
+
+// The name of the option that a line of a usage has, and whether it takes a value.
+fn option_in(line: &[u8]) -> Option<(&[u8], bool)>
+    ensures { option_map as_form_in result ≡ option_in line.now }
+{
+    let text = strip_prefix(b"  ", line)?;
+    if !starts_with(b"--", text) {
+        return None;
+    }
+    let (name, rest) = first_token(text);
+    Some((name, begins_with_word(rest)))
+}
+
+// The first option of that name in a usage.
+#[tactic(auto, unfolding(crate::specs::Usage::options_in))]
+fn form_of<'w>(usage: &str, name: &'w str) -> Option<OptionForm<'w>>
+    ensures { option_map as_form result ≡ form_of (options_in usage.now) name.now }
+{
+    let mut rest = usage.as_bytes();
+    while let Some((line, after)) = next_line(rest) {
+        if let Some((found, takes_value)) = option_in(line) {
+            if found == name.as_bytes() {
+                return Some(OptionForm { name, takes_value });
+            }
         }
+        rest = after;
     }
     None
 }
@@ -182,7 +209,7 @@ impl<'w> Reader<'w> {
     }
 
     // Appends an option. Any argument may come after it.
-    fn push_given(&mut self, name: &'static str, value: Option<&'w str>) -> Result<(), AllocError>
+    fn push_given(&mut self, name: &'w str, value: Option<&'w str>) -> Result<(), AllocError>
         ensures { OnOk result (IsReader self.new
             (with_given (as_read self.old.arguments) name.now (option_copied value.entry)) Any) }
     {
@@ -201,8 +228,13 @@ impl<'w> Reader<'w> {
     }
 
     // Takes an option of that form, with the value that is in the same argument.
-    fn take_option(&mut self, form: OptionForm, value: Option<&'w str>) -> Result<(), ReadError<'w>>
-        ensures { IsStep result (with_option (as_read self.old.arguments) form (option_copied value.entry)) self.new }
+    fn take_option(
+        &mut self,
+        form: OptionForm<'w>,
+        value: Option<&'w str>,
+    ) -> Result<(), ReadError<'w>>
+        ensures { IsStep result
+            (with_option (as_read self.old.arguments) (as_form form.entry) (option_copied value.entry)) self.new }
     {
         match value {
             Some(_) if !form.takes_value => Err(ReadError::Bad(BadArgument {
@@ -221,17 +253,13 @@ impl<'w> Reader<'w> {
         }
     }
 
-    // Takes an option, if there is a form of that name.
-    fn take_option_if_known(
-        &mut self,
-        forms: &[OptionForm],
-        text: &'w str,
-    ) -> Result<(), ReadError<'w>>
-        ensures { IsStep result
-            (with_option_if_known (as_read self.old.arguments) (form_of forms.now (name_in text.now)) text.now) self.new }
+    // Takes an option, if the usage has one of that name.
+    fn take_option_if_known(&mut self, usage: &str, text: &'w str) -> Result<(), ReadError<'w>>
+        ensures { IsStep result (with_option_if_known (as_read self.old.arguments)
+            (form_of (options_in usage.now) (name_in text.now)) text.now) self.new }
     {
         let (name, value) = name_and_value(text);
-        match form_of(forms, name) {
+        match form_of(usage, name) {
             Some(form) => self.take_option(form, value),
             None => Err(ReadError::Bad(BadArgument {
                 argument: name,
@@ -242,9 +270,9 @@ impl<'w> Reader<'w> {
     }
 
     // Takes the next argument.
-    fn take(&mut self, forms: &[OptionForm], text: &'w str) -> Result<(), ReadError<'w>>
+    fn take(&mut self, usage: &str, text: &'w str) -> Result<(), ReadError<'w>>
         ensures { IsStep result
-            (with_argument forms.now (as_read self.old.arguments) (as_next self.old.next) text.now) self.new }
+            (with_argument (options_in usage.now) (as_read self.old.arguments) (as_next self.old.next) text.now) self.new }
     {
         match self.next {
             Next::ValueOf(name) => self.push_given(name, Some(text))?,
@@ -255,7 +283,7 @@ impl<'w> Reader<'w> {
                 } else if is_operand(text) {
                     self.push_operand(text)?;
                 } else {
-                    return self.take_option_if_known(forms, text);
+                    return self.take_option_if_known(usage, text);
                 }
             }
         }
@@ -279,7 +307,10 @@ impl<'w> Reader<'w> {
     }
 }
 
-/// Reads arguments by the forms of the options that a program has.
+/// Reads arguments by the options that the usage of a program has.
+///
+/// A line of the usage is that of an option if it begins with two spaces and two hyphens, as `  --width N  the columns`. The
+/// option takes a value if a word comes after one space, and none if a second space comes there.
 ///
 /// An argument that begins with `-` is an option, except `-` itself, which is an operand. The value of an option is the
 /// text after its first `=`, or else the next argument. After the argument `--` all are operands.
@@ -287,21 +318,22 @@ impl<'w> Reader<'w> {
 /// The error is the first argument that is refused, or says that memory was refused.
 ///
 /// ```text
-/// let width = OptionForm { name: "--width", takes_value: true };
-/// let arguments = read(alloc, &[width], &["en-us", "--width=40", "en-us.txt"])?;    // two operands
+/// let usage = "usage: lines [OPTION] FILE..\n  --width N  the columns of a line\n";
+/// let arguments = read(alloc, usage, &["en-us", "--width=40", "en-us.txt"])?;    // two operands
 /// ```
 pub fn read<'w>(
     alloc: Global,
-    forms: &[OptionForm],
+    usage: &str,
     args: &'w [&'w str],
 ) -> Result<Arguments<'w>, ReadError<'w>>
     ensures read { IfOk result (λ arguments.
-        read_arguments forms.now (map (λ arg. arg.now) args.now) ≡ Ok (as_read arguments)) }
-    ensures refused { IfErr result (IsReadError (read_arguments forms.now (map (λ arg. arg.now) args.now))) }
+        read_arguments (options_in usage.now) (map (λ arg. arg.now) args.now) ≡ Ok (as_read arguments)) }
+    ensures refused { IfErr result (IsReadError
+        (read_arguments (options_in usage.now) (map (λ arg. arg.now) args.now))) }
 {
     let mut reader = Reader::new(alloc);
     for text in args {
-        reader.take(forms, text)?;
+        reader.take(usage, text)?;
     }
     reader.end()
 }
@@ -401,7 +433,7 @@ impl Display for Expected {
                 write!(f, "not a number from {least} to {greatest}")
             }
             Expected::Code => f.write_str("not the code of a language"),
-            Expected::Form(form) => write!(f, "not of the form {form}"),
+            Expected::CodeAndPath => f.write_str("not of the form CODE=PATH"),
             Expected::OneOf(names) => write!(f, "not one of {names}"),
             Expected::EvenLines => f.write_str("only with --even"),
             Expected::Operand => f.write_str("is missing"),

@@ -1,4 +1,3 @@
 pub mod Joined
 pub mod Drawings
 pub mod Runs
-pub mod Endings

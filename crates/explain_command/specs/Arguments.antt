@@ -1,14 +1,15 @@
 -- How the program `hyphenate-explain` reads its arguments.
-use Rattle.std.specs.Prelude.{◌≡◌, ℕ, Bool, false, List, [], ◌∷◌, codes, if◌then◌else◌, map, None, Result, Ok, Err, unwrap_or}
+use Rattle.std.specs.Prelude.{ℕ, List, [], ◌∷◌, codes, if◌then◌else◌, map, None, Result, Ok, Err, unwrap_or}
 use Rattle.std.specs.Borrow.{Bor}
 use Rattle.std.specs.List.{last_or}
 use Rattle.hyphenation_breaks.specs.Borrowed.{texts_now}
 use Rattle.hyphenation_grammar.specs.Lines.{is_same}
-use Rattle.command_line.specs.Options.{GivenOption, ReadArguments, RefusedArgument, refused, after_step, read_arguments, names_of}
+use Rattle.command_line.specs.Options.{GivenOption, ReadArguments, RefusedArgument, refused, after_step, read_arguments}
+use Rattle.command_line.specs.Usage.{options_in}
 use Rattle.command_line.specs.declared.options.Expected.TheVariants.{Operand}
-use Rattle.command_line.specs.declared.options.OptionForm.{OptionForm}
 use Rattle.explanations.specs.declared.style.Style.{Style}
 use Rattle.explanations.specs.declared.style.Style.TheVariants.{Picture, Lines, Svg}
+use Rattle.explain_command.specs.declared.TheConstants.{USAGE}
 
 -- Arguments: the style, the path or the language of a dictionary, and the words that are given.
 pub record ParsedArgs : Type 0 where
@@ -33,14 +34,6 @@ args_of style (dictionary ∷ words) = Ok (record { style = style; dictionary = 
 abbrev pub args_as_read : ReadArguments → Result ParsedArgs RefusedArgument
 args_as_read read = args_of (style_of read.given) read.operands
 
--- All arguments by the forms of options, or the first that is refused.
-abbrev pub parsed_by : List OptionForm → List (Bor (List ℕ)) → Result ParsedArgs RefusedArgument
-parsed_by forms args = after_step args_as_read (read_arguments forms (texts_now args))
-
--- The options of the program.
-abbrev pub option_names : List (List ℕ × Bool)
-option_names = (codes "--plain", false) ∷ (codes "--svg", false) ∷ []
-
--- Arguments are parsed so, by the options of the program: as these arguments, or as the first one that is refused.
-abbrev pub IsParsed : List (Bor (List ℕ)) → Result ParsedArgs RefusedArgument → Type 0
-IsParsed args parsed = (forms : List OptionForm) × (names_of forms ≡ option_names) × (parsed ≡ parsed_by forms args)
+-- All arguments as they are parsed, or the first that is refused.
+abbrev pub parsed_args : List (Bor (List ℕ)) → Result ParsedArgs RefusedArgument
+parsed_args args = after_step args_as_read (read_arguments (options_in USAGE.now) (texts_now args))

@@ -12,7 +12,7 @@ use Rattle.command_line.specs.declared.TheConstants.{VERSION}
 use Rattle.command_line.specs.declared.failure.Failure.{Failure}
 use Rattle.command_line.specs.declared.failure.Failure.TheVariants as failed
 use Rattle.hyphenation_breaks.specs.Borrowed.{texts_now}
-use Rattle.explain_command.specs.Arguments.{ParsedArgs, IsParsed}
+use Rattle.explain_command.specs.Arguments.{ParsedArgs, parsed_args}
 use Rattle.explain_command.specs.Explained.{IsResult, Writes}
 use Rattle.explain_command.specs.declared.TheConstants.{NAME, USAGE}
 
@@ -68,14 +68,13 @@ asks_no_input (Ok parsed) = has_words parsed.words
 asks_no_input (Err refused) = true
 
 -- The program ends so for its arguments, as they are parsed. Where they don't ask for standard input, it is as it was.
-abbrev pub EndsParsed : {W : Type 0} → List (Bor (List ℕ)) → KnownFiles → List (Bor (List ℕ)) → Option (List ℕ)
+abbrev pub EndsParsed : {W : Type 0} → Result ParsedArgs RefusedArgument → KnownFiles → List (Bor (List ℕ)) → Option (List ℕ)
     → Type 0 → (W → Option (List ℕ)) → W → W → End → Type 0
-EndsParsed args bytes_of folders left unread contents old new end =
-    (parsed : Result ParsedArgs RefusedArgument) × IsParsed args parsed
-    × EndsFor parsed bytes_of folders left contents old new end × (asks_no_input parsed ≡ true → unread)
+EndsParsed parsed bytes_of folders left unread contents old new end =
+    EndsFor parsed bytes_of folders left contents old new end × (asks_no_input parsed ≡ true → unread)
 
 -- If no help was asked for, the program ends so for its arguments.
 abbrev pub EndsUnasked : {W : Type 0} → List (Bor (List ℕ)) → KnownFiles → List (Bor (List ℕ)) → Option (List ℕ)
     → Type 0 → (End → Type 0) → (W → Option (List ℕ)) → W → W → Type 0
 EndsUnasked args bytes_of folders left unread EndsSo contents old new =
-    asked_text args ≡ None → EndsIn EndsSo (EndsParsed args bytes_of folders left unread contents old new)
+    asked_text args ≡ None → EndsIn EndsSo (EndsParsed (parsed_args args) bytes_of folders left unread contents old new)

@@ -3,12 +3,11 @@
 //! For each word it writes the patterns that occur in it, the values that they give, and the fact that decides.
 #![tactic(auto)]
 
-ghost use Rattle.std.specs.Prelude.{◌≡◌, Ok, Some, is_some, map, true};
+ghost use Rattle.std.specs.Prelude.{◌≡◌, Ok, Some, is_some, true};
 ghost use Rattle.command_line.specs.About.{WritesHelp};
 ghost use Rattle.command_line.specs.Endings.{EndsBy, Tells};
 ghost use Rattle.command_line.specs.Statuses.{BeforeOutput};
-ghost use Rattle.command_line.specs.Usage.{names_options};
-ghost use Rattle.explain_command.specs.Arguments.{option_names, IsParsed};
+ghost use Rattle.explain_command.specs.Arguments.{parsed_args};
 ghost use Rattle.explain_command.specs.Endings.{EndsParsed, EndsUnasked, asked_text};
 ghost use Rattle.explain_command.specs.Private.Requests.{parsed_request};
 
@@ -17,7 +16,7 @@ mod run;
 
 use command_line::options::ReadError;
 use command_line::{Failure, Messages, NamedFiles, ProgramSteps, ProgramTexts, VERSION};
-use request::{Request, option_forms};
+use request::Request;
 pub use run::explained;
 use run::run;
 use std::alloc::Global;
@@ -26,7 +25,7 @@ use std::io::{Read, Write};
 /// The name of the program.
 pub const NAME: &str = "hyphenate-explain";
 
-/// The usage, for `--help`.
+/// The usage, for `--help`. The arguments are read by the options that it has.
 pub const USAGE: &str = "\
 usage: hyphenate-explain [--plain | --svg] DICTIONARY [WORD..]
        hyphenate-explain --help
@@ -43,11 +42,6 @@ they give, and the fact that decides.
 /// The message if memory was refused.
 pub const NO_MEMORY: &str = "hyphenate-explain: no memory\n";
 
-/// A law: the text of `--help` names each option of the program, and no other.
-pub fn usage_names_options()
-    ensures { names_options USAGE.now (map (λ option. option.0) option_names) ≡ true }
-{}
-
 // The program over files, with its arguments, and the folders in which dictionaries are searched.
 #[derive(Clone, Copy)]
 struct Explain<'w, F> {
@@ -63,9 +57,9 @@ impl<'w, F: NamedFiles, I: Read, O: Write> ProgramSteps<(), I, O> for Explain<'w
 
     ghost args = { λ program. program.args.now };
 
-    ghost is_request = { λ program request. IsParsed program.args.now (Ok (parsed_request request)) };
+    ghost is_request = { λ program request. parsed_args program.args.now ≡ Ok (parsed_request request) };
 
-    ghost ends = { λ program end _ _ before after old new. EndsParsed program.args.now (F.bytes program.files.now)
+    ghost ends = { λ program end _ _ before after old new. EndsParsed (parsed_args program.args.now) (F.bytes program.files.now)
         program.folders.now (I.remaining before) (after ≡ before) O.contents old new end };
 
     ghost leaves_input = { λ _ status. status ≡ 3 };
@@ -75,8 +69,7 @@ impl<'w, F: NamedFiles, I: Read, O: Write> ProgramSteps<(), I, O> for Explain<'w
     }
 
     fn request(&self, alloc: Global) -> Result<Request<'w>, ReadError<'_>> {
-        let forms = option_forms();
-        Request::from_args(alloc, &forms, self.args)
+        Request::from_args(alloc, self.args)
     }
 
     fn run(

@@ -2,30 +2,14 @@
 
 ghost use Rattle.std.specs.Prelude.{◌≡◌, IfErr, IfOk, Ok, map};
 ghost use Rattle.hyphenation_breaks.specs.Borrowed.{texts_now};
-ghost use Rattle.command_line.specs.Options.{names_of};
 ghost use Rattle.command_line.specs.Reading.{as_given, as_read, IsReadError};
-ghost use Rattle.explain_command.specs.Arguments.{args_as_read, args_of, option_names, style_by, style_of, parsed_by};
+ghost use Rattle.explain_command.specs.Arguments.{args_as_read, args_of, style_by, style_of, parsed_args};
 ghost use Rattle.explain_command.specs.Private.Requests.{parsed_request};
 
-use command_line::options::{Arguments, BadArgument, Expected, Given, OptionForm, ReadError, read};
+use crate::USAGE;
+use command_line::options::{Arguments, BadArgument, Expected, Given, ReadError, read};
 use explanations::Style;
 use std::alloc::{AllocError, Global};
-
-/// Returns the options of the program.
-pub fn option_forms() -> [OptionForm; 2]
-    ensures { names_of result ≡ option_names }
-{
-    [
-        OptionForm {
-            name: "--plain",
-            takes_value: false,
-        },
-        OptionForm {
-            name: "--svg",
-            takes_value: false,
-        },
-    ]
-}
 
 /// The arguments as parsed.
 #[derive(Drop)]
@@ -101,17 +85,13 @@ fn of_arguments<'w>(alloc: Global, arguments: &Arguments<'w>) -> Result<Request<
 }
 
 impl<'w> Request<'w> {
-    /// Parses arguments `[--plain | --svg] DICTIONARY [WORD..]`, by the forms of the options. The error is the first that is
-    /// refused, or says that memory was refused.
-    pub fn from_args(
-        alloc: Global,
-        forms: &[OptionForm],
-        args: &'w [&'w str],
-    ) -> Result<Request<'w>, ReadError<'w>>
-        ensures parsed { IfOk result (λ request. parsed_by forms.now args.now ≡ Ok (parsed_request request)) }
-        ensures refused { IfErr result (IsReadError (parsed_by forms.now args.now)) }
+    /// Parses arguments `[--plain | --svg] DICTIONARY [WORD..]`. The error is the first that is refused, or says that memory
+    /// was refused.
+    pub fn from_args(alloc: Global, args: &'w [&'w str]) -> Result<Request<'w>, ReadError<'w>>
+        ensures parsed { IfOk result (λ request. parsed_args args.now ≡ Ok (parsed_request request)) }
+        ensures refused { IfErr result (IsReadError (parsed_args args.now)) }
     {
-        let arguments = read(alloc, forms, args)?;
+        let arguments = read(alloc, USAGE, args)?;
         of_arguments(alloc, &arguments)
     }
 }

@@ -1,5 +1,5 @@
 -- The results and the statuses of the program `hyphenate-html`.
-use Rattle.std.specs.Prelude.{◌≡◌, ◌⊎◌, ℕ, Bool, not, true, List, map, Option, None, Result, Ok, Err, ⊤}
+use Rattle.std.specs.Prelude.{◌≡◌, ℕ, Bool, not, true, List, map, Option, None, Result, Ok, Err, ⊤}
 use Rattle.std.specs.Borrow.{Bor}
 use Rattle.std.specs.List.{AllZip, list_any}
 use Rattle.command_line.specs.About.{help_or_version}
@@ -19,7 +19,7 @@ use Rattle.text_results.specs.Files.{WrittenFiles}
 use Rattle.text_results.specs.Texts.{IsFailureAmong}
 use Rattle.text_results.specs.Written.{EndsFailed, EndsRefused, WritesResults}
 use Rattle.html_command.specs.declared.TheConstants.{NAME, USAGE}
-use Rattle.html_command.specs.Arguments.{ParsedArgs, ParsedOptions, IsParsed}
+use Rattle.html_command.specs.Arguments.{ParsedArgs, ParsedOptions, parsed_args}
 use Rattle.html_command.specs.Notes.{MarkedPage, note_on, notes_of, notes_text, texts_of}
 use Rattle.html_command.specs.Dictionaries.{code_of, AreDictionariesFor, HasCodesOf, IsRefusedFor, tags_for}
 
@@ -107,11 +107,10 @@ names_files_alone (Ok args) = not (list_any is_standard_input args.inputs)
 names_files_alone (Err refused) = true
 
 -- The program ends so for its arguments, as they are parsed. Standard input is as it was if it is none of the pages.
-abbrev pub EndsParsed : {W S I : Type 0} → List (Bor (List ℕ)) → KnownFiles → List (List ℕ) → (I → Option (List ℕ)) → I → I
+abbrev pub EndsParsed : {W S I : Type 0} → Result ParsedArgs RefusedArgument → KnownFiles → List (List ℕ) → (I → Option (List ℕ)) → I → I
     → (W → Option (List ℕ)) → W → W → (S → Option WrittenFiles) → S → S → End → Type 0
-EndsParsed args bytes_of usual remaining before after contents old new written old_files new_files end =
-    (parsed : Result ParsedArgs RefusedArgument) × IsParsed args parsed
-    × EndsFor parsed bytes_of usual (remaining before) contents old new written old_files new_files end
+EndsParsed parsed bytes_of usual remaining before after contents old new written old_files new_files end =
+    EndsFor parsed bytes_of usual (remaining before) contents old new written old_files new_files end
     × (names_files_alone parsed ≡ true → after ≡ before)
 
 -- If no help was asked for, the program ends so for its arguments.
@@ -119,4 +118,4 @@ abbrev pub EndsUnlessAsked : {W S I : Type 0} → List (Bor (List ℕ)) → Know
     → (End → Type 0) → (W → Option (List ℕ)) → W → W → (S → Option WrittenFiles) → S → S → Type 0
 EndsUnlessAsked args bytes_of usual remaining before after EndsSo contents old new written old_files new_files =
     asked_text args ≡ None → EndsIn EndsSo
-    (EndsParsed args bytes_of usual remaining before after contents old new written old_files new_files)
+    (EndsParsed (parsed_args args) bytes_of usual remaining before after contents old new written old_files new_files)

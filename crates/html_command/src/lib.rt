@@ -3,13 +3,12 @@
 //! It puts a mark into pages where the words of their text may be broken, and leaves all else as it is.
 #![tactic(auto)]
 
-ghost use Rattle.std.specs.Prelude.{◌≡◌, true, Ok, Some, is_some, map};
+ghost use Rattle.std.specs.Prelude.{◌≡◌, true, Ok, Some, is_some};
 ghost use Rattle.command_line.specs.About.{WritesHelp};
 ghost use Rattle.command_line.specs.Endings.{EndsBy, Tells};
 ghost use Rattle.command_line.specs.Statuses.{BeforeOutput};
-ghost use Rattle.command_line.specs.Usage.{names_options};
 ghost use Rattle.hyphenation_breaks.specs.Borrowed.{texts_now};
-ghost use Rattle.html_command.specs.Arguments.{option_names, IsParsed};
+ghost use Rattle.html_command.specs.Arguments.{parsed_args};
 ghost use Rattle.html_command.specs.Notes.{notes_text};
 ghost use Rattle.html_command.specs.Private.Requests.{parsed_request};
 ghost use Rattle.html_command.specs.Written.{EndsParsed, EndsUnlessAsked, asked_text};
@@ -22,11 +21,11 @@ mod run;
 use command_line::options::ReadError;
 use command_line::{Failure, Messages, NamedFiles, Notes, ProgramSteps, ProgramTexts, VERSION};
 use notes::{PageNote, write_notes};
-use request::{Request, language_form, option_forms};
+use request::Request;
 use run::run;
 use std::alloc::Global;
 use std::io::{Read, Write};
-pub use text_results::files::{Recorded, ReplaceFiles};
+pub use text_results::files::{Recorded, Recorded, ReplaceFiles, ReplaceFiles};
 
 /// A call of the program: its arguments, and the folders in which dictionaries are searched that no path names.
 #[derive(Clone, Copy)]
@@ -40,7 +39,7 @@ pub struct Call<'w> {
 /// The name of the program.
 pub const NAME: &str = "hyphenate-html";
 
-/// The usage, for `--help`.
+/// The usage, for `--help`. The arguments are read by the options that it has.
 pub const USAGE: &str = "\
 usage: hyphenate-html [OPTION..] [FILE..]
        hyphenate-html --help
@@ -63,11 +62,6 @@ Of an extended dictionary the breaks that change no letter are used.
 
 /// The message if memory was refused.
 pub const NO_MEMORY: &str = "hyphenate-html: no memory\n";
-
-/// A law: the text of `--help` names each option of the program, and no other.
-pub fn usage_names_options()
-    ensures { names_options USAGE.now (map (λ option. option.0) option_names) ≡ true }
-{}
 
 // The notes on the pages of a request.
 #[derive(Drop)]
@@ -100,9 +94,9 @@ impl<'w, F: NamedFiles, S: ReplaceFiles, I: Read, O: Write> ProgramSteps<S, I, O
 
     ghost args = { λ program. program.call.args.now };
 
-    ghost is_request = { λ program request. IsParsed program.call.args.now (Ok (parsed_request request)) };
+    ghost is_request = { λ program request. parsed_args program.call.args.now ≡ Ok (parsed_request request) };
 
-    ghost ends = { λ program end old_files new_files before after old new. EndsParsed program.call.args.now
+    ghost ends = { λ program end old_files new_files before after old new. EndsParsed (parsed_args program.call.args.now)
         (F.bytes program.files.now) (texts_now program.call.folders.now) I.remaining before after
         O.contents old new S.written old_files new_files end };
 
@@ -113,9 +107,7 @@ impl<'w, F: NamedFiles, S: ReplaceFiles, I: Read, O: Write> ProgramSteps<S, I, O
     }
 
     fn request(&self, alloc: Global) -> Result<Request<'w>, ReadError<'_>> {
-        let expected = language_form();
-        let forms = option_forms();
-        Request::from_args(alloc, &expected, &forms, self.call.args)
+        Request::from_args(alloc, self.call.args)
     }
 
     fn run(

@@ -2,68 +2,17 @@
 
 ghost use Rattle.std.specs.Prelude.{◌≡◌, ◌==◌, IfErr, IfOk, Ok, map, option_map, position};
 ghost use Rattle.hyphenation_breaks.specs.Borrowed.{texts_now};
-ghost use Rattle.command_line.specs.Options.{names_of, expectation};
 ghost use Rattle.command_line.specs.Reading.{as_read, given_options, IsReadError};
-ghost use Rattle.html_command.specs.Arguments.{option_names, code_and_path, dictionaries_of, dictionaries_given, language_words};
-ghost use Rattle.html_command.specs.Arguments.{options_with, options_of, args_of, args_as_read, parsed_by};
+ghost use Rattle.html_command.specs.Arguments.{code_and_path, dictionaries_of, dictionaries_given};
+ghost use Rattle.html_command.specs.Arguments.{options_with, options_of, args_of, args_as_read, parsed_args};
 ghost use Rattle.html_command.specs.Private.Requests.{parsed_dictionary, parsed_options, parsed_request, AreAsWanted};
 
-use command_line::options::{Arguments, BadArgument, Expected, OptionForm, ReadError, read};
+use crate::USAGE;
+use command_line::options::{Arguments, BadArgument, Expected, ReadError, read};
 use hyphenation_breaks::language::Language;
 use hyphenation_html::Settings;
 use std::alloc::Global;
 use text_results::targets::{Target, names_for, target_of};
-
-/// Returns the options of the program.
-pub fn option_forms() -> [OptionForm; 9]
-    ensures { names_of result ≡ option_names }
-{
-    [
-        OptionForm {
-            name: "--lang",
-            takes_value: true,
-        },
-        OptionForm {
-            name: "--dictionaries",
-            takes_value: true,
-        },
-        OptionForm {
-            name: "--language",
-            takes_value: true,
-        },
-        OptionForm {
-            name: "--mark",
-            takes_value: true,
-        },
-        OptionForm {
-            name: "--class",
-            takes_value: true,
-        },
-        OptionForm {
-            name: "--min-word",
-            takes_value: true,
-        },
-        OptionForm {
-            name: "--skip-capitals",
-            takes_value: false,
-        },
-        OptionForm {
-            name: "--output",
-            takes_value: true,
-        },
-        OptionForm {
-            name: "--in-place",
-            takes_value: false,
-        },
-    ]
-}
-
-/// Returns the expectation of a value of `--lang`.
-pub fn language_form() -> Expected
-    ensures { expectation result ≡ language_words }
-{
-    Expected::Form("CODE=PATH")
-}
 
 /// A dictionary that the arguments give.
 #[derive(Clone, Copy)]
@@ -120,12 +69,11 @@ fn given_dictionary(text: &str) -> Option<GivenDictionary<'_>>
 // Returns the dictionaries that values of `--lang` give.
 fn dictionaries_of<'w>(
     alloc: Global,
-    expected: &Expected,
     values: &[&'w str],
 ) -> Result<Vec<GivenDictionary<'w>>, ReadError<'w>>
     ensures given { IfOk result (λ given.
-        dictionaries_of expected.now (texts_now values.now) ≡ Ok (map parsed_dictionary given.items)) }
-    ensures refused { IfErr result (IsReadError (dictionaries_of expected.now (texts_now values.now))) }
+        dictionaries_of (texts_now values.now) ≡ Ok (map parsed_dictionary given.items)) }
+    ensures refused { IfErr result (IsReadError (dictionaries_of (texts_now values.now))) }
 {
     let mut given = Vec::new(alloc);
     for value in values {
@@ -133,7 +81,7 @@ fn dictionaries_of<'w>(
             return Err(ReadError::Bad(BadArgument {
                 argument: "--lang",
                 value: Some(*value),
-                expected: *expected,
+                expected: Expected::CodeAndPath,
             }));
         };
         if given.push(one).is_err() {
@@ -146,15 +94,14 @@ fn dictionaries_of<'w>(
 // Returns the dictionaries that arguments give.
 fn dictionaries_given<'w>(
     alloc: Global,
-    expected: &Expected,
     arguments: &Arguments<'w>,
 ) -> Result<Vec<GivenDictionary<'w>>, ReadError<'w>>
-    ensures given { IfOk result (λ given. dictionaries_given expected.now (given_options arguments.now)
+    ensures given { IfOk result (λ given. dictionaries_given (given_options arguments.now)
         ≡ Ok (map parsed_dictionary given.items)) }
-    ensures refused { IfErr result (IsReadError (dictionaries_given expected.now (given_options arguments.now))) }
+    ensures refused { IfErr result (IsReadError (dictionaries_given (given_options arguments.now))) }
 {
     let values = arguments.all(alloc, "--lang")?;
-    dictionaries_of(alloc, expected, &values)
+    dictionaries_of(alloc, &values)
 }
 
 // Returns the options with these dictionaries, by those that are given.
@@ -182,15 +129,11 @@ fn options_with<'w>(
 }
 
 // Returns the options of arguments.
-fn options_of<'w>(
-    alloc: Global,
-    expected: &Expected,
-    arguments: &Arguments<'w>,
-) -> Result<Options<'w>, ReadError<'w>>
-    ensures parsed { IfOk result (λ options. options_of expected.now (given_options arguments.now) ≡ Ok (parsed_options options)) }
-    ensures refused { IfErr result (IsReadError (options_of expected.now (given_options arguments.now))) }
+fn options_of<'w>(alloc: Global, arguments: &Arguments<'w>) -> Result<Options<'w>, ReadError<'w>>
+    ensures parsed { IfOk result (λ options. options_of (given_options arguments.now) ≡ Ok (parsed_options options)) }
+    ensures refused { IfErr result (IsReadError (options_of (given_options arguments.now))) }
 {
-    let given = dictionaries_given(alloc, expected, arguments)?;
+    let given = dictionaries_given(alloc, arguments)?;
     match options_with(given, arguments) {
         Ok(options) => Ok(options),
         Err(bad) => Err(ReadError::Bad(bad)),
@@ -212,31 +155,21 @@ fn with_names<'w>(
 }
 
 // Returns the request of arguments that are read.
-fn of_arguments<'w>(
-    alloc: Global,
-    expected: &Expected,
-    arguments: &Arguments<'w>,
-) -> Result<Request<'w>, ReadError<'w>>
-    ensures parsed { IfOk result (λ request. args_as_read expected.now (as_read arguments.now) ≡ Ok (parsed_request request)) }
-    ensures refused { IfErr result (IsReadError (args_as_read expected.now (as_read arguments.now))) }
+fn of_arguments<'w>(alloc: Global, arguments: &Arguments<'w>) -> Result<Request<'w>, ReadError<'w>>
+    ensures parsed { IfOk result (λ request. args_as_read (as_read arguments.now) ≡ Ok (parsed_request request)) }
+    ensures refused { IfErr result (IsReadError (args_as_read (as_read arguments.now))) }
 {
-    let options = options_of(alloc, expected, arguments)?;
+    let options = options_of(alloc, arguments)?;
     with_names(alloc, options, &arguments.operands)
 }
 
 impl<'w> Request<'w> {
-    /// Parses arguments `[OPTION..] [FILE..]`, by the expectation of a value of `--lang` and the forms of the options. The
-    /// error is the first that is refused, or says that memory was refused.
-    pub fn from_args(
-        alloc: Global,
-        expected: &Expected,
-        forms: &[OptionForm],
-        args: &'w [&'w str],
-    ) -> Result<Request<'w>, ReadError<'w>>
-        ensures parsed { IfOk result (λ request. parsed_by expected.now forms.now args.now ≡ Ok (parsed_request request)) }
-        ensures refused { IfErr result (IsReadError (parsed_by expected.now forms.now args.now)) }
+    /// Parses arguments `[OPTION..] [FILE..]`. The error is the first that is refused, or says that memory was refused.
+    pub fn from_args(alloc: Global, args: &'w [&'w str]) -> Result<Request<'w>, ReadError<'w>>
+        ensures parsed { IfOk result (λ request. parsed_args args.now ≡ Ok (parsed_request request)) }
+        ensures refused { IfErr result (IsReadError (parsed_args args.now)) }
     {
-        let arguments = read(alloc, forms, args)?;
-        of_arguments(alloc, expected, &arguments)
+        let arguments = read(alloc, USAGE, args)?;
+        of_arguments(alloc, &arguments)
     }
 }

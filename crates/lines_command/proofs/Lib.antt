@@ -2,4 +2,3 @@ pub mod PlainBreaks
 pub mod Numbers
 pub mod Requests
 pub mod Runs
-pub mod Endings

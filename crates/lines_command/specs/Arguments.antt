@@ -1,16 +1,17 @@
 -- How the program `hyphenate-lines` reads its arguments.
-use Rattle.std.specs.Prelude.{◌≡◌, ℕ, ◌==◌, ◌&&◌, not, Bool, true, false, if◌then◌else◌, is_some, List, [], ◌∷◌, map}
+use Rattle.std.specs.Prelude.{ℕ, ◌==◌, ◌&&◌, not, Bool, if◌then◌else◌, is_some, List, [], ◌∷◌}
 use Rattle.std.specs.Prelude.{codes, Option, Some, None, Result, Ok, Err, unwrap_or}
 use Rattle.std.specs.Borrow.{Bor}
 use Rattle.hyphenation_breaks.specs.Borrowed.{texts_now}
-use Rattle.command_line.specs.Options.{GivenOption, ReadArguments, RefusedArgument, refused, after_step, read_arguments, names_of}
+use Rattle.command_line.specs.Options.{GivenOption, ReadArguments, RefusedArgument, refused, after_step, read_arguments}
 use Rattle.command_line.specs.Options.{is_given, last_value, number_given}
+use Rattle.command_line.specs.Usage.{options_in}
 use Rattle.command_line.specs.declared.options.Expected.TheVariants.{EvenLines, Operand}
-use Rattle.command_line.specs.declared.options.OptionForm.{OptionForm}
 use Rattle.paragraphs.specs.Parts.{Style}
 use Rattle.paragraphs.specs.declared.setting.Aim.{Aim}
 use Rattle.paragraphs.specs.declared.setting.Aim.TheVariants.{Full, Even}
 use Rattle.text_results.specs.Targets.{inputs_of}
+use Rattle.lines_command.specs.declared.TheConstants.{USAGE}
 
 -- The options: whether texts are only paragraphs; the columns of a line; whether lines are even; the columns below
 -- which the last line of a paragraph is too short; how many lines in a row may end in a hyphen, if it is limited; the
@@ -74,19 +75,9 @@ args_of options (dictionary ∷ names) =
 abbrev pub args_as_read : ReadArguments → Result ParsedArgs RefusedArgument
 args_as_read read = after_step (λ options. args_of options read.operands) (options_of read.given)
 
--- All arguments by the forms of options, or the first that is refused.
-abbrev pub parsed_by : List OptionForm → List (Bor (List ℕ)) → Result ParsedArgs RefusedArgument
-parsed_by forms args = after_step args_as_read (read_arguments forms (texts_now args))
-
--- The options of the program.
-abbrev pub option_names : List (List ℕ × Bool)
-option_names =
-    (codes "--plain", false) ∷ (codes "--width", true) ∷ (codes "--even", false) ∷ (codes "--price", true)
-    ∷ (codes "--last", true) ∷ (codes "--ladder", true) ∷ (codes "--indent", true) ∷ (codes "--first", true) ∷ []
-
--- Arguments are parsed so, by the options of the program: as these arguments, or as the first one that is refused.
-abbrev pub IsParsed : List (Bor (List ℕ)) → Result ParsedArgs RefusedArgument → Type 0
-IsParsed args parsed = (forms : List OptionForm) × (names_of forms ≡ option_names) × (parsed ≡ parsed_by forms args)
+-- All arguments as they are parsed, or the first that is refused.
+abbrev pub parsed_args : List (Bor (List ℕ)) → Result ParsedArgs RefusedArgument
+parsed_args args = after_step args_as_read (read_arguments (options_in USAGE.now) (texts_now args))
 
 -- The style that options ask for.
 abbrev pub style_for : ParsedOptions → Style

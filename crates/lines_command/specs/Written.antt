@@ -26,7 +26,7 @@ use Rattle.paragraphs.specs.Paragraphs.{ended, paragraphs}
 use Rattle.paragraphs.specs.declared.setting.Aim.{Aim}
 use Rattle.written_texts.specs.Blocks.{blocks}
 use Rattle.written_texts.specs.Written.{IsWritten, HasTooLong as HasTooLongWritten}
-use Rattle.lines_command.specs.Arguments.{ParsedArgs, ParsedOptions, IsParsed, style_for, aim_for}
+use Rattle.lines_command.specs.Arguments.{ParsedArgs, ParsedOptions, parsed_args, style_for, aim_for}
 use Rattle.lines_command.specs.declared.TheConstants.{NAME, USAGE}
 
 -- The text that the arguments ask for by `--help` or `--version`, if they do.
@@ -145,15 +145,14 @@ names_files_alone (Ok parsed) = not (list_any is_standard_input parsed.inputs)
 names_files_alone (Err refused) = true
 
 -- The program ends so for its arguments, as they are parsed. Standard input is left as it was if it is none of the inputs.
-abbrev pub EndsParsed : {W I : Type 0} → List (Bor (List ℕ)) → KnownFiles → List (List ℕ)
+abbrev pub EndsParsed : {W I : Type 0} → Result ParsedArgs RefusedArgument → KnownFiles → List (List ℕ)
     → (I → Option (List ℕ)) → I → I → (W → Option (List ℕ)) → W → W → End → Type 0
-EndsParsed args bytes_of folders remaining before after contents old new end =
-    (parsed : Result ParsedArgs RefusedArgument) × IsParsed args parsed
-    × EndsFor parsed bytes_of folders (remaining before) contents old new end
+EndsParsed parsed bytes_of folders remaining before after contents old new end =
+    EndsFor parsed bytes_of folders (remaining before) contents old new end
     × (names_files_alone parsed ≡ true → after ≡ before)
 
 -- If no help was asked for, the program ends so for its arguments.
 abbrev pub EndsUnlessAsked : {W I : Type 0} → List (Bor (List ℕ)) → KnownFiles → List (List ℕ)
     → (I → Option (List ℕ)) → I → I → (End → Type 0) → (W → Option (List ℕ)) → W → W → Type 0
 EndsUnlessAsked args bytes_of folders remaining before after EndsSo contents old new = asked_text args ≡ None
-    → EndsIn EndsSo (EndsParsed args bytes_of folders remaining before after contents old new)
+    → EndsIn EndsSo (EndsParsed (parsed_args args) bytes_of folders remaining before after contents old new)

@@ -3,13 +3,12 @@
 //! It sets the paragraphs of texts in lines, by a dictionary of either kind.
 #![tactic(auto)]
 
-ghost use Rattle.std.specs.Prelude.{◌≡◌, Ok, Some, is_some, map, true};
+ghost use Rattle.std.specs.Prelude.{◌≡◌, Ok, Some, is_some, true};
 ghost use Rattle.command_line.specs.About.{WritesHelp};
 ghost use Rattle.command_line.specs.Endings.{EndsBy, Tells};
 ghost use Rattle.command_line.specs.Statuses.{BeforeOutput};
-ghost use Rattle.command_line.specs.Usage.{names_options};
 ghost use Rattle.hyphenation_breaks.specs.Borrowed.{texts_now};
-ghost use Rattle.lines_command.specs.Arguments.{option_names, IsParsed};
+ghost use Rattle.lines_command.specs.Arguments.{parsed_args};
 ghost use Rattle.lines_command.specs.Private.Requests.{parsed_request};
 ghost use Rattle.lines_command.specs.Written.{EndsParsed, EndsUnlessAsked, asked_text};
 
@@ -18,7 +17,7 @@ mod run;
 
 use command_line::options::ReadError;
 use command_line::{Failure, Messages, NamedFiles, ProgramSteps, ProgramTexts, VERSION};
-use request::{Request, option_forms};
+use request::Request;
 use run::run;
 use std::alloc::Global;
 use std::io::{Read, Write};
@@ -26,7 +25,7 @@ use std::io::{Read, Write};
 /// The name of the program.
 pub const NAME: &str = "hyphenate-lines";
 
-/// The usage, for `--help`.
+/// The usage, for `--help`. The arguments are read by the options that it has.
 pub const USAGE: &str = "\
 usage: hyphenate-lines [OPTION..] DICTIONARY [FILE..]
        hyphenate-lines --help
@@ -49,11 +48,6 @@ items and heads of mails keep their form.
 /// The message if memory was refused.
 pub const NO_MEMORY: &str = "hyphenate-lines: no memory\n";
 
-/// A law: the text of `--help` names each option of the program, and no other.
-pub fn usage_names_options()
-    ensures { names_options USAGE.now (map (λ option. option.0) option_names) ≡ true }
-{}
-
 // The program over files, with its arguments, and the folders in which dictionaries are searched.
 #[derive(Clone, Copy)]
 struct Lines<'w, F> {
@@ -69,10 +63,10 @@ impl<'w, F: NamedFiles, I: Read, O: Write> ProgramSteps<(), I, O> for Lines<'w, 
 
     ghost args = { λ program. program.args.now };
 
-    ghost is_request = { λ program request. IsParsed program.args.now (Ok (parsed_request request)) };
+    ghost is_request = { λ program request. parsed_args program.args.now ≡ Ok (parsed_request request) };
 
-    ghost ends = { λ program end _ _ before after old new. EndsParsed program.args.now (F.bytes program.files.now)
-        (texts_now program.folders.now) I.remaining before after O.contents old new end };
+    ghost ends = { λ program end _ _ before after old new. EndsParsed (parsed_args program.args.now)
+        (F.bytes program.files.now) (texts_now program.folders.now) I.remaining before after O.contents old new end };
 
     ghost leaves_input = { λ _ status. status ≡ 3 };
 
@@ -81,8 +75,7 @@ impl<'w, F: NamedFiles, I: Read, O: Write> ProgramSteps<(), I, O> for Lines<'w, 
     }
 
     fn request(&self, alloc: Global) -> Result<Request<'w>, ReadError<'_>> {
-        let forms = option_forms();
-        Request::from_args(alloc, &forms, self.args)
+        Request::from_args(alloc, self.args)
     }
 
     #[tactic(auto, using(crate::proofs::Runs::by_status))]

@@ -2,57 +2,18 @@
 
 ghost use Rattle.std.specs.Prelude.{◌≡◌, [], codes, IfErr, IfOk, Ok, option_copied, option_map, unwrap_or};
 ghost use Rattle.hyphenation_breaks.specs.Borrowed.{texts_now};
-ghost use Rattle.command_line.specs.Options.{names_of, last_value, number_given};
+ghost use Rattle.command_line.specs.Options.{last_value, number_given};
 ghost use Rattle.command_line.specs.Reading.{as_read, given_options, IsAsWanted, IsReadError};
 ghost use Rattle.lines_command.specs.Arguments.{limit_of, if_limit_serves, options_of, args_of, args_as_read};
-ghost use Rattle.lines_command.specs.Arguments.{style_for, aim_for, option_names, parsed_by};
+ghost use Rattle.lines_command.specs.Arguments.{style_for, aim_for, parsed_args};
 ghost use Rattle.lines_command.specs.Private.Requests.{parsed_options, parsed_request, AreAsWanted};
 ghost use Rattle.paragraphs.specs.Styles.{style_of};
 
-use command_line::options::{Arguments, BadArgument, Expected, OptionForm, ReadError, read};
+use crate::USAGE;
+use command_line::options::{Arguments, BadArgument, Expected, ReadError, read};
 use paragraphs::{Aim, Style};
 use std::alloc::Global;
 use text_results::targets::inputs_of;
-
-/// Returns the options of the program.
-pub fn option_forms() -> [OptionForm; 8]
-    ensures { names_of result ≡ option_names }
-{
-    [
-        OptionForm {
-            name: "--plain",
-            takes_value: false,
-        },
-        OptionForm {
-            name: "--width",
-            takes_value: true,
-        },
-        OptionForm {
-            name: "--even",
-            takes_value: false,
-        },
-        OptionForm {
-            name: "--price",
-            takes_value: true,
-        },
-        OptionForm {
-            name: "--last",
-            takes_value: true,
-        },
-        OptionForm {
-            name: "--ladder",
-            takes_value: true,
-        },
-        OptionForm {
-            name: "--indent",
-            takes_value: true,
-        },
-        OptionForm {
-            name: "--first",
-            takes_value: true,
-        },
-    ]
-}
 
 /// The options as parsed.
 #[derive(Clone, Copy)]
@@ -242,17 +203,13 @@ fn of_arguments<'w>(alloc: Global, arguments: &Arguments<'w>) -> Result<Request<
 }
 
 impl<'w> Request<'w> {
-    /// Parses arguments `[OPTION..] DICTIONARY [FILE..]`, by the forms of the options. The error is the first that is
-    /// refused, or says that memory was refused.
-    pub fn from_args(
-        alloc: Global,
-        forms: &[OptionForm],
-        args: &'w [&'w str],
-    ) -> Result<Request<'w>, ReadError<'w>>
-        ensures parsed { IfOk result (λ request. parsed_by forms.now args.now ≡ Ok (parsed_request request)) }
-        ensures refused { IfErr result (IsReadError (parsed_by forms.now args.now)) }
+    /// Parses arguments `[OPTION..] DICTIONARY [FILE..]`. The error is the first that is refused, or says that memory was
+    /// refused.
+    pub fn from_args(alloc: Global, args: &'w [&'w str]) -> Result<Request<'w>, ReadError<'w>>
+        ensures parsed { IfOk result (λ request. parsed_args args.now ≡ Ok (parsed_request request)) }
+        ensures refused { IfErr result (IsReadError (parsed_args args.now)) }
     {
-        let arguments = read(alloc, forms, args)?;
+        let arguments = read(alloc, USAGE, args)?;
         of_arguments(alloc, &arguments)
     }
 }

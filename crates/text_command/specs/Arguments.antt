@@ -1,11 +1,12 @@
 -- How the program `hyphenate-text` reads its arguments.
-use Rattle.std.specs.Prelude.{◌≡◌, ℕ, Bool, true, false, List, [], ◌∷◌, codes, map, Option, Some, None, Result, Ok, Err, unwrap_or}
+use Rattle.std.specs.Prelude.{ℕ, Bool, List, [], ◌∷◌, codes, Option, Some, None, Result, Ok, Err, unwrap_or}
 use Rattle.std.specs.Borrow.{Bor}
 use Rattle.hyphenation_breaks.specs.Borrowed.{texts_now}
-use Rattle.command_line.specs.Options.{GivenOption, ReadArguments, RefusedArgument, refused, after_step, read_arguments, names_of, is_given, last_value, number_given}
+use Rattle.command_line.specs.Options.{GivenOption, ReadArguments, RefusedArgument, refused, after_step, read_arguments, is_given, last_value, number_given}
+use Rattle.command_line.specs.Usage.{options_in}
 use Rattle.command_line.specs.declared.options.Expected.TheVariants.{Operand}
-use Rattle.command_line.specs.declared.options.OptionForm.{OptionForm}
 use Rattle.text_results.specs.Targets.{Target, target_of, names_for}
+use Rattle.text_command.specs.declared.TheConstants.{USAGE}
 use Rattle.text_command.specs.declared.request.TheConstants.{SOFT_HYPHEN}
 
 -- The options: the mark; the least number of characters of a word that is broken; whether words that begin with a capital
@@ -53,16 +54,6 @@ abbrev pub args_as_read : ReadArguments → Result ParsedArgs RefusedArgument
 args_as_read read =
     after_step (λ options. args_of options (last_value (codes "--lang") read.given) read.operands) (options_of read.given)
 
--- All arguments by the forms of options, or the first that is refused.
-abbrev pub parsed_by : List OptionForm → List (Bor (List ℕ)) → Result ParsedArgs RefusedArgument
-parsed_by forms args = after_step args_as_read (read_arguments forms (texts_now args))
-
--- The options of the program.
-abbrev pub option_names : List (List ℕ × Bool)
-option_names =
-    (codes "--lang", true) ∷ (codes "--mark", true) ∷ (codes "--min-word", true) ∷ (codes "--skip-capitals", false)
-    ∷ (codes "--output", true) ∷ (codes "--in-place", false) ∷ []
-
--- Arguments are parsed so, by the options of the program: as these arguments, or as the first one that is refused.
-abbrev pub IsParsed : List (Bor (List ℕ)) → Result ParsedArgs RefusedArgument → Type 0
-IsParsed args parsed = (forms : List OptionForm) × (names_of forms ≡ option_names) × (parsed ≡ parsed_by forms args)
+-- All arguments as they are parsed, or the first that is refused.
+abbrev pub parsed_args : List (Bor (List ℕ)) → Result ParsedArgs RefusedArgument
+parsed_args args = after_step args_as_read (read_arguments (options_in USAGE.now) (texts_now args))

@@ -18,7 +18,7 @@ use Rattle.hyphenation_html.specs.Words.{within_limits}
 use Rattle.text_results.specs.Files.{WrittenFiles}
 use Rattle.text_results.specs.Texts.{IsFailureAmong}
 use Rattle.text_results.specs.Written.{Ends, EndsRefused}
-use Rattle.text_command.specs.Arguments.{ParsedArgs, ParsedOptions, IsParsed}
+use Rattle.text_command.specs.Arguments.{ParsedArgs, ParsedOptions, parsed_args}
 use Rattle.text_command.specs.declared.TheConstants.{NAME, USAGE}
 
 -- The text that the arguments ask for by `--help` or `--version`, if they do.
@@ -72,11 +72,10 @@ names_files_alone (Ok args) = not (list_any is_standard_input args.inputs)
 names_files_alone (Err refused) = true
 
 -- The program ends so for its arguments, as they are parsed. Standard input is as it was if it is none of the texts.
-abbrev pub EndsParsed : {W S I : Type 0} → List (Bor (List ℕ)) → KnownFiles → List (List ℕ) → (I → Option (List ℕ)) → I → I
+abbrev pub EndsParsed : {W S I : Type 0} → Result ParsedArgs RefusedArgument → KnownFiles → List (List ℕ) → (I → Option (List ℕ)) → I → I
     → (W → Option (List ℕ)) → W → W → (S → Option WrittenFiles) → S → S → End → Type 0
-EndsParsed args bytes_of folders remaining before after contents old new written old_files new_files end =
-    (parsed : Result ParsedArgs RefusedArgument) × IsParsed args parsed
-    × EndsFor parsed bytes_of folders (remaining before) contents old new written old_files new_files end
+EndsParsed parsed bytes_of folders remaining before after contents old new written old_files new_files end =
+    EndsFor parsed bytes_of folders (remaining before) contents old new written old_files new_files end
     × (names_files_alone parsed ≡ true → after ≡ before)
 
 -- If no help was asked for, the program ends so for its arguments.
@@ -84,4 +83,4 @@ abbrev pub EndsUnlessAsked : {W S I : Type 0} → List (Bor (List ℕ)) → Know
     → (End → Type 0) → (W → Option (List ℕ)) → W → W → (S → Option WrittenFiles) → S → S → Type 0
 EndsUnlessAsked args bytes_of folders remaining before after EndsSo contents old new written old_files new_files =
     asked_text args ≡ None → EndsIn EndsSo
-    (EndsParsed args bytes_of folders remaining before after contents old new written old_files new_files)
+    (EndsParsed (parsed_args args) bytes_of folders remaining before after contents old new written old_files new_files)

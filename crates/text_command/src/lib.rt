@@ -3,13 +3,12 @@
 //! It puts marks into plain texts where their words may be broken, and leaves all else as it is.
 #![tactic(auto)]
 
-ghost use Rattle.std.specs.Prelude.{◌≡◌, true, Ok, Some, is_some, map};
+ghost use Rattle.std.specs.Prelude.{◌≡◌, true, Ok, Some, is_some};
 ghost use Rattle.command_line.specs.About.{WritesHelp};
 ghost use Rattle.command_line.specs.Endings.{EndsBy, Tells};
 ghost use Rattle.command_line.specs.Statuses.{BeforeOutput};
-ghost use Rattle.command_line.specs.Usage.{names_options};
 ghost use Rattle.hyphenation_breaks.specs.Borrowed.{texts_now};
-ghost use Rattle.text_command.specs.Arguments.{option_names, IsParsed};
+ghost use Rattle.text_command.specs.Arguments.{parsed_args};
 ghost use Rattle.text_command.specs.Private.Requests.{parsed_request};
 ghost use Rattle.text_command.specs.Written.{EndsParsed, EndsUnlessAsked, asked_text};
 
@@ -18,11 +17,11 @@ mod run;
 
 use command_line::options::ReadError;
 use command_line::{Failure, Messages, NamedFiles, ProgramSteps, ProgramTexts, VERSION};
-use request::{Request, option_forms};
+use request::Request;
 use run::run;
 use std::alloc::Global;
 use std::io::{Read, Write};
-pub use text_results::files::{Recorded, ReplaceFiles};
+pub use text_results::files::{Recorded, Recorded, ReplaceFiles, ReplaceFiles};
 
 /// A call of the program: its arguments, and the folders in which dictionaries are searched that no path names.
 #[derive(Clone, Copy)]
@@ -36,7 +35,7 @@ pub struct Call<'w> {
 /// The name of the program.
 pub const NAME: &str = "hyphenate-text";
 
-/// The usage, for `--help`.
+/// The usage, for `--help`. The arguments are read by the options that it has.
 pub const USAGE: &str = "\
 usage: hyphenate-text [OPTION..] DICTIONARY [FILE..]
        hyphenate-text [OPTION..] --lang CODE [FILE..]
@@ -59,11 +58,6 @@ and what has a soft hyphen, are left alone.
 /// The message if memory was refused.
 pub const NO_MEMORY: &str = "hyphenate-text: no memory\n";
 
-/// A law: the text of `--help` names each option of the program, and no other.
-pub fn usage_names_options()
-    ensures { names_options USAGE.now (map (λ option. option.0) option_names) ≡ true }
-{}
-
 // The program over files, with its call.
 #[derive(Clone, Copy)]
 struct Text<'w, F> {
@@ -78,9 +72,9 @@ impl<'w, F: NamedFiles, S: ReplaceFiles, I: Read, O: Write> ProgramSteps<S, I, O
 
     ghost args = { λ program. program.call.args.now };
 
-    ghost is_request = { λ program request. IsParsed program.call.args.now (Ok (parsed_request request)) };
+    ghost is_request = { λ program request. parsed_args program.call.args.now ≡ Ok (parsed_request request) };
 
-    ghost ends = { λ program end old_files new_files before after old new. EndsParsed program.call.args.now
+    ghost ends = { λ program end old_files new_files before after old new. EndsParsed (parsed_args program.call.args.now)
         (F.bytes program.files.now) (texts_now program.call.folders.now) I.remaining before after
         O.contents old new S.written old_files new_files end };
 
@@ -91,8 +85,7 @@ impl<'w, F: NamedFiles, S: ReplaceFiles, I: Read, O: Write> ProgramSteps<S, I, O
     }
 
     fn request(&self, alloc: Global) -> Result<Request<'w>, ReadError<'_>> {
-        let forms = option_forms();
-        Request::from_args(alloc, &forms, self.call.args)
+        Request::from_args(alloc, self.call.args)
     }
 
     #[tactic(auto, using(crate::proofs::Runs::by_status))]

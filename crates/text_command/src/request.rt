@@ -2,47 +2,15 @@
 
 ghost use Rattle.std.specs.Prelude.{◌≡◌, IfErr, IfOk, Ok, option_copied};
 ghost use Rattle.hyphenation_breaks.specs.Borrowed.{texts_now};
-ghost use Rattle.command_line.specs.Options.{names_of};
 ghost use Rattle.command_line.specs.Reading.{as_read, given_options, IsReadError};
-ghost use Rattle.text_command.specs.Arguments.{option_names, options_of};
-ghost use Rattle.text_command.specs.Arguments.{args_with, args_of, args_as_read, parsed_by};
+ghost use Rattle.text_command.specs.Arguments.{options_of};
+ghost use Rattle.text_command.specs.Arguments.{args_with, args_of, args_as_read, parsed_args};
 ghost use Rattle.text_command.specs.Private.Requests.{parsed_options, parsed_request, AreAsWanted};
 
-use command_line::options::{Arguments, BadArgument, Expected, OptionForm, ReadError, read};
+use crate::USAGE;
+use command_line::options::{Arguments, BadArgument, Expected, ReadError, read};
 use std::alloc::Global;
 use text_results::targets::{Target, names_for, target_of};
-
-/// Returns the options of the program.
-pub fn option_forms() -> [OptionForm; 6]
-    ensures { names_of result ≡ option_names }
-{
-    [
-        OptionForm {
-            name: "--lang",
-            takes_value: true,
-        },
-        OptionForm {
-            name: "--mark",
-            takes_value: true,
-        },
-        OptionForm {
-            name: "--min-word",
-            takes_value: true,
-        },
-        OptionForm {
-            name: "--skip-capitals",
-            takes_value: false,
-        },
-        OptionForm {
-            name: "--output",
-            takes_value: true,
-        },
-        OptionForm {
-            name: "--in-place",
-            takes_value: false,
-        },
-    ]
-}
 
 /// The soft hyphen.
 pub const SOFT_HYPHEN: &str = "\u{ad}";
@@ -147,17 +115,13 @@ fn of_arguments<'w>(alloc: Global, arguments: &Arguments<'w>) -> Result<Request<
 }
 
 impl<'w> Request<'w> {
-    /// Parses arguments `[OPTION..] [DICTIONARY] [FILE..]`, by the forms of the options. The error is the first that is
-    /// refused, or says that memory was refused.
-    pub fn from_args(
-        alloc: Global,
-        forms: &[OptionForm],
-        args: &'w [&'w str],
-    ) -> Result<Request<'w>, ReadError<'w>>
-        ensures parsed { IfOk result (λ request. parsed_by forms.now args.now ≡ Ok (parsed_request request)) }
-        ensures refused { IfErr result (IsReadError (parsed_by forms.now args.now)) }
+    /// Parses arguments `[OPTION..] [DICTIONARY] [FILE..]`. The error is the first that is refused, or says that memory was
+    /// refused.
+    pub fn from_args(alloc: Global, args: &'w [&'w str]) -> Result<Request<'w>, ReadError<'w>>
+        ensures parsed { IfOk result (λ request. parsed_args args.now ≡ Ok (parsed_request request)) }
+        ensures refused { IfErr result (IsReadError (parsed_args args.now)) }
     {
-        let arguments = read(alloc, forms, args)?;
+        let arguments = read(alloc, USAGE, args)?;
         of_arguments(alloc, &arguments)
     }
 }

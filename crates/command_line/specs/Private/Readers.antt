@@ -1,11 +1,22 @@
 -- How a reader of arguments corresponds to the definitions.
-use Rattle.std.specs.Prelude.{◌≡◌, Result, Ok, Err}
+use Rattle.std.specs.Prelude.{◌≡◌, Bool, List, ℕ, Result, Ok, Err}
+use Rattle.std.specs.Borrow.{Bor}
 use Rattle.command_line.specs.Options.{ReadArguments, RefusedArgument, Next, Any, ValueOf, OperandsAlone}
 use Rattle.command_line.specs.Reading.{as_read, IsReadError}
+use Rattle.command_line.specs.Usage.{OptionForm}
 use Rattle.command_line.specs.declared.options.Next.{Next as NextInCode}
 use Rattle.command_line.specs.declared.options.Next.TheVariants.{Any as AnyInCode, ValueOf as ValueInCode, OperandsAlone as OperandsInCode}
+use Rattle.command_line.specs.declared.options.OptionForm.{OptionForm as OptionInCode}
 use Rattle.command_line.specs.declared.options.Reader.{Reader}
 use Rattle.command_line.specs.declared.options.ReadError.{ReadError}
+
+-- An option that a program has.
+abbrev pub as_form : OptionInCode → OptionForm
+as_form form = record { name = form.name.now; takes_value = form.takes_value }
+
+-- The option of a line of a usage.
+abbrev pub as_form_in : (Bor (List ℕ) × Bool) → OptionForm
+as_form_in found = record { name = found.0.now; takes_value = found.1 }
 
 -- Which arguments may come next.
 abbrev pub as_next : NextInCode → Next

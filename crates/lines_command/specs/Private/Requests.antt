@@ -1,5 +1,5 @@
 -- How a request in code corresponds to parsed arguments.
-use Rattle.std.specs.Prelude.{◌≡◌, ℕ, List, option_map, Result, Ok, Err}
+use Rattle.std.specs.Prelude.{◌≡◌, option_map, Result, Ok, Err}
 use Rattle.hyphenation_breaks.specs.Borrowed.{texts_now}
 use Rattle.command_line.specs.Options.{RefusedArgument}
 use Rattle.command_line.specs.Reading.{as_refused}

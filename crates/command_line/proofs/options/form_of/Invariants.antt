@@ -1,7 +1,13 @@
-use Rattle.std.specs.Prelude.{◌≡◌, drop}
+use Rattle.std.specs.Prelude.{◌≡◌, length}
+use Rattle.std.specs.List.{filter_map}
+use Rattle.hyphenation_grammar.specs.Lines.{lines_of}
 use Rattle.command_line.specs.Options.{form_of}
+use Rattle.command_line.specs.Usage.{option_in, options_in}
 use Rattle.command_line.proofs.options.form_of.Given as goal
 
--- The first form of that name is among those to come.
-abbrev pub invariant-loop-form : goal.invariant-loop-form
-invariant-loop-form l = form_of (drop l.form-index l.forms) l.name ≡ form_of l.forms l.name
+-- The first option of that name is in the lines to come.
+abbrev pub invariant-loop-line : goal.invariant-loop-line
+invariant-loop-line l = form_of (filter_map option_in (lines_of l.rest)) l.name ≡ form_of (options_in l.usage) l.name
+
+abbrev pub decreases-loop-line : goal.decreases-loop-line
+decreases-loop-line l = length l.rest

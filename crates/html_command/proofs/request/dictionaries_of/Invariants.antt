@@ -7,4 +7,4 @@ use Rattle.html_command.proofs.request.dictionaries_of.Given as goal
 -- The dictionaries of values to come, after those so far, are those of all values.
 abbrev pub invariant-loop-value : goal.invariant-loop-value
 invariant-loop-value l =
-    dictionaries_after l.expected (map parsed_dictionary l.given.items) (texts_now (drop l.value-index l.values)) ≡ dictionaries_of l.expected (texts_now l.values)
+    dictionaries_after (map parsed_dictionary l.given.items) (texts_now (drop l.value-index l.values)) ≡ dictionaries_of (texts_now l.values)

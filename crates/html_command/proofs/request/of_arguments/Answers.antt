@@ -7,5 +7,5 @@ use Rattle.html_command.proofs.request.of_arguments.Goals as goal
 
 pub returns-clause-refused : goal.returns-clause-refused
 returns-clause-refused c =
-    refused_as c.args.expected.now (as_read c.args.arguments.now) (parsed_options c.in_ok-options.options) (texts_now c.deref.result.now) c.with_names.result
+    refused_as (as_read c.args.arguments.now) (parsed_options c.in_ok-options.options) (texts_now c.deref.result.now) c.with_names.result
     c.in_ok-options.ensures.parsed (ap texts_now c.deref.ensures.value) c.with_names.ensures.refused
