@@ -62,7 +62,11 @@ fn expect_failing_from<D: Load + Drop>(
     for number in 1..=bytes.saturating_add(1) {
         let wanted = if number <= bytes { fails } else { whole };
         let end = end_from::<D, _>(alloc, code, &mut failing_from(text, number, error));
-        expect_equal_in(number, &end, &wanted)?;
+        expect_equal_in(
+            format_args!("{whole} in {code}, read {number}"),
+            &end,
+            &wanted,
+        )?;
     }
     Ok(())
 }
@@ -79,7 +83,11 @@ fn expect_failing_once<D: Load + Drop>(
     for number in 1..=reads.saturating_add(1) {
         let wanted = if number <= reads { fails } else { whole };
         let end = end_from::<D, _>(alloc, code, &mut failing_once(text, number, error));
-        expect_equal_in(number, &end, &wanted)?;
+        expect_equal_in(
+            format_args!("{whole} in {code}, read {number}"),
+            &end,
+            &wanted,
+        )?;
     }
     Ok(())
 }

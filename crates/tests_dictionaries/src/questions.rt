@@ -72,70 +72,82 @@ fn answers(
 // Breaks that are listed, with capitals too.
 const ANISOTROPIC: &[Row] = &[
     (
-        "within its boundaries",
+        "an exception has its listed breaks within the minima",
         Exception("anisotropic"),
         Some(&[(2, false), (5, false)]),
     ),
     (
-        "no list within the boundaries of another word",
+        "a word that is not listed is no exception",
         Exception("other"),
         None,
     ),
-    ("none of a word left whole", Exception("ab"), None),
     (
-        "within bounds",
+        "a listed word that is too short for the minima is none",
+        Exception("ab"),
+        None,
+    ),
+    (
+        "bounds take all listed breaks between them",
         Listed("anisotropic", (0, 11)),
         Some(&[(2, false), (5, false), (9, false)]),
     ),
     (
-        "the first is greater",
+        "a first bound above the second leaves no listed break",
         Listed("anisotropic", (9, 2)),
         Some(&[]),
     ),
-    ("of another word", Listed("other", (0, 5)), None),
     (
-        "of a word left whole",
+        "a word that is not listed has no list within bounds",
+        Listed("other", (0, 5)),
+        None,
+    ),
+    (
+        "bounds take a break of a word that is too short for the minima",
         Listed("ab", (0, 2)),
         Some(&[(1, false)]),
     ),
-    ("it has no break", Opportunities("ab"), Some(&[])),
     (
-        "found as it is listed",
+        "a listed word that is too short for the minima has no break",
+        Opportunities("ab"),
+        Some(&[]),
+    ),
+    (
+        "a word with a capital is found as it is listed",
         Listed("Upper", (0, 5)),
         Some(&[(3, false)]),
     ),
-    ("but not in small letters", Listed("upper", (0, 5)), None),
+    ("and not in small letters", Listed("upper", (0, 5)), None),
 ];
 
 // A word that is listed hides its patterns, and not the places that they allow within bounds.
 const FIRKINS: &[Row] = &[
     (
-        "it decides alone",
+        "a listed word has its listed break and none of its patterns",
         Opportunities("firkins"),
         Some(&[(3, false)]),
     ),
     (
-        "of patterns",
+        "patterns allow places of a listed word within bounds",
         Allowed("firkins", (0, 7)),
         Some(&[(3, false), (4, false)]),
     ),
     (
-        "at its first bound",
+        "a place at the first bound is allowed",
         Allowed("firkins", (4, 6)),
         Some(&[(4, false)]),
     ),
     (
-        "at both its bounds",
+        "a place at both bounds is allowed",
         Allowed("firkins", (3, 3)),
         Some(&[(3, false)]),
     ),
     (
-        "the first is greater",
+        "a first bound above the second leaves no place",
         Allowed("firkins", (4, 3)),
         Some(&[]),
     ),
     (
-        "after the last one",
+        "no place is allowed after the last one",
         Allowed("firkins", (5, usize::MAX)),
         Some(&[]),
     ),
@@ -143,25 +155,37 @@ const FIRKINS: &[Row] = &[
 
 // A word with a capital has its listed break as a word in small letters.
 const UPPER: &[Row] = &[(
-    "as small letters",
+    "a listed word with a capital has its break",
     Opportunities("Upper"),
     Some(&[(3, false)]),
 )];
 
-const EMPTY_LIST: &[Row] = &[("a list may be empty", Exception("ab"), Some(&[]))];
+const EMPTY_LIST: &[Row] = &[(
+    "a list may be empty, and hides the patterns",
+    Exception("ab"),
+    Some(&[]),
+)];
 
-const NO_PATTERN: &[Row] = &[("it may be, without patterns", Exception("abcd"), Some(&[]))];
+const NO_PATTERN: &[Row] = &[(
+    "a list may be empty within the minima",
+    Exception("abcd"),
+    Some(&[]),
+)];
 
 // Changes that are listed.
 const DOUBLED: &[Row] = &[
-    ("a change is listed", Exception("esszé"), Some(&[(2, true)])),
     (
-        "within bounds too",
+        "a listed break has its change",
+        Exception("esszé"),
+        Some(&[(2, true)]),
+    ),
+    (
+        "it has its change within bounds too",
         Listed("esszé", (0, 6)),
         Some(&[(2, true)]),
     ),
     (
-        "no change of a pattern",
+        "patterns allow no change that is only listed",
         Allowed("esszé", (0, 6)),
         Some(&[]),
     ),
@@ -169,13 +193,17 @@ const DOUBLED: &[Row] = &[
 
 // A list with a place within the range of the break before it, which `hyphenate` leaves out.
 const OVERLAPPING: &[Row] = &[(
-    "the place is listed",
+    "a place within the range before it is listed",
     Exception("asszonnyal"),
     Some(&[(2, true), (3, false), (6, true)]),
 )];
 
 // A change whose range begins before the first letter of a word, which `hyphenate` leaves out.
-const PAST_THE_EDGE: &[Row] = &[("it is allowed", Opportunities("abc"), Some(&[(1, true)]))];
+const PAST_THE_EDGE: &[Row] = &[(
+    "a change whose range passes the head of the word is allowed",
+    Opportunities("abc"),
+    Some(&[(1, true)]),
+)];
 
 const TABLES: &[Table] = &[
     ("2 3", "e anisotropic 2 5 9\ne ab 1\ne Upper 3", ANISOTROPIC),
