@@ -1,13 +1,13 @@
-//! Assertions of tests, readers and writers that fail, and long texts. Nothing here uses a dictionary.
+//! Assertions of tests, readers and writers that fail, and dictionaries that several tests use.
 #![tactic(auto)]
 
+pub mod dictionaries;
 pub mod files;
 pub mod io_errors;
 pub mod readers;
 pub mod writers;
 
 use core::fmt::InlineText;
-use std::alloc::{AllocError, Global};
 use std::fmt::{Debug, Display};
 use std::test::Fail;
 
@@ -56,41 +56,11 @@ pub fn expect_equal_in<C: Display + Drop, T: PartialEq + Debug>(
     }
 }
 
-/// Fails, with the case and both texts, unless the bytes are equal.
-pub fn expect_equal_bytes<C: Display + Drop>(
-    case: C,
-    found: &[u8],
-    wanted: &[u8],
-) -> Result<(), Fail> {
-    if found == wanted {
-        Ok(())
-    } else {
-        let (found, wanted) = (found.escape_ascii(), wanted.escape_ascii());
-        Err(Fail::new(format_args!("{case}: found {found} and not {wanted}")))
-    }
-}
-
 /// Fails if a call failed or returned another text.
 pub fn expect_text<E: Into<Fail>>(found: Result<String, E>, wanted: &str) -> Result<(), Fail> {
     match found {
         Ok(found) => expect_equal(&found.as_str(), &wanted),
         Err(error) => Err(error.into()),
-    }
-}
-
-/// Fails, with the case, if a call failed or returned another text.
-pub fn expect_text_in<C: Display + Drop, E: Into<CallError>>(
-    case: C,
-    found: Result<String, E>,
-    wanted: &str,
-) -> Result<(), Fail> {
-    match found {
-        Ok(found) => expect_equal_in(case, &found.as_str(), &wanted),
-        Err(error) => {
-            let error: CallError = error.into();
-            let why = error.text.as_str();
-            Err(Fail::new(format_args!("{case}: {why}")))
-        }
     }
 }
 
@@ -101,28 +71,4 @@ pub fn expect<C: Display + Drop>(is_so: bool, case: C) -> Result<(), Fail> {
     } else {
         Err(Fail::new(format_args!("it does not hold: {case}")))
     }
-}
-
-/// A text, repeated.
-pub fn repeated(alloc: Global, piece: &str, times: usize) -> Result<String, AllocError> {
-    let mut text = String::new(alloc);
-    for _ in 0..times {
-        text.push_str(piece)?;
-    }
-    Ok(text)
-}
-
-/// The rows of a table that is a text: each has a line with what it shows, and a line `CASE => RESULT`. Fails unless
-/// there are so many.
-pub fn rows_of(alloc: Global, table: &str, count: usize) -> Result<Vec<(&str, &str, &str)>, Fail> {
-    let mut rows = Vec::new(alloc);
-    let mut shows = "";
-    for line in table.lines() {
-        match line.split_once(" => ") {
-            Some((case, result)) => rows.push((shows, case, result))?,
-            None => shows = line,
-        }
-    }
-    expect_equal(&rows.len(), &count)?;
-    Ok(rows)
 }

@@ -1,8 +1,8 @@
-//! Readers that give few bytes a read, and readers that fail.
+//! Readers that give few bytes a read, and fail.
 
 ghost use Rattle.std.specs.Prelude.{◌≤◌, length};
 
-use crate::io_errors::{CONNECTION_RESET, io_error};
+use crate::io_errors::io_error;
 use std::io;
 use std::io::Read;
 
@@ -44,16 +44,10 @@ pub fn failing_from(left: &[u8], until: usize, code: i32) -> FailingReader<'_> {
     FailingReader { left, until, code }
 }
 
-/// A reader of one byte a read, which never fails.
-pub fn one_byte_reads(left: &[u8]) -> FailingReader<'_> {
-    failing_from(left, usize::MAX, CONNECTION_RESET)
-}
-
-/// Gives at most `most` bytes a read. The read of a number, counted from 1, fails; later ones succeed.
+/// Gives at most two bytes a read. The read of a number, counted from 1, fails; later ones succeed.
 #[derive(Drop)]
 pub struct ShortReader<'t> {
     left: &'t [u8],
-    most: usize,
     until: usize,
     code: i32,
 }
@@ -65,7 +59,7 @@ impl Read for ShortReader<'_> {
             return Err(io_error(self.code));
         }
         self.until = self.until.saturating_sub(1);
-        let room = self.most.min(buf.len());
+        let room = buf.len().min(2);
         let (given, rest) = self.left.split_at(room.min(self.left.len()));
         for (slot, byte) in buf.iter_mut().zip(given) {
             *slot = *byte;
@@ -75,22 +69,7 @@ impl Read for ShortReader<'_> {
     }
 }
 
-/// A reader of at most `most` bytes a read, which never fails.
-pub fn short_reads(left: &[u8], most: usize) -> ShortReader<'_> {
-    ShortReader {
-        left,
-        most,
-        until: 0,
-        code: CONNECTION_RESET,
-    }
-}
-
 /// A reader of two bytes a read, of which only the read of this number fails, with this code.
 pub fn failing_once(left: &[u8], until: usize, code: i32) -> ShortReader<'_> {
-    ShortReader {
-        left,
-        most: 2,
-        until,
-        code,
-    }
+    ShortReader { left, until, code }
 }

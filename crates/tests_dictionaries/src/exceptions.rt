@@ -7,7 +7,7 @@ use hyphenation_segments::iter::Iter;
 use std::alloc::{AllocError, Global};
 use std::borrow::CowStr;
 use std::test::Fail;
-use test_dictionaries::{FIRKIN, extended, load};
+use test_support::dictionaries::{FIRKIN, extended, load};
 use test_support::{expect, expect_equal, expect_equal_in};
 
 // Lists a place for `firkins`, or removes the word, and returns the first place of the list that it had.

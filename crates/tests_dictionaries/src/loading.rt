@@ -8,7 +8,7 @@ use std::fs::remove_file;
 use std::io;
 use std::io::Read;
 use std::test::Fail;
-use test_dictionaries::SMALLEST;
+use test_support::dictionaries::SMALLEST;
 use test_support::files::new_file;
 use test_support::io_errors::{CONNECTION_RESET, INTERRUPTED, OUT_OF_MEMORY, has_code, io_error};
 use test_support::readers::{failing_from, failing_once};

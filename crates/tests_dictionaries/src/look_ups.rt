@@ -4,7 +4,7 @@ use hyphenation_dictionary::dictionary::Standard;
 use hyphenation_score::{LookUps, Score};
 use std::alloc::Global;
 use std::test::Fail;
-use test_dictionaries::load;
+use test_support::dictionaries::load;
 use test_support::expect_equal_in;
 
 // The numbers of look-ups and of reports of scoring a word by the table of the dictionary of a text. Without a table

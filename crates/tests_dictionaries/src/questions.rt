@@ -7,7 +7,7 @@ use hyphenation_dictionary::dictionary::Extended;
 use hyphenation_hyphenator::hyphenator::Hyphenator;
 use std::alloc::{AllocError, Global};
 use std::test::Fail;
-use test_dictionaries::extended;
+use test_support::dictionaries::extended;
 use test_support::expect;
 
 // A question to a dictionary. Bounds are numbers of bytes.

@@ -16,7 +16,7 @@ use std::alloc::{AllocError, Global};
 use std::iter::Copied;
 use std::slice;
 use std::test::Fail;
-use test_dictionaries::extended;
+use test_support::dictionaries::extended;
 use test_support::{CallError, expect, expect_equal};
 
 // Callers of the iterators, which are proved with the tests.

@@ -3,7 +3,7 @@
 use any_dictionary::AnyDictionary;
 use std::alloc::Global;
 use std::test::Fail;
-use test_dictionaries::{FIRKIN, load};
+use test_support::dictionaries::{FIRKIN, load};
 use test_support::expect_equal_in;
 
 // Each row has its sentence, the text of a dictionary, and whether the dictionary can have a table.

@@ -8,7 +8,7 @@ use hyphenation_load::{Error, Load};
 use pattern_results::notes::NoteKind;
 use std::alloc::Global;
 use std::test::Fail;
-use test_dictionaries::{SMALLEST, load};
+use test_support::dictionaries::{SMALLEST, load};
 use test_support::io_errors::{BROKEN_PIPE, OUT_OF_MEMORY, has_code};
 use test_support::writers::failing_at;
 use test_support::{expect, expect_text};

@@ -11,7 +11,7 @@ use hyphenation::load::Error;
 use hyphenation::{Hyphenator, Standard};
 use std::alloc::{AllocError, Global};
 use std::test::Fail;
-use test_dictionaries::{dictionary, load};
+use test_support::dictionaries::{dictionary, load};
 use test_support::{expect, expect_text};
 
 // The breaks of `hyphenation`, in American English.

@@ -7,7 +7,7 @@ use hyphenation::load::Error;
 use linefill::run_fill;
 use std::alloc::Global;
 use std::test::Fail;
-use test_dictionaries::AMERICAN;
+use test_support::dictionaries::AMERICAN;
 use test_support::expect;
 use test_support::io_errors::{BROKEN_PIPE, CONNECTION_RESET, INTERRUPTED, OUT_OF_MEMORY};
 use test_support::readers::failing_once;

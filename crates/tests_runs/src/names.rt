@@ -10,7 +10,7 @@ use hyphenation::score::{LookUps, Score};
 use hyphenation::{Standard, hyphenate_text};
 use std::alloc::{AllocError, Global};
 use std::test::Fail;
-use test_dictionaries::{DOUBLED, FIRKIN, dictionary};
+use test_support::dictionaries::{DOUBLED, FIRKIN, dictionary};
 use test_support::{expect, expect_text};
 
 // Whether `İẞab` folds to `ißab`, and the place 3 of that is 5 of the word.

@@ -63,7 +63,7 @@ fn replace<S: ReplaceFiles>(
 }
 
 // Replaces the file of each name by the result of its text.
-#[tactic(auto, using(crate::proofs::Files::replaced_none, crate::proofs::Files::replaced_more, crate::proofs::Files::replaced_all, crate::proofs::Files::replaced_not))]
+#[tactic(auto, using(crate::proofs::ReplacedFiles::replaced_none, crate::proofs::ReplacedFiles::replaced_more, crate::proofs::ReplacedFiles::replaced_all, crate::proofs::ReplacedFiles::replaced_not))]
 fn replace_each<S: ReplaceFiles>(
     store: &mut S,
     alloc: Global,
@@ -101,7 +101,7 @@ fn write_out<O: Write>(alloc: Global, results: &[String], output: &mut O) -> Res
 }
 
 // Writes results to the file at a path.
-#[tactic(auto, using(crate::proofs::Files::file_not))]
+#[tactic(auto, using(crate::proofs::ReplacedFiles::file_not))]
 fn write_file<S: ReplaceFiles>(
     store: &mut S,
     alloc: Global,
@@ -124,7 +124,7 @@ fn write_file<S: ReplaceFiles>(
 /// ```text
 /// write_results(&mut &rt, alloc, Target::InPlace, &["letter.txt"], &results, &mut rt.stdout())?
 /// ```
-#[tactic(auto, using(crate::proofs::Files::writes_none, crate::proofs::Files::appends_none))]
+#[tactic(auto, using(crate::proofs::ReplacedFiles::writes_none, crate::proofs::ReplacedFiles::appends_none))]
 pub fn write_results<S: ReplaceFiles, O: Write>(
     store: &mut S,
     alloc: Global,

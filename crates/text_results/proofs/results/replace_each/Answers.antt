@@ -1,7 +1,7 @@
 use Rattle.std.proofs.Common.{drop, map}
 use Rattle.std.specs.String.{string_bytes}
 use Rattle.hyphenation_breaks.specs.Borrowed.{texts_now}
-use Rattle.text_results.proofs.Files.{replaced_all_of, replaced_more_at}
+use Rattle.text_results.proofs.ReplacedFiles.{replaced_all_of, replaced_more_at}
 use Rattle.text_results.proofs.results.replace_each.Goals as goal
 
 pub returns-in_default-clause-written : goal.returns-in_default-clause-written

@@ -1,5 +1,4 @@
 //! Dictionaries that several tests use, loaded from their texts.
-#![tactic(auto)]
 
 use hyphenation_dictionary::dictionary::{Extended, Standard};
 use hyphenation_load::{Error, Load};
