@@ -25,7 +25,7 @@ use request::Request;
 use run::run;
 use std::alloc::Global;
 use std::io::{Read, Write};
-pub use text_results::files::{Recorded, Recorded, ReplaceFiles, ReplaceFiles};
+pub use text_results::files::{Recorded, ReplaceFiles};
 
 /// A call of the program: its arguments, and the folders in which dictionaries are searched that no path names.
 #[derive(Clone, Copy)]
