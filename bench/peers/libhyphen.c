@@ -1,9 +1,10 @@
-/* Libhyphen, which LibreOffice uses. It takes small letters, so the capitals of ASCII are made small first. */
+/* Libhyphen, which LibreOffice uses. It takes small letters, so the capitals of ASCII are made small first. With `written` as
+ * the first argument it asks for the written word too. */
 #include <hyphen.h>
 #include "peer.h"
 
 static HyphenDict *dictionary;
-static char word[1 << 12], hyphens[(1 << 12) + 5];
+static char word[1 << 12], hyphens[(1 << 12) + 5], written[(1 << 14) + 5], *with_written;
 
 static void load(const char *path) {
   dictionary = hnj_hyphen_load(path);
@@ -18,7 +19,7 @@ static size_t breaks_of_word(const char *given, size_t length) {
   /* A NUL has to follow: libhyphen looks for it. */
   memcpy(word, given, length);
   word[length] = 0;
-  if (hnj_hyphen_hyphenate2(dictionary, word, (int)length, hyphens, NULL, &texts, &starts, &cuts) != 0)
+  if (hnj_hyphen_hyphenate2(dictionary, word, (int)length, hyphens, with_written, &texts, &starts, &cuts) != 0)
     die("a word was refused");
   /* There is a value for each character, not for each byte, and a NUL behind them. */
   for (size_t i = 0; hyphens[i]; i++) found += hyphens[i] & 1;
@@ -59,4 +60,7 @@ static size_t breaks_of_text(const char *text, size_t length, char *marked) {
   return found;
 }
 
-int main(int argc, char **argv) { return go_through(argc, argv); }
+int main(int argc, char **argv) {
+  with_written = argc > 1 && strcmp(argv[1], "written") == 0 ? written : NULL;
+  return with_written ? go_through(argc - 1, argv + 1) : go_through(argc, argv);
+}
