@@ -14,7 +14,6 @@ pub mod PlainWords
 mod OnePiece
 mod WordBreaks
 mod BareParts
-mod Places
 pub mod WordLists
 pub mod LinePieces
 pub mod GatheredWords

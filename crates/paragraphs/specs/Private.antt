@@ -11,4 +11,3 @@ pub mod Entries
 pub mod MixedParts
 pub mod Printable
 pub mod Plain
-pub mod Places

@@ -14,7 +14,6 @@ mod mixed;
 mod page;
 mod part;
 mod parting;
-mod placed_parts;
 mod plain;
 mod setting;
 mod soft_hyphens;

@@ -18,8 +18,7 @@ ghost use Rattle.paragraphs.specs.Words.{words};
 
 use crate::changes::PartChanges;
 use crate::part::Part;
-use crate::parting::PlacedWord;
-use crate::placed_parts::PlacedParts;
+use crate::parting::StyledWord;
 use crate::plain::{FirstWord, next_word, split_run};
 use crate::setting::{lines, stretch, stretches};
 use crate::style::{Indent, Style};
@@ -86,8 +85,6 @@ fn push_whole<'s, 't>(
         style,
         text,
         changes: PartChanges::none(),
-        // The text is a run of words already, so its place is of no use.
-        start: Part::NOWHERE,
         indent: Indent::Other,
         hyphenated: false,
         plain: true,
@@ -121,17 +118,14 @@ fn push_broken<'s, 't, 'h, H: Hyphenator<'h>>(
         (indent_of style.now indent) word.now.text.now)) }
 {
     let before = mixed.parts.len();
-    let placed = PlacedWord {
+    let styled = StyledWord {
         style,
         indent,
         text: word.text,
-        // No slice of a text is made of it, so its place is of no use.
-        at: 0,
-        spaced: false,
         plain: word.plain,
         letters: word.letters,
     };
-    push_word(alloc, dictionary, &placed, breaks, &mut mixed.parts)?;
+    push_word(alloc, dictionary, &styled, breaks, &mut mixed.parts)?;
     let made = &mixed.parts[before..];
     let count = made.len();
     mixed.joined = joined_after(alloc, made, mixed.columns, mixed.joined)?;
@@ -302,7 +296,6 @@ pub(crate) fn full_lines(
     if !are_settled(wholes, &stretches, &row) {
         return Ok(None);
     }
-    let placed = PlacedParts { text: "", parts };
-    let lines = lines(alloc, placed, &row)?;
+    let lines = lines(alloc, parts, columns, &row)?;
     Ok(Some(lines))
 }

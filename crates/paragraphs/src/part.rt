@@ -28,8 +28,6 @@ pub struct Part<'s, 't> {
     pub text: &'t str,
     // The texts before it, after it, and between it and the next part, where letters are changed.
     pub changes: PartChanges<'t>,
-    // Where its text begins in the text of the paragraph, in bytes. Where its joint is not there, it is `NOWHERE`.
-    pub start: u32,
     // The indent of a line that begins with it.
     pub indent: Indent,
     // Whether a line that ends with it ends in a hyphen.
@@ -47,9 +45,6 @@ impl<'s, 't> Part<'s, 't> {
     ghost use Rattle.std.specs.Prelude.{◌≡◌};
     ghost use Rattle.paragraphs.specs.Private.Changes.{joint_bytes};
     ghost use Rattle.paragraphs.specs.Private.PartStyles.{indent_of};
-
-    // The place of a part that is not in the text of its paragraph with its joint.
-    pub(crate) const NOWHERE: u32 = u32::MAX;
 
     // Returns the text of its indent.
     #[inline(always)]

@@ -9,7 +9,7 @@ ghost use Rattle.std.specs.Str.{IsUtf8};
 ghost use Rattle.paragraphs.specs.Private.Plain.{is_plain, is_ascii_gap, AreLetters, EachBetween, IsPlainWord, IsRun};
 ghost use Rattle.paragraphs.specs.Private.Plain.{BeginsWith};
 ghost use Rattle.paragraphs.specs.Private.Printable.{is_printable};
-ghost use Rattle.paragraphs.specs.Words.{words, EndsIn};
+ghost use Rattle.paragraphs.specs.Words.{words};
 
 use crate::words::split_word;
 
@@ -115,11 +115,10 @@ pub(crate) struct FirstWord<'t> {
     ghost alphabetic: { letters ≡ true → AreLetters text.now },
 }
 
-// Returns the first word of a text, if it is plain. It and what is after it are the end of the text.
+// Returns the first word of a text, if it is plain.
 #[inline(always)]
 fn split_plain(text: &str) -> Option<FirstWord>
     ensures word { IfSome result (λ word. words text.now ≡ word.text.now ∷ words word.after.now) }
-    ensures end { IfSome result (λ word. EndsIn text.now (word.text.now ++ word.after.now)) }
     ensures less { IfSome result (λ word. length word.after.now < length text.now) }
 {
     let bytes = text.as_bytes();
@@ -135,12 +134,11 @@ fn split_plain(text: &str) -> Option<FirstWord>
     })
 }
 
-// Returns the first word of a text. It and what is after it are the end of the text.
+// Returns the first word of a text.
 #[inline(always)]
 pub(crate) fn next_word(text: &str) -> Option<FirstWord>
     ensures word { MatchOption result (words text.now ≡ [])
         (λ word. words text.now ≡ word.text.now ∷ words word.after.now) }
-    ensures end { IfSome result (λ word. EndsIn text.now (word.text.now ++ word.after.now)) }
     ensures less { IfSome result (λ word. length word.after.now < length text.now) }
 {
     if let Some(word) = split_plain(text) {

@@ -6,14 +6,12 @@ ghost use Rattle.std.specs.List.{list_all};
 ghost use Rattle.std.specs.String.{string_bytes};
 ghost use Rattle.paragraphs.specs.Aims.{IsAimedAt, IsSet};
 ghost use Rattle.paragraphs.specs.Private.Ends.{Rise};
-ghost use Rattle.paragraphs.specs.Private.Places.{StandsIn, IsSliceOf, IsPlaced, GrowsBy, slice_bytes};
 ghost use Rattle.paragraphs.specs.Private.PartSettings.{hyphen_if, joint_of, setting_of, settings_of, is_short_part};
 ghost use Rattle.paragraphs.specs.Private.PartSettings.{IsShort, IsBare};
 ghost use Rattle.paragraphs.specs.Settings.{columns_of, shown, stretch_of, shown_text, last_text, line_text, lines_to};
 
 use crate::length::is_short;
 use crate::part::Part;
-use crate::placed_parts::PlacedParts;
 use crate::soft_hyphens::{
     has_soft_hyphen, is_printable, push_without_soft_hyphens, without_soft_hyphens,
 };
@@ -246,22 +244,6 @@ fn bytes_of(parts: &[Part]) -> usize {
     bytes
 }
 
-// Returns about the number of bytes of a line of a text, from one part to another.
-#[inline(always)]
-fn line_bytes(parts: &[Part], start: usize, end: usize) -> usize
-    requires order { start < end }
-    requires within { end ≤ length parts.now }
-{
-    let first = &parts[start];
-    let last = &parts[end - 1];
-    if first.start <= last.start && last.start < Part::NOWHERE {
-        return ((last.start - first.start) as usize)
-            .saturating_add(last.text.len())
-            .saturating_add(8);
-    }
-    bytes_of(&parts[start..end])
-}
-
 // Appends a text. Where it is empty, which most are, there is no call.
 #[inline(always)]
 fn push_any(line: &mut String, text: &str) -> Result<(), AllocError>
@@ -314,79 +296,6 @@ fn push_joined(line: &mut String, part: &Part) -> Result<(), AllocError>
     Ok(())
 }
 
-// A slice of a text, by the places where it begins and ends.
-#[derive(Clone, Copy)]
-struct Slice {
-    start: usize,
-    end: usize,
-}
-
-// Appends a slice of a text.
-#[inline(always)]
-fn push_slice(line: &mut String, text: &str, slice: Slice) -> Result<(), AllocError>
-    requires { IsSliceOf text.now slice }
-    ensures { OnOk result (string_bytes line.new ≡ string_bytes line.old ++ slice_bytes text.now slice) }
-{
-    if slice.start < slice.end {
-        line.push_str(&text[slice.start..slice.end])?;
-    }
-    Ok(())
-}
-
-// Returns the slice of a part with its joint, if they are printable ASCII, and at their place in a text.
-#[inline(always)]
-fn slice_of(part: &Part, text: &str) -> Option<Slice>
-    ensures { IfSome result (λ slice. IsPlaced part.now slice (length text.now)) }
-{
-    if !part.plain || part.start == Part::NOWHERE {
-        return None;
-    }
-    let start = part.start as usize;
-    if text.len() < start {
-        return None;
-    }
-    let left = text.len() - start;
-    let own = part.text.len();
-    let joint = part.joint().len();
-    if left < own || left - own < joint {
-        return None;
-    }
-    Some(Slice {
-        start,
-        end: start + own + joint,
-    })
-}
-
-// Appends a part that is not the last one of its line. Parts that are side by side in a text are appended at once, as a
-// slice of it. This slice is still to be appended.
-#[inline(always)]
-fn push_part(
-    line: &mut String,
-    text: &str,
-    slice: &mut Slice,
-    part: &Part,
-) -> Result<(), AllocError>
-    requires slice { IsSliceOf text.now slice.old }
-    requires stands { StandsIn text.now part.now }
-    ensures slice { OnOk result (IsSliceOf text.now slice.new) }
-    ensures text { OnOk result (GrowsBy text.now (string_bytes line.old) slice.old (string_bytes line.new) slice.new
-        (shown_text (setting_of part.now))) }
-{
-    if let Some(here) = slice_of(part, text) {
-        if here.start == slice.end {
-            slice.end = here.end;
-            return Ok(());
-        }
-        push_slice(line, text, *slice)?;
-        *slice = here;
-        return Ok(());
-    }
-    push_slice(line, text, *slice)?;
-    *slice = Slice { start: 0, end: 0 };
-    push_joined(line, part)?;
-    Ok(())
-}
-
 // Appends the text of a part.
 #[tactic(auto, using(crate::proofs::Printable::printable_shown))]
 fn push_text(line: &mut String, part: &Part) -> Result<(), AllocError>
@@ -410,38 +319,54 @@ fn push_last(line: &mut String, part: &Part) -> Result<(), AllocError>
     Ok(())
 }
 
-// Returns the line from a start to an end.
-fn line(alloc: Global, placed: PlacedParts, start: usize, end: usize) -> Result<String, AllocError>
+// Returns about the number of bytes of a line. Most lines are full, but for the last one.
+fn line_bytes(parts: &[Part], columns: u16, start: usize, end: usize) -> usize
     requires order { start < end }
-    requires within { end ≤ length placed.parts.now }
-    ensures { IfOk result (λ line. string_bytes line ≡ line_text (settings_of placed.entry.parts.now) start end) }
+    requires within { end ≤ length parts.now }
 {
-    let PlacedParts { text, parts } = placed;
-    let mut line = opening(alloc, &parts[start], line_bytes(parts, start, end))?;
-    let mut slice = Slice { start: 0, end: 0 };
-    for part in &parts[start..end - 1] {
-        push_part(&mut line, text, &mut slice, part)?;
+    if end < parts.len() {
+        return usize::from(columns) + 8;
     }
-    push_slice(&mut line, text, slice)?;
+    bytes_of(&parts[start..end])
+}
+
+// Returns the line from a start to an end. Most have about that many columns.
+fn line(
+    alloc: Global,
+    parts: &[Part],
+    columns: u16,
+    start: usize,
+    end: usize,
+) -> Result<String, AllocError>
+    requires order { start < end }
+    requires within { end ≤ length parts.now }
+    ensures { IfOk result (λ line. string_bytes line ≡ line_text (settings_of parts.now) start end) }
+{
+    let bytes = line_bytes(parts, columns, start, end);
+    let mut line = opening(alloc, &parts[start], bytes)?;
+    for part in &parts[start..end - 1] {
+        push_joined(&mut line, part)?;
+    }
     let last = &parts[end - 1];
     push_last(&mut line, last)?;
     Ok(line)
 }
 
-// Returns the lines that end at a row of ends.
+// Returns the lines that end at a row of ends. Most have about that many columns.
 pub(crate) fn lines(
     alloc: Global,
-    placed: PlacedParts,
+    parts: &[Part],
+    columns: u16,
     ends: &[usize],
 ) -> Result<Vec<String>, AllocError>
-    requires { Rise 0 (length placed.parts.now) ends.now }
+    requires { Rise 0 (length parts.now) ends.now }
     ensures { IfOk result (λ lines.
-        map string_bytes lines.items ≡ lines_to (settings_of placed.entry.parts.now) 0 ends.now) }
+        map string_bytes lines.items ≡ lines_to (settings_of parts.now) 0 ends.now) }
 {
     let mut lines = Vec::with_capacity(alloc, ends.len())?;
     let mut start = 0;
     for end in ends {
-        lines.push(line(alloc, placed, start, *end)?)?;
+        lines.push(line(alloc, parts, columns, start, *end)?)?;
         start = *end;
     }
     Ok(lines)
@@ -469,17 +394,16 @@ fn ends(
 // Returns the lines of a paragraph that is made of these parts, which have these columns.
 pub(crate) fn set(
     alloc: Global,
-    placed: PlacedParts,
+    parts: &[Part],
     stretches: &[Stretch],
     columns: u16,
     aim: Aim,
 ) -> Result<Vec<String>, AllocError>
-    requires count { length placed.parts.now < 2 ^ 30 }
-    requires measured { stretches.now ≡ map stretch_of (settings_of placed.parts.now) }
-    ensures { IfOk result (λ lines.
-        IsSet aim (settings_of placed.entry.parts.now) columns (map string_bytes lines.items)) }
+    requires count { length parts.now < 2 ^ 30 }
+    requires measured { stretches.now ≡ map stretch_of (settings_of parts.now) }
+    ensures { IfOk result (λ lines. IsSet aim (settings_of parts.now) columns (map string_bytes lines.items)) }
 {
     let row = ends(alloc, stretches, columns, aim)?;
-    let lines = lines(alloc, placed, &row)?;
+    let lines = lines(alloc, parts, columns, &row)?;
     Ok(lines)
 }

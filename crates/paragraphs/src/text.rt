@@ -1,21 +1,19 @@
 //! The parts of a paragraph, and its lines.
 
-ghost use Rattle.std.specs.Prelude.{◌≡◌, ◌+◌, ◌-◌, ◌≤◌, ◌++◌, true, IfOk, IfErr, IfSome, OnOk, length, map};
+ghost use Rattle.std.specs.Prelude.{◌≡◌, IfOk, IfErr, IfSome, OnOk, map};
 ghost use Rattle.std.specs.String.{string_bytes};
 ghost use Rattle.paragraphs.specs.Pages.{IsFilled};
 ghost use Rattle.paragraphs.specs.Private.Open.{AddsParts};
 ghost use Rattle.paragraphs.specs.Private.PartSettings.{settings_of};
 ghost use Rattle.paragraphs.specs.Private.PartStyles.{indent_of};
-ghost use Rattle.paragraphs.specs.Private.Places.{AllStandIn, BeginsWithSpace};
 ghost use Rattle.paragraphs.specs.Settings.{IsTooLong};
 ghost use Rattle.paragraphs.specs.Styles.{style_of};
 ghost use Rattle.paragraphs.specs.Parts.{word_parts, other_parts, parts_of};
-ghost use Rattle.paragraphs.specs.Words.{words, EndsIn};
+ghost use Rattle.paragraphs.specs.Words.{words};
 
 use crate::mixed::{full_lines, mixed_of};
 use crate::part::Part;
-use crate::parting::PlacedWord;
-use crate::placed_parts::PlacedParts;
+use crate::parting::StyledWord;
 use crate::plain::{FirstWord, next_word};
 use crate::setting::{Aim, set, stretches};
 use crate::style::{Indent, Style};
@@ -23,73 +21,45 @@ use crate::word::push_word;
 use hyphenation_hyphenator::hyphenator::Hyphenator;
 use std::alloc::{AllocError, Global};
 
-// Reports whether a text begins with a space.
+// Adds the parts of a word that was found. A line that begins with it has this indent.
 #[inline(always)]
-fn begins_with_space(text: &str) -> bool
-    ensures { result ≡ true → BeginsWithSpace text.now }
-{
-    let bytes = text.as_bytes();
-    bytes.len() > 0 && bytes[0] == b' '
-}
-
-// Returns where a word begins in a text, which ends in it and what is after it.
-#[inline(always)]
-fn place_of(text: &str, word: &str, after: &str) -> usize
-    requires { EndsIn text.now (word.now ++ after.now) }
-    ensures value { result ≡ length text.now - length after.now - length word.now }
-    ensures within { result + length word.now ≤ length text.now }
-{
-    text.len() - after.len() - word.len()
-}
-
-// Adds the parts of a word of a text, which ends in it and what is after it. A line that begins with the word has this
-// indent.
-#[inline(always)]
-fn push_word_of<'s, 't, 'h, H: Hyphenator<'h>>(
+fn push_found<'s, 't, 'h, H: Hyphenator<'h>>(
     dictionary: &'h H,
     style: &'s Style<'t>,
     indent: Indent,
-    text: &'t str,
     word: &FirstWord<'t>,
     breaks: &mut Vec<H::Opportunity>,
     parts: &mut Vec<Part<'s, 't>>,
 ) -> Result<(), AllocError>
-    requires { EndsIn text.now ((word.now).text.now ++ (word.now).after.now) }
-    ensures adds { OnOk result (AddsParts parts.old.items parts.new.items (word_parts (H.breaks_of dictionary.now)
+    ensures { OnOk result (AddsParts parts.old.items parts.new.items (word_parts (H.breaks_of dictionary.now)
         (style_of style.now) (indent_of style.now indent) (word.now).text.now)) }
-    ensures places { OnOk result (AllStandIn text.now parts.old.items → AllStandIn text.now parts.new.items) }
 {
     let alloc = *parts.allocator();
-    let placed = PlacedWord {
+    let styled = StyledWord {
         style,
         indent,
         text: word.text,
-        at: place_of(text, word.text, word.after),
-        spaced: begins_with_space(word.after),
         plain: word.plain,
         letters: word.letters,
     };
-    push_word(alloc, dictionary, &placed, breaks, parts)?;
+    push_word(alloc, dictionary, &styled, breaks, parts)?;
     Ok(())
 }
 
-// Adds the parts of all words of the end of a text, none of which is the first one of its paragraph.
+// Adds the parts of all words of a text, none of which is the first one of its paragraph.
 fn push_others<'s, 't, 'h, H: Hyphenator<'h>>(
     dictionary: &'h H,
     style: &'s Style<'t>,
     text: &'t str,
-    end: &'t str,
     breaks: &mut Vec<H::Opportunity>,
     parts: &mut Vec<Part<'s, 't>>,
 ) -> Result<(), AllocError>
-    requires { EndsIn text.now end.now }
-    ensures adds { OnOk result (AddsParts parts.old.items parts.new.items
-        (other_parts (H.breaks_of dictionary.now) (style_of style.now) (words end.now))) }
-    ensures places { OnOk result (AllStandIn text.now parts.old.items → AllStandIn text.now parts.new.items) }
+    ensures { OnOk result (AddsParts parts.old.items parts.new.items
+        (other_parts (H.breaks_of dictionary.now) (style_of style.now) (words text.now))) }
 {
-    let mut rest = end;
+    let mut rest = text;
     while let Some(word) = next_word(rest) {
-        push_word_of(dictionary, style, Indent::Other, text, &word, breaks, parts)?;
+        push_found(dictionary, style, Indent::Other, &word, breaks, parts)?;
         rest = word.after;
     }
     Ok(())
@@ -102,9 +72,8 @@ fn parts_of<'s, 't, 'h, H: Hyphenator<'h>>(
     style: &'s Style<'t>,
     text: &'t str,
 ) -> Result<Vec<Part<'s, 't>>, AllocError>
-    ensures parts { IfOk result (λ parts.
+    ensures { IfOk result (λ parts.
         settings_of parts.items ≡ parts_of (H.breaks_of dictionary.now) (style_of style.now) (words text.now)) }
-    ensures places { IfOk result (λ parts. AllStandIn text.now parts.items) }
 {
     // English prose has a part for every four bytes or so.
     let mut parts = Vec::with_capacity(alloc, text.len() / 3)?;
@@ -112,23 +81,15 @@ fn parts_of<'s, 't, 'h, H: Hyphenator<'h>>(
         return Ok(parts);
     };
     let mut breaks = Vec::with_capacity(alloc, 16)?;
-    push_word_of(
+    push_found(
         dictionary,
         style,
         Indent::First,
-        text,
         &first,
         &mut breaks,
         &mut parts,
     )?;
-    push_others(
-        dictionary,
-        style,
-        text,
-        first.after,
-        &mut breaks,
-        &mut parts,
-    )?;
+    push_others(dictionary, style, first.after, &mut breaks, &mut parts)?;
     Ok(parts)
 }
 
@@ -192,11 +153,7 @@ fn fill_all<'h, H: Hyphenator<'h>>(
     let made = stretches(alloc, &parts)?;
     match made {
         Some(stretches) => {
-            let placed = PlacedParts {
-                text,
-                parts: &parts,
-            };
-            let lines = set(alloc, placed, &stretches, columns, aim)?;
+            let lines = set(alloc, &parts, &stretches, columns, aim)?;
             Ok(lines)
         }
         None => Err(FillError::TooLong),

@@ -3,14 +3,13 @@
 ghost use Rattle.std.specs.Prelude.{◌≡◌, ◌+◌, ◌-◌, ◌<◌, ◌≤◌, ◌^◌, ◌∷◌, [], None, true, OnOk, length};
 ghost use Rattle.paragraphs.specs.Private.Open.{LiesIn, Passes, AddsParts, word_of, next_then};
 ghost use Rattle.paragraphs.specs.Private.PartStyles.{indent_of};
-ghost use Rattle.paragraphs.specs.Private.Places.{IsPlace, KeepPlaces, PlacesWord};
 ghost use Rattle.paragraphs.specs.Styles.{style_of};
 ghost use Rattle.paragraphs.specs.Parts.{set_off, breaks_in, piece_breaks, word_breaks, word_parts};
 ghost use Rattle.word_pieces.specs.Pieces.{piece_indices_left, IsSlice};
 
 use crate::changes::PartChanges;
 use crate::part::Part;
-use crate::parting::{OpenPart, PlacedWord};
+use crate::parting::{OpenPart, StyledWord};
 use crate::style::Indent;
 use addresses::{is_address, laws as address_laws};
 use hyphenation_breaks::breaks::Break;
@@ -18,18 +17,6 @@ use hyphenation_hyphenator::hyphenator::Hyphenator;
 use std::alloc::{AllocError, Global};
 use std::mem;
 use word_pieces::{WordPieceIndices, laws as piece_laws};
-
-// Returns a place of a text as a part has it, or no place where it is too large.
-#[inline(always)]
-fn start_at(place: usize) -> u32
-    ensures { IsPlace result → result ≡ place }
-{
-    if place < Part::NOWHERE as usize {
-        place as u32
-    } else {
-        Part::NOWHERE
-    }
-}
 
 // Passes a break of a piece of a word. The part that is being made ends there, where some of the word is on either
 // side.
@@ -43,9 +30,8 @@ fn pass_break<'w, 's, 't, B: Break>(
     current: &mut OpenPart<'w, 's, 't>,
 ) -> Result<(), AllocError>
     requires { LiesIn (word_of current.old) offset (B.meaning b.now) }
-    ensures goes { OnOk result
+    ensures { OnOk result
         (Passes (set_off offset (B.meaning b.now) ∷ []) parts.old.items current.old parts.new.items current.new) }
-    ensures places { OnOk result (KeepPlaces current.old.word.now parts.old.items parts.new.items) }
 {
     let (left, right) = b.range().unwrap();
     let (begin, end) = (offset + left, offset + right);
@@ -58,7 +44,6 @@ fn pass_break<'w, 's, 't, B: Break>(
         style: word.style,
         text: &word.text[current.from..begin],
         changes: PartChanges::at_break(alloc, after, &word.text[begin..end], b.before())?,
-        start: start_at(word.at + current.from),
         indent: current.indent,
         hyphenated: true,
         plain: word.plain,
@@ -79,9 +64,8 @@ fn pass_piece<'w, 's, 't, 'h, H: Hyphenator<'h>>(
     current: &mut OpenPart<'w, 's, 't>,
 ) -> Result<(), AllocError>
     requires { IsSlice (word_of current.old) (piece.0, piece.1.now) }
-    ensures goes { OnOk result (Passes (breaks_in (H.breaks_of dictionary.now) (piece.entry.0, piece.entry.1.now))
+    ensures { OnOk result (Passes (breaks_in (H.breaks_of dictionary.now) (piece.entry.0, piece.entry.1.now))
         parts.old.items current.old parts.new.items current.new) }
-    ensures places { OnOk result (KeepPlaces current.old.word.now parts.old.items parts.new.items) }
 {
     dictionary.breaks_into(piece.1, breaks)?;
     for b in breaks.iter() {
@@ -106,9 +90,8 @@ fn pass_each_piece<'w, 's, 't, 'h, H: Hyphenator<'h>>(
     parts: &mut Vec<Part<'s, 't>>,
     current: &mut OpenPart<'w, 's, 't>,
 ) -> Result<(), AllocError>
-    ensures goes { OnOk result (Passes (piece_breaks (H.breaks_of dictionary.now) (word_of current.old))
+    ensures { OnOk result (Passes (piece_breaks (H.breaks_of dictionary.now) (word_of current.old))
         parts.old.items current.old parts.new.items current.new) }
-    ensures places { OnOk result (KeepPlaces current.old.word.now parts.old.items parts.new.items) }
 {
     piece_laws::pieces_are_slices();
     let mut pieces = WordPieceIndices::new(current.word.text);
@@ -128,9 +111,8 @@ fn pass_pieces<'w, 's, 't, 'h, H: Hyphenator<'h>>(
     parts: &mut Vec<Part<'s, 't>>,
     current: &mut OpenPart<'w, 's, 't>,
 ) -> Result<(), AllocError>
-    ensures goes { OnOk result (Passes (word_breaks (H.breaks_of dictionary.now) (word_of current.old))
+    ensures { OnOk result (Passes (word_breaks (H.breaks_of dictionary.now) (word_of current.old))
         parts.old.items current.old parts.new.items current.new) }
-    ensures places { OnOk result (KeepPlaces current.old.word.now parts.old.items parts.new.items) }
 {
     piece_laws::pieces_are_slices();
     piece_laws::letters_are_one_piece();
@@ -147,33 +129,17 @@ fn pass_pieces<'w, 's, 't, 'h, H: Hyphenator<'h>>(
     Ok(())
 }
 
-// Returns where the last part of a word begins, from a place of the word on. It has no place if no space is after the
-// word.
-#[inline(always)]
-fn last_start(word: &PlacedWord, from: usize) -> u32
-    requires { from ≤ length (word.now).text.now }
-    ensures spaced { IsPlace result → (word.now).spaced ≡ true }
-    ensures start { IsPlace result → result ≡ (word.now).at + from }
-{
-    if word.spaced {
-        start_at(word.at + from)
-    } else {
-        Part::NOWHERE
-    }
-}
-
 // Adds the parts of a word. `breaks` is scratch space.
 #[tactic(auto, using(crate::proofs::Printable::printable_drop))]
 pub(crate) fn push_word<'s, 't, 'h, H: Hyphenator<'h>>(
     alloc: Global,
     dictionary: &'h H,
-    word: &PlacedWord<'s, 't>,
+    word: &StyledWord<'s, 't>,
     breaks: &mut Vec<H::Opportunity>,
     parts: &mut Vec<Part<'s, 't>>,
 ) -> Result<(), AllocError>
-    ensures adds { OnOk result (AddsParts parts.old.items parts.new.items (word_parts (H.breaks_of dictionary.now)
+    ensures { OnOk result (AddsParts parts.old.items parts.new.items (word_parts (H.breaks_of dictionary.now)
         (style_of word.now.style.now) (indent_of word.now.style.now word.now.indent) word.now.text.now)) }
-    ensures places { OnOk result (PlacesWord word.now parts.old.items parts.new.items) }
 {
     let mut current = OpenPart {
         word,
@@ -187,7 +153,6 @@ pub(crate) fn push_word<'s, 't, 'h, H: Hyphenator<'h>>(
         style: word.style,
         text: &word.text[current.from..],
         changes: PartChanges::at_end(alloc, current.after)?,
-        start: last_start(word, current.from),
         indent: current.indent,
         hyphenated: false,
         plain: word.plain,

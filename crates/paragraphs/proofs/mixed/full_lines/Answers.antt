@@ -1,8 +1,6 @@
-use Rattle.std.proofs.Common.{◌≡◌, false, MatchOption, [], map, length, sym, ap, subst, ◌∙◌}
+use Rattle.std.proofs.Common.{◌≡◌, false, MatchOption, map, length, sym, ap, subst, ◌∙◌}
 use Rattle.std.specs.List.{list_all}
 use Rattle.std.specs.String.{string_bytes}
-use Rattle.std.proofs.lemmas.Str.{IsUtf8-from_ascii}
-use Rattle.std.proofs.lemmas.Str.Ascii.{IsAscii-nil}
 use Rattle.line_division.specs.Division.{Divides}
 use Rattle.line_division.specs.Greedy.{AreFurthest}
 use Rattle.paragraphs.specs.Settings.{stretch_of, lines_to}
@@ -10,12 +8,8 @@ use Rattle.paragraphs.specs.Private.Ends.{Rise}
 use Rattle.paragraphs.specs.Private.Entries.{AreSettled}
 use Rattle.paragraphs.specs.Private.PartSettings.{settings_of, is_short_part}
 use Rattle.paragraphs.proofs.FullLines.{FurthestLaw, full_set}
-use Rattle.paragraphs.proofs.Places.{none_stand}
 use Rattle.paragraphs.proofs.SetLines.{divides_rise, length-set_stretches}
 use Rattle.paragraphs.proofs.mixed.full_lines.Goals as goal
-
-pub invariant_of-placed : goal.invariant_of-placed
-invariant_of-placed c = record { utf8 = ∣ IsUtf8-from_ascii [] IsAscii-nil ∣₁; stand = none_stand c.args.parts.now }
 
 pub lines-requires : goal.lines-requires
 lines-requires c =

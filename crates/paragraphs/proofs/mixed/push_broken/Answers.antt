@@ -13,7 +13,7 @@ returns g c =
     let old = c.args.mixed.now in
     let parts = c.push_word.new.parts.items in
     let before = c.len-before.result in
-    let added : settings_of parts ≡ settings_of old.parts.items ++ made = c.in_ok-push_word.ensures.adds in
+    let added : settings_of parts ≡ settings_of old.parts.items ++ made = c.in_ok-push_word.ensures in
     let all = c.deref.result.now in
     let many : length (take (length all - before) (drop before all)) ≡ length made =
     omega (arith, length-take (length all - before) (drop before all), length-drop before all, ap length c.deref.ensures.value, ap length added, length-append (settings_of old.parts.items) made, length-map old.parts.items setting_of, length-map parts setting_of, c.len-before.ensures) in

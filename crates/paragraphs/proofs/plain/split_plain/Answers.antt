@@ -1,6 +1,4 @@
-use Rattle.std.proofs.Common.{eqb-true, arith, ◌≤◌, ◌∷◌, ◌++◌, ◌∙◌, length, take, drop, ap, sym, subst}
-use Rattle.std.proofs.lemmas.List.{take-append-drop}
-use Rattle.std.proofs.lemmas.List.Folds.{drop_split}
+use Rattle.std.proofs.Common.{eqb-true, ◌≤◌, ◌∷◌, ◌∙◌, length, drop, ap, sym, subst}
 use Rattle.paragraphs.specs.Words.{words}
 use Rattle.std.specs.Char.{is_ascii_alphabetic}
 use Rattle.std.specs.List.{list_all}
@@ -39,15 +37,3 @@ invariant_of-result c =
           subst AreLetters (sym c.range.ensures.value)
           (letters_between text start end is.after is.within (subst (EachBetween is_ascii_alphabetic text start) (sym (eqb-true end letters e)) each));
     }
-
-pub returns-clause-end : goal.returns-clause-end
-returns-clause-end c =
-    let text = c.args.text.now in
-    let start = c.past_gaps-start.result in
-    let end = c.in_ok-end.end in
-    let is = subst (λ b. IsPlainWord b start end) c.as_bytes-bytes.ensures.value c.in_ok-end.ensures in (
-      take start text,
-      sym (take-append-drop start text) ∙ ap (λ s. take start text ++ s) (drop_split text start end (omega (arith, is.after)))
-          ∙ ap (λ w. take start text ++ (w ++ drop end text)) (sym c.range.ensures.value)
-          ∙ ap (λ r. take start text ++ (c.range.result.now ++ r)) (sym c.range_from.ensures.value),
-    )

@@ -8,6 +8,6 @@ use Rattle.paragraphs.proofs.setting.lines.Given as goal
 -- The lines so far and those to come are all lines.
 abbrev pub invariant-loop-end : goal.invariant-loop-end
 invariant-loop-end l = record {
-  all : map string_bytes l.lines.items ++ lines_to (settings_of l.placed.parts.now) l.start (drop l.end-index l.ends) ≡ lines_to (settings_of l.placed.parts.now) 0 l.ends;
-  rise : Rise l.start (length l.placed.parts.now) (drop l.end-index l.ends);
+  all : map string_bytes l.lines.items ++ lines_to (settings_of l.parts) l.start (drop l.end-index l.ends) ≡ lines_to (settings_of l.parts) 0 l.ends;
+  rise : Rise l.start (length l.parts) (drop l.end-index l.ends);
 }

@@ -10,7 +10,7 @@ use Rattle.paragraphs.proofs.setting.set.Goals as goal
 
 pub lines-requires : goal.lines-requires
 lines-requires c =
-    let parts = c.args.placed.parts.now in
+    let parts = c.args.parts.now in
     let all = map stretch_of (settings_of parts) in
     let row = c.in_ok-row.row.items in
     let read = c.requires.measured in
@@ -19,7 +19,7 @@ lines-requires c =
 
 pub returns : goal.returns
 returns c =
-    let parts = c.args.placed.parts.now in
+    let parts = c.args.parts.now in
     let all = map stretch_of (settings_of parts) in
     let row = c.in_ok-row.row.items in
     let read = c.requires.measured in

@@ -17,7 +17,7 @@ returns-clause-too_long g c = λ _.
     let style = style_of c.args.style.now in
     let read = c.deref.result.now in
     let long = subst (λ m. MatchOption m (list_all is_short_part read ≡ false) (λ v. v.items ≡ map stretch_of (settings_of read))) c.in-None.is c.in_ok-made.ensures in
-    not_all_short c.in_ok-parts.parts.items (parts_of (g.H.Hyphenator.breaks_of c.args.dictionary.now) style (words c.args.text.now)) c.in_ok-parts.ensures.parts
+    not_all_short c.in_ok-parts.parts.items (parts_of (g.H.Hyphenator.breaks_of c.args.dictionary.now) style (words c.args.text.now)) c.in_ok-parts.ensures
     (ap (list_all is_short_part) (sym c.deref.ensures.value) ∙ long)
 
 pub returns-in-Some-clause-lines : goal.returns-in-Some-clause-lines
@@ -28,7 +28,7 @@ returns-in-Some-clause-lines g c =
     record {
       set =
           subst (λ parts. IsSet c.args.aim parts c.args.columns (map string_bytes c.in_ok-lines-in-Some.lines.items))
-          (ap settings_of c.deref-in-Some.ensures.value ∙ c.in_ok-parts.ensures.parts) c.in_ok-lines-in-Some.ensures;
+          (ap settings_of c.deref-in-Some.ensures.value ∙ c.in_ok-parts.ensures) c.in_ok-lines-in-Some.ensures;
       keeps = words_kept breaks_of style all;
       orderly = plain_parts_orderly breaks_of style all;
     }

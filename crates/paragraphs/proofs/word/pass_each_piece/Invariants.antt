@@ -4,7 +4,6 @@ use Rattle.hyphenation_breaks.specs.Break.{Break}
 use Rattle.word_pieces.specs.Pieces.{piece_indices_left, AreSlices}
 use Rattle.paragraphs.specs.Parts.{breaks_in, piece_breaks}
 use Rattle.paragraphs.specs.Private.Open.{settings_with, word_of}
-use Rattle.paragraphs.specs.Private.Places.{KeepPlaces}
 use Rattle.paragraphs.proofs.word.pass_each_piece.Given as goal
 
 -- The parts that are made, with those that the pieces to come give, stay the same.
@@ -16,7 +15,6 @@ invariant-loop-offset g l =
       goes : (others : List Break) → settings_with l.parts.items l.current (flat_map (breaks_in breaks_of) (piece_indices_left l.pieces) ++ others)
           ≡ settings_with l.initial.parts.items l.initial.current (piece_breaks breaks_of (word_of l.initial.current) ++ others);
       pieces : AreSlices (word_of l.current) (piece_indices_left l.pieces);
-      places : KeepPlaces l.initial.current.word.now l.initial.parts.items l.parts.items;
     }
 
 abbrev pub decreases-loop-offset : goal.decreases-loop-offset

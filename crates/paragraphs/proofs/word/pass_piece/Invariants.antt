@@ -2,7 +2,6 @@ use Rattle.std.proofs.Common.{◌≡◌, ◌++◌, List, map, drop}
 use Rattle.hyphenation_breaks.specs.Break.{Break}
 use Rattle.paragraphs.specs.Parts.{set_off}
 use Rattle.paragraphs.specs.Private.Open.{settings_with}
-use Rattle.paragraphs.specs.Private.Places.{KeepPlaces}
 use Rattle.paragraphs.proofs.word.pass_piece.Given as goal
 
 -- The parts that are made, with those that the breaks to come give, stay the same.
@@ -13,5 +12,4 @@ invariant-loop-b g l =
       word : l.current.word ≡ l.initial.current.word;
       goes : (others : List Break) → settings_with l.parts.items l.current (map (set_off l.fn.piece.0) (map meaning (drop l.b-index l.b-items)) ++ others)
           ≡ settings_with l.initial.parts.items l.initial.current (map (set_off l.fn.piece.0) (map meaning l.b-items) ++ others);
-      places : KeepPlaces l.initial.current.word.now l.initial.parts.items l.parts.items;
     }

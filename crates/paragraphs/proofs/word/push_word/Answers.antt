@@ -1,4 +1,4 @@
-use Rattle.std.proofs.Common.{ℕ, List, false, ◌++◌, ◌∷◌, [], sym, ap, subst, ◌∙◌, append-nil}
+use Rattle.std.proofs.Common.{ℕ, List, false, ◌++◌, ◌∷◌, [], ap, ◌∙◌, append-nil}
 use Rattle.std.specs.String.{string_bytes}
 use Rattle.std.proofs.lemmas.List.{map-append}
 use Rattle.std.proofs.lemmas.Str.{IsUtf8-had, IsCharBoundary-start}
@@ -9,15 +9,13 @@ use Rattle.paragraphs.specs.Parts.{word_breaks, parts_from}
 use Rattle.paragraphs.specs.Private.Changes.{joint_bytes, before_bytes}
 use Rattle.paragraphs.specs.Private.PartSettings.{setting_of, settings_of}
 use Rattle.paragraphs.specs.Private.PartStyles.{indent_of}
-use Rattle.paragraphs.specs.Private.Places.{WordStands}
-use Rattle.paragraphs.proofs.Places.{places_pushed_last}
 use Rattle.paragraphs.proofs.word.push_word.Goals as goal
 
 pub invariant_of-current : goal.invariant_of-current
 invariant_of-current g c = record { boundary = IsCharBoundary-start c.args.word.now.text.now (IsUtf8-had _ c.args.word.now.utf8) }
 
-pub returns-clause-adds : goal.returns-clause-adds
-returns-clause-adds g c =
+pub returns : goal.returns
+returns g c =
     let word = c.args.word.now in
     let style = word.style.now in
     let old = settings_of c.args.parts.now.items in
@@ -35,16 +33,7 @@ returns-clause-adds g c =
     ∙ ap (λ j. made ++ record last { joint = j; closing = before_bytes changes ++ [] } ∷ []) c.in_ok-at_end.ensures.space
     ∙ ap (λ b. made ++ record last { closing = b ++ [] } ∷ []) c.in_ok-at_end.ensures.before
     ∙ ap (λ t. made ++ record last { text = t } ∷ []) c.range_from.ensures.value
-    ∙ c.in_ok-pass_pieces.ensures.goes.goes []
+    ∙ c.in_ok-pass_pieces.ensures.goes []
     ∙ ap (from (indent ++ string_bytes c.new.result)) (append-nil breaks)
     ∙ ap (λ a. from (indent ++ a) breaks) c.new.ensures.bytes
     ∙ ap (λ o. from o breaks) (append-nil indent)
-
-pub returns-clause-places : goal.returns-clause-places
-returns-clause-places g c = λ text is all.
-    let current = c.pass_pieces.new.current in
-    let word = current.word.now in
-    let same = c.in_ok-pass_pieces.ensures.goes.word in
-    places_pushed_last word.at word.text.now current.from word.spaced c.pass_pieces.new.parts.items c.push.new.self.items _ c.in_ok-push.ensures.items
-    c.last_start.ensures.spaced c.last_start.ensures.start c.range_from.ensures.value c.in_ok-at_end.ensures.space current.boundary text
-    (subst (λ w. WordStands text w.now.at w.now.text.now w.now.spaced) (sym same) is) (c.in_ok-pass_pieces.ensures.places text is.there all)
