@@ -109,7 +109,8 @@ def may_be_named(function, file, text, at):
     if not found:
         modules = file.removeprefix("src/").removesuffix(".rt").split("/")
         return names[:-1] == [it for it in modules if it not in ("lib", "main")]
-    first = re.search(r"(?<!['\w])\w+", found[1] or found[2])[0]
+    # a check calls the type `()` Unit
+    first = (re.search(r"(?<!['\w])\w+", found[1] or found[2]) or ["unit"])[0]
     return len(names) > 1 and first[0].upper() + first[1:] in names[-2]
 
 
@@ -131,8 +132,8 @@ def messages_of(said):
     return found
 
 
-def judge(mutant, said):
-    """Reads a check for one mutant of those that its copy had."""
+def judge(mutant, said, left=()):
+    """Reads a check for one mutant of those that its copy had. It says nothing of the goals that the copy left open."""
     function = f"{mutant.crate.name}::{mutant.function}"
     line = next((it for it in said if it.startswith(f"fn {function}: ")), "")
     goals, gone = [], []
@@ -144,7 +145,7 @@ def judge(mutant, said):
             (gone if NAMES_GONE.search(answer[2]) else goals).append(f"answer {answer[2].split(':')[0].strip('`')}")
     goals += re.findall(r"`([\w+-]+)`", line.partition("did not prove ")[2].partition("; it calls")[0])
     # a goal whose answer names what is gone is open for that alone
-    goals = [it for it in goals if it not in gone and f"answer {it}" not in gone]
+    goals = [it for it in goals if it not in gone and f"answer {it}" not in gone and it.removeprefix("answer ") not in left]
     if line.endswith(": proved"):
         return Verdict("failed", "NOT REFUSED: its function is proved with it")
     if goals:
@@ -153,14 +154,41 @@ def judge(mutant, said):
         return Verdict("failed", f"NOT REFUSED for its meaning: only proofs that name what it took away: {' '.join(gone)}")
     if " it calls " in line or ", which is not proved" in line:
         return Verdict("failed", f"NOT REFUSED for its meaning: {line.partition(': ')[2]}")
+    if left and line:
+        return Verdict("failed", f"NOT REFUSED at the goal of its record that was tried: {line.partition(': ')[2]}")
     return Verdict("open", line.partition(": ")[2] or "the check says nothing of its function")
 
 
-class Copy:
-    """A crate with several mutants in it, to be read by one check."""
+def left_of(goals):
+    """The goals that a check can leave open, of those at which a mutant was refused, since one is enough: all but an answer by
+    hand, which fails at once, or but the first. The search for a proof of an open goal goes on up to its limits."""
+    words = goals.split()
+    answers = [word for before, word in zip(words, words[1:]) if before == "answer"]
+    searched = [word for word in words if word != "answer" and word not in answers]
+    return searched if answers else searched[1:]
 
-    def __init__(self, crate):
+
+def without_body(lines, span):
+    """The lines of a function, as many as there were, of which nothing is left in its body. It is compiled, and its only goal is
+    open. A function of a trait may have no body; one that returns an `impl` has its type by its body, which stays."""
+    begin, end, name = span
+    head = next(at for at in range(begin, end + 1) if re.search(rf"\bfn {name}\b", lines[at]))
+    outer = re.match(r"\s*", lines[head])[0]
+    opens = [at for at in range(head, end) if lines[at].endswith("{") and re.match(rf"{outer}\S", lines[at])]
+    if not opens or lines[end] != outer + "}" or "-> impl " in "".join(lines[head:opens[0] + 1]):
+        return lines[begin:end + 1]
+    return lines[begin:opens[0]] + [lines[opens[0]] + " unreachable!()"] + [""] * (end - opens[0] - 1) + [lines[end]]
+
+
+class Copy:
+    """A crate with several mutants in it, to be read by one check.
+
+    A function is proved against the contracts of those that it calls. So the others are not proved again: nothing is left of
+    their bodies, and their proofs are not there."""
+
+    def __init__(self, crate, known):
         self.crate, self.mutants, self.taken = crate, [], set()
+        self.left = {mutant: left_of(goals) for mutant, goals in known.items()}
 
     def takes(self, mutant):
         """Adds the mutant, unless one of its functions is turned already."""
@@ -175,11 +203,33 @@ class Copy:
         for part in ("src", "specs", "proofs"):
             if (self.crate.folder / part).is_dir():
                 shutil.copytree(self.crate.folder / part, room / part)
+        turned = {mutant.function for mutant in self.mutants}
+        for path in sorted((room / "src").rglob("*.rt")):
+            file, lines = str(path.relative_to(room)), path.read_text().split("\n")
+            for span in functions_in("\n".join(lines)):
+                if (file, span[:2]) not in self.taken:
+                    lines[span[0]:span[1] + 1] = without_body(lines, span)
+            for mutant in self.mutants:
+                for (changed, at), text in mutant.lines.items():
+                    if changed == file:
+                        lines[at] = text
+            path.write_text("\n".join(lines))
+        for name in ("Answers", "Invariants", "Proof"):
+            for path in sorted((room / "proofs").rglob(f"{name}.antt")):
+                if "::".join(path.parent.relative_to(room / "proofs").parts) not in turned:
+                    path.unlink()
         for mutant in self.mutants:
-            for (file, at), text in mutant.lines.items():
-                lines = (room / file).read_text().split("\n")
-                lines[at] = text
-                (room / file).write_text("\n".join(lines))
+            self.leave(mutant, room / "proofs" / mutant.function.replace("::", "/") / "Answers.antt")
+
+    def leave(self, mutant, answers):
+        """Writes a hole as the answer to each goal that is left open."""
+        goals = self.left.get(mutant)
+        if goals:
+            answers.parent.mkdir(parents=True, exist_ok=True)
+            module = f"Rattle.{self.crate.name}.proofs.{mutant.function.replace('::', '.')}.Goals"
+            text = answers.read_text() if answers.exists() else ""
+            head = "" if f"use {module} as goal" in text else f"use {module} as goal\n"
+            answers.write_text(head + text + "".join(f"\npub {goal} : goal.{goal}\n{goal} = ?\n" for goal in goals))
 
 
 def linked(folder, to):
@@ -193,10 +243,10 @@ def linked(folder, to):
 
 
 class Trial:
-    """The trial of a crate's mutants, in as few checks as it takes."""
+    """The trial of a crate's mutants, in as few checks as it takes. `known` has the goals at which some were refused before."""
 
-    def __init__(self, crate, mutants, crates, kit):
-        self.crate, self.mutants, self.crates, self.kit = crate, mutants, crates, kit
+    def __init__(self, crate, mutants, crates, kit, known):
+        self.crate, self.mutants, self.crates, self.kit, self.known = crate, mutants, crates, kit, known
         self.verdicts, self.checks = {}, 0
 
     def run(self):
@@ -225,7 +275,7 @@ class Trial:
         copies = []
         for mutant in rest:
             if not any(copy.takes(mutant) for copy in copies):
-                copies.append(Copy(self.crate))
+                copies.append(Copy(self.crate, self.known))
                 copies[-1].takes(mutant)
         for copy in copies:
             self.try_copy(copy)
@@ -236,10 +286,12 @@ class Trial:
         is_read = any(re.match(r"only=\d+ proved=\d+", line) for line in said)
         undecided = []
         for mutant in copy.mutants:
-            verdict = judge(mutant, said) if is_read else Verdict("open", self.unread(said))
+            verdict = judge(mutant, said, copy.left.get(mutant, ())) if is_read else Verdict("open", self.unread(said))
             alone = len(copy.mutants) == 1
             if verdict.kind == "refused" or alone:
-                if verdict.kind == "open":
+                if verdict.kind == "refused" and mutant in self.known:
+                    verdict = Verdict("refused", self.known[mutant])
+                elif verdict.kind == "open":
                     verdict = Verdict("failed", f"BAD: {verdict.text}")
                 self.verdicts[mutant] = verdict
             else:
