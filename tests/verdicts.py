@@ -176,6 +176,11 @@ def left_of(goals):
     return searched if answers else searched[1:]
 
 
+def is_constant(lines, span):
+    """Whether a function can be called where constants are made. It can call no function of C."""
+    return any(re.search(rf"\bconst\b.*\bfn {span[2]}\b", line) for line in lines[span[0]:span[1] + 1])
+
+
 def without_body(lines, span):
     """The lines of a function, as many as there were, of which nothing is left in its body, so that it is proved at once. A
     function of a trait may have no body; one that returns an `impl` has its type by its body, which stays."""
@@ -212,11 +217,13 @@ class Copy:
         for part in ("src", "specs", "proofs"):
             if (self.crate.folder / part).is_dir():
                 shutil.copytree(self.crate.folder / part, room / part)
-        turned = {mutant.function for mutant in self.mutants}
+        turned, whole = {mutant.function for mutant in self.mutants}, set()
         for path in sorted((room / "src").rglob("*.rt")):
             file, lines = str(path.relative_to(room)), path.read_text().split("\n")
             for span in functions_in("\n".join(lines)):
-                if (file, span[:2]) not in self.taken:
+                if is_constant(lines, span):
+                    whole.add(span[2])
+                elif (file, span[:2]) not in self.taken:
                     lines[span[0]:span[1] + 1] = without_body(lines, span)
             for mutant in self.mutants:
                 for (changed, at), text in mutant.lines.items():
@@ -225,9 +232,10 @@ class Copy:
             path.write_text("\n".join(lines))
         (room / "src/no_body.rt").write_text(NO_BODY)
         (room / self.crate.top).write_text((room / self.crate.top).read_text() + "\nmod no_body;\n")
-        for name in ("Answers", "Invariants", "Proof"):
-            for path in sorted((room / "proofs").rglob(f"{name}.antt")):
-                if "::".join(path.parent.relative_to(room / "proofs").parts) not in turned:
+        for kind in ("Answers", "Invariants", "Proof"):
+            for path in sorted((room / "proofs").rglob(f"{kind}.antt")):
+                name = "::".join(path.parent.relative_to(room / "proofs").parts)
+                if name not in turned and path.parent.name not in whole:
                     path.unlink()
         for mutant in self.mutants:
             self.leave(mutant, room / "proofs" / mutant.function.replace("::", "/") / "Answers.antt")
