@@ -1,15 +1,15 @@
 /* The answers of a library that has the calls of libhyphen, as lines of text, which tests/compare-libhyphen compares.
  *
- *   drop_in LIBRARY [strict] [flush] [tables]
+ *   drop_in LIBRARY [strict] [flush]
  *
  * A line of standard input is a .dic, a file of words, and minima such as 2,3,2,3, with tabs between them. A line of the
  * file is a word in the charset of the .dic, and behind a tab what is behind it. For each .dic a line is written with
  * what the library says of the file, and then a line for each word: the answers of hnj_hyphen_hyphenate2, of
  * hnj_hyphen_hyphenate3 with each of the minima, and of hnj_hyphen_hyphenate. With `strict` a word ends with " over" if a
  * buffer was written to behind the end that hyphen.h names, or no NUL is behind the digits. (Libhyphen may write a digit
- * there, where a text of NOHYPHEN is behind the word.) With `flush` each line is out before the next word is asked
- * for, which a library may not survive. With `tables` each .dic is asked for a word so often before that this library makes
- * its tables. */
+ * there, where a text of NOHYPHEN is behind the word.) It does so, too, if the first call gives other digits where it is
+ * not asked for the written word. With `flush` each line is out before the next word is asked for, which a library may not
+ * survive. */
 #define _GNU_SOURCE
 #include "../bindings/c/hyphen.h"
 #include <dlfcn.h>
@@ -18,7 +18,7 @@
 #include <stdlib.h>
 #include <string.h>
 
-enum { MINIMA = 8, BEHIND = 64, FILL = 0x5a, WORDS_BEFORE_TABLES = 8192 };
+enum { MINIMA = 8, BEHIND = 64, FILL = 0x5a };
 
 /* The calls of the library. */
 static struct {
@@ -32,7 +32,7 @@ static struct {
 /* The buffers that the library writes to. Libhyphen itself may write more than twice the word. */
 static char *digits, *marked;
 static size_t room;
-static bool strict, flushing, with_tables;
+static bool strict, flushing;
 
 static void *call(void *library, const char *name) {
   void *found = dlsym(library, name);
@@ -112,9 +112,28 @@ static bool answer(HyphenDict *dict, const char *word, size_t size, const int *m
   return !strict || (ended && is_filled(digits + size + 5) && is_filled(marked + written));
 }
 
+/* Whether hnj_hyphen_hyphenate2 gives the digits that are there once more, where the written word is not asked for. */
+static bool is_same_alone(HyphenDict *dict, const char *word, size_t size) {
+  char **rep = NULL;
+  int *pos = NULL, *cut = NULL;
+  size_t count = digits_of(dict, word, size);
+  char *before = malloc(count + 1);
+  if (!before) exit(2);
+  memcpy(before, digits, count);
+  bool same = calls.hyphenate2(dict, word, (int)size, digits, NULL, &rep, &pos, &cut) != 0 ||
+              memcmp(before, digits, count) == 0;
+  for (size_t i = 0; rep && i < size; i++) free(rep[i]);
+  free(rep);
+  free(pos);
+  free(cut);
+  free(before);
+  return same;
+}
+
 static void answers(HyphenDict *dict, const char *word, size_t size, int (*minima)[4], size_t count) {
   make_room(size);
   bool kept = answer(dict, word, size, NULL);
+  if (strict) kept = is_same_alone(dict, word, size) && kept;
   for (size_t n = 0; n < count; n++) {
     putchar(' ');
     kept = answer(dict, word, size, minima[n]) && kept;
@@ -124,13 +143,6 @@ static void answers(HyphenDict *dict, const char *word, size_t size, int (*minim
   put_digits(size);
   puts(kept && !digits[size] && is_filled(digits + size + 5) ? "" : strict ? " over" : "");
   if (flushing) fflush(stdout);
-}
-
-/* Asks for a word without changes, so often that this library makes its tables. */
-static void make_tables(HyphenDict *dict) {
-  char **rep = NULL;
-  int *pos = NULL, *cut = NULL;
-  for (int n = 0; n < WORDS_BEFORE_TABLES; n++) calls.hyphenate2(dict, "~", 1, digits, marked, &rep, &pos, &cut);
 }
 
 static void go(const char *dic, FILE *words, int (*minima)[4], size_t count) {
@@ -143,7 +155,6 @@ static void go(const char *dic, FILE *words, int (*minima)[4], size_t count) {
   put_hex(dict->cset);
   printf(" %d %d %d %d %d\n", dict->utf8 != 0, dict->lhmin, dict->rhmin, dict->clhmin, dict->crhmin);
   if (flushing) fflush(stdout);
-  if (with_tables) make_tables(dict);
   char *line = NULL;
   size_t size = 0;
   for (ssize_t length; (length = getline(&line, &size, words)) >= 0;) {
@@ -164,7 +175,7 @@ int main(int argc, char **argv) {
     fprintf(stderr, "%s\n", dlerror());
     return 2;
   }
-  for (int i = 2; i < argc; i++) *(argv[i][0] == 's' ? &strict : argv[i][0] == 't' ? &with_tables : &flushing) = true;
+  for (int i = 2; i < argc; i++) *(argv[i][0] == 's' ? &strict : &flushing) = true;
   *(void **)&calls.load = call(library, "hnj_hyphen_load");
   *(void **)&calls.free = call(library, "hnj_hyphen_free");
   *(void **)&calls.hyphenate = call(library, "hnj_hyphen_hyphenate");

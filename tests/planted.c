@@ -35,7 +35,7 @@ hyphenation_status __wrap_hyphenation_text(const hyphenation *h, const uint8_t *
   return status;
 }
 #elif PLANTED == 5
-/* A break of a short word is left out by the dictionary that has a table or was read again: every second call. */
+/* A break of a short word is left out by the dictionary that was read again: every second call. */
 hyphenation_status __real_hyphenation_scores(const hyphenation *, const uint8_t *, size_t, hyphenation_numbered *, size_t,
                                              size_t *, uint8_t *, size_t, size_t *);
 hyphenation_status __wrap_hyphenation_scores(const hyphenation *h, const uint8_t *word, size_t length,

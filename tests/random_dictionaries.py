@@ -3,8 +3,8 @@
 Usage: random_dictionaries.py HYPHENATE EXPLAIN FOLDER. The last line is `N passed, M failed`.
 
 For each dictionary, of either kind and version, hyphenate-explain writes the values, the listed breaks and the breaks of some
-words. Then hyphenate breaks a text by the dictionary after some edits of its exceptions. Half of the texts are so long
-that it makes a table of the dictionary. Each word of both is compared. The last checks are that there were enough of each sort.
+words. Then hyphenate breaks a text by the dictionary after some edits of its exceptions. A third of the dictionaries have a
+pattern by which they can have no table. Each word of both is compared. The last checks are that there were enough of each sort.
 """
 
 import collections
@@ -19,6 +19,8 @@ DICTIONARIES = 4000
 # Few letters, so that keys occur. Their capitals take as many bytes, fewer and more.
 LETTERS = "abißéⱥ"
 CAPITALS = {small: capital for capital, small in FOLDED.items()}
+# A value that is that many bytes before the end of its key, or fewer, has a place in a table of steps.
+NEAR = 15
 # The least number of what is counted.
 LEAST = {
     "words of texts": 20_000,
@@ -42,18 +44,21 @@ LEAST = {
 
 
 class Small(Dictionary):
-    """A dictionary of so many patterns at most, and fewer than four exceptions."""
+    """A dictionary of few patterns and exceptions. One that is not near has a value far before the end of its key."""
 
-    def __init__(self, random_of, most):
+    def __init__(self, random_of, is_near):
         self.kind = random_of.choice(["standard", "extended"])
         self.minima = (random_of.randint(0, 2), random_of.randint(0, 2))
         self.patterns, self.exceptions, self.added = {}, {}, set()
         greatest = random_of.choice([9, 9, 9, 255])
-        for _ in range(random_of.randint(0, most)):
+        for _ in range(random_of.randint(0, 12)):
             key = random_text(random_of, LETTERS + "aabb.", 1, 4)
             if key.strip("."):
                 self.patterns[key.encode()] = [
                     (place, random_of.randint(1, greatest), change) for place, change in self.listed(random_of, key)]
+        if not is_near:
+            key = word_of_bytes(random_of, random_of.randint(NEAR + 1, 20)).lower().encode()
+            self.patterns[key] = [(0, random_of.randint(1, greatest), None)]
         for _ in range(random_of.randint(0, 3)):
             word = random_text(random_of, LETTERS + "aa", 0, 5)
             self.exceptions[word] = self.listed(random_of, word)
@@ -62,6 +67,11 @@ class Small(Dictionary):
     def greatest(self):
         """The greatest value, or 0."""
         return max((value for entries in self.patterns.values() for _, value, _ in entries), default=0)
+
+    def has_table(self):
+        """Whether it has a table of steps: each value is near the end of its key, and no rank is above 255."""
+        far = any(len(key) - place > NEAR for key, entries in self.patterns.items() for place, _, _ in entries)
+        return not far and (self.kind == "standard" or self.greatest() <= 127)
 
     def listed(self, random_of, text):
         """Ascending places of a text, each with a change or none."""
@@ -75,10 +85,6 @@ class Small(Dictionary):
         begin, end = random_of.choice(places[max(at - 1, 0):at + 1]), random_of.choice(places[at:at + 2])
         substitution = random_of.choice(["", "x", "xy", "é,"])
         return (place - begin, end - place, random_of.choice([0, size(substitution)]), substitution)
-
-    def nodes(self):
-        """How many nodes the trie of the keys has: the root, and one for each beginning of a key."""
-        return 1 + len({key[:end] for key in self.patterns for end in range(1, len(key) + 1)})
 
     def edit(self, random_of, word, count):
         """Adds a word to the exceptions, or removes it or a word that is listed, and returns the edit."""
@@ -149,14 +155,6 @@ def edits_and_words(random_of, dictionary, number, count):
     return edits, [word for word in words if is_one_piece(word)]
 
 
-def in_one_text(words, least, is_long):
-    """Words with spaces between them: those that take fewer bytes than this, or all as often as it takes."""
-    text = " ".join(words)
-    if is_long and text:
-        return " ".join([text] * (1 + least // (size(text) + 1)))
-    return text.encode()[:least].rpartition(b" ")[0].decode() if size(text) >= least else text
-
-
 def main():
     hyphenate, explain, folder = sys.argv[1], sys.argv[2], pathlib.Path(sys.argv[3])
     passed = failed = 0
@@ -176,8 +174,7 @@ def main():
     path = folder / "small.txt"
     for number in range(DICTIONARIES):
         random_of = random.Random(f"small {number}")
-        # no table is made for a text of long words where the patterns have many nodes
-        dictionary = Small(random_of, 16 if number % 8 == 0 else 8)
+        dictionary = Small(random_of, number % 3 > 0)
         path.write_text(dictionary.text())
         count[f"dictionaries of version {dictionary.version}"] += 1
 
@@ -190,9 +187,8 @@ def main():
         count["words whose value is above 127"] += sum(any(value > 127 for value, _ in facts.scores) for facts in all_facts)
 
         edits, words = edits_and_words(random_of, dictionary, number, count)
-        least = 4 * dictionary.nodes()
-        text = in_one_text(words, least, number % 2)
-        has_table = size(text) >= least and (dictionary.kind == "standard" or dictionary.greatest() <= 127)
+        text = " ".join(words)
+        has_table = dictionary.has_table()
         count["dictionaries with a table" if has_table else "dictionaries without a table"] += 1
         marked = run(number, text, hyphenate, dictionary.kind, "x", path, "-", *edits).split(" ")
         facts_of = {word: Facts(dictionary, word) for word in {*text.split(" ")}}

@@ -3,8 +3,9 @@
 A line has a checksum, the mutant, its function and the goals. The checksum is of all that decides the verdict:
 
 - the edit, without its lines for readers;
-- the source, specs and proofs of its crate;
-- the *statements* of the crates below: their contracts, specs and declared types (`stated` of `tools/sources.py`);
+- the function that it turns with its proofs, and the parts of its crate and of the crates below to which their names lead
+  (`parts.py`);
+- the crates that its crate uses;
 - the code of `verdicts.py`, and of the module that lays out the words of a check;
 - the logic of the toolchain, as `rt version` prints it.
 
@@ -12,19 +13,13 @@ Comments outside of contracts, and the layout of code, do not count. So a record
 changes. `tests/mutants` tries some of the recorded mutants anew, so that a wrong record is found.
 """
 import ast
-import hashlib
 import pathlib
 import re
 
-import sources
+from parts import Parts, sum_of
 
 HERE = pathlib.Path(__file__).resolve().parent
 LINE = re.compile(r"([0-9a-f]{32}) (\S+): (\S+): (.*)")
-
-
-def sum_of(*parts):
-    """The checksum of texts and numbers."""
-    return hashlib.blake2b(repr(parts).encode(), digest_size=16).hexdigest()
 
 
 def code_of(path, names=()):
@@ -43,31 +38,21 @@ class Records:
     """The records of all crates, and the checksums that they must have."""
 
     def __init__(self, crates, kit):
-        self.crates, self.stated = crates, {}
+        self.parts, self.sums, self.lines = Parts(crates), {}, {}
         version = (kit / "KIT-ID").read_text().split()
         logic = version[version.index("logic") + 1]
         self.tools = sum_of(logic, code_of(HERE / "verdicts.py"), code_of(HERE.parent / "tools/crates.py", ("words", "below")))
-        self.sums, self.lines = {}, {}
 
     def file_of(self, crate):
         return crate.folder / "mutants.tried"
 
-    def statements_of(self, name):
-        """The checksum of the parts of a crate that crates above read."""
-        if name not in self.stated:
-            self.stated[name] = sum_of(sources.stated(self.crates[name].folder))
-        return self.stated[name]
-
-    def sum_of_crate(self, crate):
-        """The checksum of all but the edit that decides the verdict on a mutant of a crate."""
-        if crate not in self.sums:
-            below = [(name, self.statements_of(name)) for name in sorted(crate.below(self.crates))]
-            self.sums[crate] = sum_of(self.tools, crate.name, crate.is_static, crate.uses, sources.plain_files(crate.folder), below)
-        return self.sums[crate]
-
     def sum_of_mutant(self, mutant):
         """The checksum of all that decides the verdict on a mutant."""
-        return sum_of(self.sum_of_crate(mutant.crate), mutant.name, mutant.function, mutant.edit)
+        if mutant not in self.sums:
+            crate = mutant.crate
+            self.sums[mutant] = sum_of(self.tools, crate.name, crate.is_static, crate.uses, mutant.name, mutant.function, mutant.edit,
+                                       self.parts.sum_of(mutant))
+        return self.sums[mutant]
 
     def lines_of(self, crate):
         """The records of a crate: for each mutant its checksum, its function and the goals."""

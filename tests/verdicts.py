@@ -234,18 +234,23 @@ class Copy:
         (room / self.crate.top).write_text((room / self.crate.top).read_text() + "\nmod no_body;\n")
         for kind in ("Answers", "Invariants", "Proof"):
             for path in sorted((room / "proofs").rglob(f"{kind}.antt")):
-                name = "::".join(path.parent.relative_to(room / "proofs").parts)
+                # a plus is before the name of a cycle of calls
+                name = "::".join(part.lstrip("+") for part in path.parent.relative_to(room / "proofs").parts)
                 if name not in turned and path.parent.name not in whole:
                     path.unlink()
         for mutant in self.mutants:
-            self.leave(mutant, room / "proofs" / mutant.function.replace("::", "/") / "Answers.antt")
+            self.leave(mutant, room / "proofs")
 
-    def leave(self, mutant, answers):
+    def leave(self, mutant, proofs):
         """Writes a hole as the answer to each goal that is left open."""
         goals = self.left.get(mutant)
         if goals:
-            answers.parent.mkdir(parents=True, exist_ok=True)
-            module = f"Rattle.{self.crate.name}.proofs.{mutant.function.replace('::', '.')}.Goals"
+            *modules, name = mutant.function.split("::")
+            folder = proofs.joinpath(*modules, f"+{name}")
+            folder = folder if folder.is_dir() else proofs.joinpath(*modules, name)
+            folder.mkdir(parents=True, exist_ok=True)
+            answers = folder / "Answers.antt"
+            module = f"Rattle.{self.crate.name}.proofs.{'.'.join(folder.relative_to(proofs).parts)}.Goals"
             text = answers.read_text() if answers.exists() else ""
             head = "" if f"use {module} as goal" in text else f"use {module} as goal\n"
             answers.write_text(head + text + "".join(f"\npub {goal} : goal.{goal}\n{goal} = ?\n" for goal in goals))

@@ -1,9 +1,8 @@
-/* This library, as C calls it. With `table` as the first argument it makes a table of steps of the dictionary first. */
+/* This library, as C calls it. */
 #include "hyphenation.h"
 #include "peer.h"
 
 static hyphenation handle = HYPHENATION_NONE;
-static bool with_table;
 
 static void load(const char *path) {
   size_t length, line;
@@ -13,7 +12,6 @@ static void load(const char *path) {
   if (hyphenation_load(hyphenation_kind_of(bytes, length), bytes, length, &handle, &line, &cause) != HYPHENATION_DONE)
     die("the dictionary was not loaded");
   free(text);
-  if (with_table && hyphenation_make_table(&handle) != HYPHENATION_DONE) die("no table was made");
 }
 
 static size_t breaks_of_word(const char *word, size_t length) {
@@ -31,7 +29,4 @@ static size_t breaks_of_text(const char *text, size_t length, char *marked) {
   return count - length;
 }
 
-int main(int argc, char **argv) {
-  with_table = argc > 1 && strcmp(argv[1], "table") == 0;
-  return with_table ? go_through(argc - 1, argv + 1) : go_through(argc, argv);
-}
+int main(int argc, char **argv) { return go_through(argc, argv); }

@@ -15,12 +15,8 @@ struct own {
   hyphenation text;
   size_t left, right; /* the minima of the text */
   bool is_text;
-  unsigned words; /* the words that the .dic was asked for, up to those before its tables */
   pthread_mutex_t lock;
 };
-
-/* The words before the tables of a .dic are made. A process with few words does without them. */
-enum { WORDS_BEFORE_TABLES = 8192 };
 
 /* Each call of malloc in this library, also those of the proved calls: the Makefile links it so. The tables of a large .dic
  * are read at places all over, and in small pages the processor has to look for the addresses of most. So a large block
@@ -131,7 +127,8 @@ static bool put(const struct lists *to, size_t character, size_t pos, size_t cut
   return true;
 }
 
-/* Hyphenates by a .dic. A word with many changes is asked for twice, the second time with room for all of them. */
+/* Hyphenates by a .dic. A word with many changes is asked for twice, the second time with room for all of them. A
+ * written word that is too long is empty. */
 static bool by_levels(struct own *own, bool given, const hyphenation_levels_minima *minima, const char *word,
                       size_t size, char *hyphens, char *hyphenated_word, const struct lists *to) {
   enum { CHANGES = 8, TEXTS = 128 };
@@ -139,16 +136,19 @@ static bool by_levels(struct own *own, bool given, const hyphenation_levels_mini
   uint8_t short_texts[TEXTS], *texts = short_texts;
   const uint8_t *text = (const uint8_t *)word;
   size_t length = word[size] ? size + strlen(word + size) : size, changes_room = CHANGES, texts_room = TEXTS;
-  size_t count, changes_count, texts_count, written;
+  size_t count, changes_count, texts_count, written, written_room = size > 0 ? 2 * size - 1 : 0;
   uint32_t status;
+  hyphenation_status told = HYPHENATION_DONE;
   bool made;
   for (;;) {
     pthread_mutex_lock(&own->lock);
-    /* Where memory is short, words go on without the tables. */
-    if (own->words < WORDS_BEFORE_TABLES && ++own->words == WORDS_BEFORE_TABLES)
-      hyphenation_levels_make_tables(&own->levels);
-    status = hyphenation_levels_word(&own->levels, given, minima, text, length, size, (uint8_t *)hyphens, size, &count,
-                                     changes, changes_room, &changes_count, texts, texts_room, &texts_count, &made);
+    if (hyphenated_word)
+      status = hyphenation_levels_both(&own->levels, given, minima, text, length, size, (uint8_t *)hyphens, size, &count,
+                                       changes, changes_room, &changes_count, texts, texts_room, &texts_count, &made,
+                                       (uint8_t *)hyphenated_word, written_room, &written, &told);
+    else
+      status = hyphenation_levels_word(&own->levels, given, minima, text, length, size, (uint8_t *)hyphens, size, &count,
+                                       changes, changes_room, &changes_count, texts, texts_room, &texts_count, &made);
     pthread_mutex_unlock(&own->lock);
     if (status != HYPHENATION_NO_ROOM || changes != few) break;
     changes = malloc((changes_room = changes_count + 1) * sizeof *changes);
@@ -167,13 +167,8 @@ static bool by_levels(struct own *own, bool given, const hyphenation_levels_mini
     free(changes);
     free(texts);
   }
-  if (!done || !hyphenated_word) return done;
-  pthread_mutex_lock(&own->lock);
-  status = hyphenation_levels_text(&own->levels, given, minima, text, length, size, (uint8_t *)hyphenated_word,
-                                   size > 0 ? 2 * size - 1 : 0, &written);
-  pthread_mutex_unlock(&own->lock);
-  hyphenated_word[status == HYPHENATION_DONE ? written : 0] = 0;
-  return status == HYPHENATION_DONE || status == HYPHENATION_NO_ROOM;
+  if (done && hyphenated_word) hyphenated_word[told == HYPHENATION_DONE ? written : 0] = 0;
+  return done && (told == HYPHENATION_DONE || told == HYPHENATION_NO_ROOM);
 }
 
 /* How many characters some bytes of UTF-8 begin. */

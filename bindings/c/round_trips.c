@@ -1,6 +1,7 @@
 /* A target of libFuzzer: the bytes choose a dictionary, words and a text of few letters, and what is done can be undone.
  *
- * - A dictionary that is written as its text and loaded again writes the same text, and finds the same in each word.
+ * - A dictionary that is written as its text and loaded again writes the same text, and finds the same in each word. So does
+ *   one with a further pattern, by which no table is made.
  * - An exception that is added has the breaks that it was given, and its removal gives the text from before. An exception
  *   that is removed and added as it was listed does so, too.
  * - The segments of a word of a standard dictionary, joined, are the word, and a text without its marks is the text.
@@ -304,7 +305,11 @@ int LLVMFuzzerTestOneInput(const uint8_t *data, size_t size) {
   write_text(&o, &again);
   NEED(same(&first, &again));
   done[WRITTEN].number++;
-  if (next(2)) NEED(hyphenation_make_table(&o) == HYPHENATION_DONE);
+  if (next(2)) {
+    /* A pattern that no word has, whose value is so far before the end of its key that no table is made. */
+    put_text(&again, "p 1zzzzzzzzzzzzzzzz\n");
+    NEED(hyphenation_load(extended, again.bytes, again.length, &o, &at_line, &cause) == HYPHENATION_DONE);
+  }
   for (int n = 0; n < 4; n++) {
     static answer here, there;
     word w = some_word(15);

@@ -71,10 +71,6 @@ int main(void) {
   check(dict, "cdabcdcd", "00300000", "cda=bcdcd");
   assert(hnj_hyphen_hyphenate3(dict, "cdcdabcdcd", 10, found, NULL, &rep, &pos, &cut, 2, 2, 2, 2) == 0);
   assert(strcmp(found, "0010300000") == 0 && !rep);
-  /* The tables are made at the 8,192nd word, and no answer changes. */
-  for (int i = 0; i < 8200; i++) check(dict, "cdabcdcd", "00300000", "cda=bcdcd");
-  assert(hnj_hyphen_hyphenate3(dict, "cdcdabcdcd", 10, found, NULL, &rep, &pos, &cut, 2, 2, 2, 2) == 0);
-  assert(strcmp(found, "0010300000") == 0 && !rep);
   hnj_hyphen_free(dict);
 
   /* More changes than the first call has room for. */

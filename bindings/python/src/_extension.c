@@ -18,7 +18,7 @@
 #endif
 
 #define CALLS(EACH)                                                                                                        \
-  EACH(kind_of) EACH(load) EACH(load_dic) EACH(load_patterns) EACH(free) EACH(share) EACH(make_table) EACH(edit)           \
+  EACH(kind_of) EACH(load) EACH(load_dic) EACH(load_patterns) EACH(free) EACH(share) EACH(edit)                            \
   EACH(language) EACH(minima) EACH(breaks) EACH(breaks_of_words) EACH(values) EACH(changes) EACH(exception) EACH(text)     \
   EACH(fill) EACH(write) EACH(paths) EACH(cause_message)
 static struct {
@@ -531,8 +531,6 @@ static PyObject *close_handle(PyObject *self, PyObject *Py_UNUSED(none)) {
   Py_RETURN_NONE;
 }
 
-static PyObject *make_table(PyObject *self, PyObject *Py_UNUSED(none)) { return none_or_fail(calls.make_table(OF(self))); }
-
 static PyObject *edit(PyObject *self, PyObject *arguments) {
   const uint8_t *content;
   Py_ssize_t length;
@@ -580,7 +578,6 @@ static PyMethodDef methods[] = {
     {"load_patterns", load_patterns, METH_VARARGS, NULL},
     {"share", share, METH_NOARGS, NULL},
     {"close", close_handle, METH_NOARGS, NULL},
-    {"make_table", make_table, METH_NOARGS, NULL},
     {"edit", edit, METH_VARARGS, NULL},
     {"language", language, METH_NOARGS, NULL},
     {"minima", minima, METH_NOARGS, NULL},

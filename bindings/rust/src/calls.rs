@@ -123,7 +123,6 @@ extern "C" {
     fn hyphenation_load_patterns(files: *const RawPatterns, handle: *mut Raw, fault: *mut RawFault) -> u32;
     fn hyphenation_free(handle: *mut Raw);
     fn hyphenation_share(handle: *mut Raw, other: *mut Raw) -> u32;
-    fn hyphenation_make_table(handle: *mut Raw) -> u32;
     fn hyphenation_edit(handle: *mut Raw, edit: *const u8, length: usize) -> u32;
     fn hyphenation_language(handle: *mut Raw, code: *mut u8, capacity: usize, count: *mut usize) -> u32;
     fn hyphenation_minima(handle: *mut Raw, left: *mut usize, right: *mut usize) -> u32;
@@ -441,12 +440,6 @@ impl Raw {
         // SAFETY: both handles are as the last call left them, and are lent only to this call.
         let status = unsafe { hyphenation_share(self, &mut other) };
         checked(status, RawFault::default()).map(|()| other)
-    }
-
-    /// Makes the table by which the dictionary breaks words faster, if it can have one.
-    pub fn make_table(&mut self) -> Result<(), Failure> {
-        // SAFETY: the handle is as the last call left it, and is lent only to this call.
-        checked(unsafe { hyphenation_make_table(self) }, RawFault::default())
     }
 
     /// Edits the exceptions.

@@ -170,15 +170,11 @@ impl<E: Listed> Inner<E> {
         let before = self.listed(word)?;
         self.edit(&format!("-{}", escaped(word))).then_some(before)
     }
-
-    pub(crate) fn make_table(&mut self) {
-        done(self.shared.change(Raw::make_table))
-    }
 }
 
-/// The methods of both kinds: of the type, the number of its kind, and a word for what `make_table` takes.
+/// The methods of both kinds: of the type, and the number of its kind.
 macro_rules! dictionary {
-    ($name:ident, $kind:expr, $table:literal) => {
+    ($name:ident, $kind:expr) => {
         impl $name {
             /// Makes a dictionary of a `.dic` of LibreOffice, with these minima, or else those of the file, or 2.
             ///
@@ -226,19 +222,6 @@ macro_rules! dictionary {
             /// The language whose words it breaks.
             pub fn language(&self) -> $crate::Language {
                 self.0.language()
-            }
-
-            /// Makes a table by which words are broken faster, if the dictionary can have one.
-            ///
-            #[doc = $table]
-            /// So it is for a dictionary that is asked for thousands of words. Call it before the dictionary is cloned:
-            /// clones that are there stay without a table, and the dictionary is copied for it.
-            ///
-            /// # Panics
-            ///
-            /// Where memory is refused.
-            pub fn make_table(&mut self) {
-                self.0.make_table()
             }
 
             /// The places of the breaks of each of the words, in one call, without the changes that breaks may make.

@@ -21,12 +21,7 @@ pub struct Subregion {
 /// A dictionary whose breaks may change the letters around them.
 pub struct Extended(Inner<(usize, Option<Subregion>)>);
 
-dictionary!(
-    Extended,
-    EXTENDED,
-    "Words whose breaks may change letters take longer, and words of more than 62 bytes as long as before. It takes memory
-and time: 14 MB in Hungarian."
-);
+dictionary!(Extended, EXTENDED);
 
 // A break that changes nothing has an empty range at its place, and no texts.
 fn subregion(change: &RawChange, texts: &str) -> Option<Subregion> {

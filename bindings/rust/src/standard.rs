@@ -8,11 +8,7 @@ use crate::score::Score;
 /// A dictionary whose breaks change nothing.
 pub struct Standard(Inner<usize>);
 
-dictionary!(
-    Standard,
-    STANDARD,
-    "Nothing else changes. It takes memory and time: 0.5 MB and 2 ms in English, 9 MB and 16 ms in Hungarian."
-);
+dictionary!(Standard, STANDARD);
 
 impl Standard {
     /// The lines of a text, of at most that number of characters, if the text can be divided so.

@@ -136,40 +136,6 @@ impl AnyDictionary {
         }
     }
 
-    /// Reports whether the dictionary has the table that [`AnyDictionary::make_table`] makes.
-    pub fn has_table(&self) -> bool {
-        match self {
-            AnyDictionary::Standard(standard) => standard.has_table(),
-            AnyDictionary::Extended(extended) => extended.has_table(),
-        }
-    }
-
-    /// Makes the table by which words are scored faster, and returns whether the dictionary has one. The contents stay as
-    /// they are.
-    ///
-    /// It is that of [`Dictionary::make_table`](hyphenation_dictionary::dictionary::Dictionary::make_table), which a few
-    /// dictionaries can't have. The only error is out of memory; the dictionary can be used on as it was.
-    pub fn make_table(&mut self, alloc: Global) -> Result<bool, AllocError>
-        ensures { self.new ≡ self.old }
-    {
-        match self {
-            AnyDictionary::Standard(standard) => standard.make_table(alloc),
-            AnyDictionary::Extended(extended) => extended.make_table(alloc),
-        }
-    }
-
-    /// Makes the table of the dictionary if it pays for a text of that many bytes. The contents stay as they are.
-    ///
-    /// Reports whether the dictionary has one. The only error is out of memory.
-    pub fn make_table_for(&mut self, alloc: Global, bytes: usize) -> Result<bool, AllocError>
-        ensures { self.new ≡ self.old }
-    {
-        match self {
-            AnyDictionary::Standard(standard) => standard.make_table_for(alloc, bytes),
-            AnyDictionary::Extended(extended) => extended.make_table_for(alloc, bytes),
-        }
-    }
-
     /// Does an edit of the exceptions if it is good: `+WORD PLACES` lists breaks for a word, `-WORD` removes it.
     ///
     /// Reports whether the edit is good. One that is not changes nothing. The only error is out of memory, and then
@@ -197,34 +163,12 @@ impl AnyDictionary {
 
     /// Returns a text with the mark at each break of its words, whose letters change where a break says so.
     ///
-    /// The dictionary may make a table for a long text, and its contents stay as they are. The only error is out of
-    /// memory.
+    /// The only error is out of memory.
     ///
     /// ```text
     /// dictionary.hyphenated(alloc, "Hyphenation, again.", "-")?     // Hy-phen-a-tion, again.
     /// ```
-    pub fn hyphenated(
-        &mut self,
-        alloc: Global,
-        text: &str,
-        mark: &str,
-    ) -> Result<String, AllocError>
-        ensures text { IfOk result (λ output. string_bytes output
-            ≡ hyphenated_text (breaks_by self.old) mark.now text.now) }
-        ensures contents { self.new ≡ self.old }
-    {
-        let _made = self.make_table_for(alloc, text.len())?;
-        self.marked(alloc, text, mark)
-    }
-
-    /// Returns the text of [`hyphenated`](AnyDictionary::hyphenated), and makes no table for it.
-    ///
-    /// So a dictionary that others read at the same time can give it. The only error is out of memory.
-    ///
-    /// ```text
-    /// dictionary.marked(alloc, "Hyphenation, again.", "-")?     // Hy-phen-a-tion, again.
-    /// ```
-    pub fn marked(&self, alloc: Global, text: &str, mark: &str) -> Result<String, AllocError>
+    pub fn hyphenated(&self, alloc: Global, text: &str, mark: &str) -> Result<String, AllocError>
         ensures { IfOk result (λ output. string_bytes output
             ≡ hyphenated_text (breaks_by self.now) mark.now text.now) }
     {

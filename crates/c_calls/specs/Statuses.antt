@@ -230,15 +230,6 @@ Shares (Some dictionary) old new zero = new ≡ Some dictionary
 Shares (Some dictionary) old new (suc (suc zero)) = new ≡ old
 Shares (Some dictionary) old new _ = ⊥
 
--- 0: the call is done. 2: out of memory. No other status comes.
-abbrev pub IsDoneOrRefused : ℕ → Type 0
-IsDoneOrRefused status = (status ≡ 0) ⊎ (status ≡ 2)
-
--- 3: the handle holds no dictionary. A handle with one has 0 or 2.
-abbrev pub MakesTable : Option AnyDictionary → ℕ → Type 0
-MakesTable None status = status ≡ 3
-MakesTable (Some dictionary) status = IsDoneOrRefused status
-
 -- 0: the edit is good, and is done. 2: out of memory. 4: the edit is not UTF-8. 5: it is UTF-8, and is refused. No
 -- other status comes, and from 1 on the dictionary is unchanged.
 abbrev pub EditsDictionary : AnyDictionary → AnyDictionary → List ℕ → ℕ → Type 0

@@ -129,7 +129,7 @@ pub fn write_text(
     let Ok(mark) = std::str::from_utf8(mark) else {
         return NOT_UTF8;
     };
-    let Ok(page) = loaded.dictionary.marked(alloc, text, mark) else {
+    let Ok(page) = loaded.dictionary.hyphenated(alloc, text, mark) else {
         return OUT_OF_MEMORY;
     };
     fill_buffer(page.as_bytes(), buffer, count)

@@ -15,10 +15,7 @@ use std::alloc::{AllocError, Global};
 use std::sync::Arc;
 
 // A copy of a dictionary, by its text. The only error is that memory was refused.
-pub(crate) fn copy_of(
-    dictionary: &AnyDictionary,
-    alloc: Global,
-) -> Result<AnyDictionary, AllocError>
+fn copy_of(dictionary: &AnyDictionary, alloc: Global) -> Result<AnyDictionary, AllocError>
     ensures { IfOk result (λ copy. copy ≡ dictionary.now) }
 {
     let text = dictionary.to_text(alloc)?;

@@ -14,7 +14,7 @@ ghost use Rattle.c_calls.specs.Lists.{WritesLists};
 ghost use Rattle.c_calls.specs.Numbered.{WritesListed, WritesScores};
 ghost use Rattle.c_calls.specs.Paths.{WritesPaths};
 ghost use Rattle.c_calls.specs.Patterns.{LoadsDic};
-ghost use Rattle.c_calls.specs.Statuses.{kind_numbered, Loads, Shares, Edits, MakesTable, WritesLanguage, WritesMinima};
+ghost use Rattle.c_calls.specs.Statuses.{kind_numbered, Loads, Shares, Edits, WritesLanguage, WritesMinima};
 ghost use Rattle.c_calls.specs.Statuses.{kind_named, WritesBreaks, WritesValues, Changes, into, loading};
 ghost use Rattle.c_calls.specs.Statuses.{WritesMarkedText, WritesLines, WritesCanonicalText};
 ghost use Rattle.c_calls.specs.TexFiles.{LoadsPatterns, PlacesFault};
@@ -32,7 +32,6 @@ pub mod numbers;
 pub mod paths;
 pub mod patterns;
 pub mod statuses;
-pub mod tables;
 pub mod tex;
 pub mod utf8;
 
@@ -224,23 +223,6 @@ pub fn edit(alloc: Global, handle: &mut Handle, edit: &[u8]) -> u32
         return NO_DICTIONARY;
     };
     let status = edits::edit(&mut loaded, alloc, edit);
-    *handle = Handle::of(loaded);
-    status
-}
-
-/// Makes the table by which a dictionary of either kind breaks words faster, if it can have one. The dictionary's
-/// contents are unchanged.
-///
-/// Other handles with the same dictionary are unchanged. If there are any, and it has no table, this handle then holds
-/// a copy with a table.
-pub fn make_table(alloc: Global, handle: &mut Handle) -> u32
-    ensures unchanged { holds handle.new ≡ holds handle.old }
-    ensures status { MakesTable (holds handle.old) result }
-{
-    let Some(mut loaded) = handle.take(alloc) else {
-        return NO_DICTIONARY;
-    };
-    let status = tables::make(&mut loaded, alloc);
     *handle = Handle::of(loaded);
     status
 }

@@ -1,10 +1,9 @@
 -- The results and the failures of a run.
-use Rattle.std.proofs.Common.{◌≡◌, ℕ, ◌+◌, ◌<◌, suc, List, [], ◌∷◌, ◌++◌, length, map, take, drop, get_or, Option, refl, sym, ap, subst, inl, inr, ◌∙◌, arith, append_assoc, append-nil}
+use Rattle.std.proofs.Common.{◌≡◌, ℕ, ◌+◌, ◌<◌, suc, List, [], ◌∷◌, ◌++◌, length, map, take, get_or, Option, refl, sym, ap, subst, inl, inr, ◌∙◌, arith, append_assoc, append-nil}
 use Rattle.std.specs.List.{AllZip}
 use Rattle.std.specs.String.{string_bytes}
 use Rattle.std.specs.declared.string.String.{String}
-use Rattle.std.proofs.lemmas.List.{length-map, map_more, map_push, take_all}
-use Rattle.std.proofs.Math.Seq.{drop-length}
+use Rattle.std.proofs.lemmas.List.{length-map, map_more, map_push}
 use Rattle.command_line.specs.Dictionaries.{KnownFiles}
 use Rattle.command_line.specs.Inputs.{AreTextsOf, IsFailureOfInput}
 use Rattle.command_line.specs.declared.failure.Failure.{Failure}
@@ -27,12 +26,6 @@ use Rattle.html_command.specs.declared.request.Options.{Options}
 use Rattle.html_command.proofs.Given.{pair_more}
 
 -- ---- the result of a page
-
--- A list that is written back to the place where it was is all of it.
-pub written_back : {X : Type 0} (n : ℕ) (items new shown : List X) → new ≡ items → n ≡ length items → shown ≡ take n (new ++ drop (length new) items) → shown ≡ items
-written_back n items new shown same count is =
-    is ∙ ap (λ ns. take n (ns ++ drop (length ns) items)) same ∙ ap (λ rest. take n (items ++ rest)) (drop-length items) ∙ ap (take n) (append-nil items)
-    ∙ take_all n items (omega (arith, count))
 
 -- The page is cut, and its dictionaries are those that were loaded.
 pub hyphenated_so : (options : Options) (bytes_of : KnownFiles) (usual : List (List ℕ)) (page cut text : List ℕ) (note : Option Note) (dictionaries shown again : List LanguageDictionary)

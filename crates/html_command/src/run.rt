@@ -12,26 +12,12 @@ use crate::dictionaries::load_for_page;
 use crate::notes::{Note, PageNote, note_on, push_note};
 use crate::request::{Options, Request};
 use command_line::{Failure, NamedFiles};
-use hyphenation_html::{HtmlPage, LanguageDictionary, hyphenate_html};
-use std::alloc::{AllocError, Global};
+use hyphenation_html::{HtmlPage, hyphenate_html};
+use std::alloc::Global;
 use std::io::{Read, Write};
 use text_results::files::ReplaceFiles;
 use text_results::results::write_results;
 use text_results::texts::{push, read_texts};
-
-// Makes the tables of dictionaries that pay for a page of that many bytes. The only error is out of memory.
-fn make_tables(
-    alloc: Global,
-    dictionaries: &mut [LanguageDictionary],
-    bytes: usize,
-) -> Result<(), AllocError>
-    ensures { dictionaries.new ≡ dictionaries.old }
-{
-    for at in 0..dictionaries.len() {
-        let _made = dictionaries[at].dictionary.make_table_for(alloc, bytes)?;
-    }
-    Ok(())
-}
 
 // A page with its marks, and a note if no dictionary served it.
 #[derive(Drop)]
@@ -60,8 +46,7 @@ fn result_of<F: NamedFiles>(
     ensures failure { IfErr result (FailsOver options.now (F.bytes files.now) folders.now) }
 {
     let cut = HtmlPage::new(alloc, page)?;
-    let mut dictionaries = load_for_page(files, alloc, options, folders, &cut)?;
-    make_tables(alloc, &mut dictionaries, page.len())?;
+    let dictionaries = load_for_page(files, alloc, options, folders, &cut)?;
     let text = hyphenate_html(
         alloc,
         &dictionaries,

@@ -16,9 +16,3 @@ pub mod NumberSteps
 pub mod ReadSteps
 pub mod ValueSteps
 pub mod WordsWithin
-pub mod FirstEnds
-pub mod Comments
-pub mod TagParts
-pub mod Scripts
-pub mod GrammarSteps
-pub mod GrammarPages

@@ -9,5 +9,4 @@ pub mod Forms
 pub mod Languages
 pub mod Readings
 pub mod Laws
-pub mod Grammar
 pub mod Private

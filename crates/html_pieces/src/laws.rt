@@ -1,10 +1,8 @@
 //! Laws of the pieces of all pages. The calls do nothing; each contract is a law.
 
-ghost use Rattle.std.specs.Prelude.{◌≡◌, ℕ, List, [], IsUtf8};
+ghost use Rattle.std.specs.Prelude.{◌≡◌, ℕ, List, IsUtf8};
 ghost use Rattle.html_pieces.specs.declared.bytes.PageForm.{PageForm};
 ghost use Rattle.html_pieces.specs.Pieces.{pieces_of};
-ghost use Rattle.html_pieces.specs.declared.tokenizer.State.TheVariants.{Data};
-ghost use Rattle.html_pieces.specs.Grammar.{AreInGrammar};
 ghost use Rattle.html_pieces.specs.Laws.{joined_pieces, AreUtf8, AreCutAlike, FormStays};
 
 /// The pieces of each page join to it: nothing of it is lost.
@@ -19,18 +17,6 @@ pub fn pieces_join()
 /// It is a law of all pages, and the call does nothing.
 pub fn pieces_are_utf8()
     ensures { (form : PageForm) (page : List ℕ) → IsUtf8 page → AreUtf8 (pieces_of form page) }
-{}
-
-/// Each piece of a page of UTF-8 is what the grammar says of its kind.
-///
-/// So a comment goes from `<!--` to the first `-->`, or in HTML `--!>`, or to the end of the page. A tag goes from `<` or
-/// `</` and the first byte of a name to the first `>` that is outside of quotes. A document type of XML with a part in
-/// brackets goes to the first `>` that only white space parts from a `]` of it. A raw text goes on to the first end tag of
-/// its element that is not double escaped, as that in `<!-- <script> </script>` is. A text has no `<` and no `&`, and goes
-/// on to the next of these. The grammar is in `specs/Grammar.antt`, and knows no states. It is a law of all pages, and the
-/// call does nothing.
-pub fn pieces_are_in_grammar()
-    ensures { (form : PageForm) (page : List ℕ) → IsUtf8 page → AreInGrammar form 0 [] Data (pieces_of form page) }
 {}
 
 /// A page with other texts in the places of its texts is cut into the same pieces, with these texts.

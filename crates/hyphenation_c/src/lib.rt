@@ -10,13 +10,13 @@ ghost use Rattle.c_calls.specs.Lists.{WritesLists};
 ghost use Rattle.c_calls.specs.Numbered.{WritesListed, WritesScores};
 ghost use Rattle.c_calls.specs.Paths.{WritesPaths};
 ghost use Rattle.c_calls.specs.Patterns.{LoadsDic};
-ghost use Rattle.c_calls.specs.Statuses.{kind_numbered, Loads, Shares, Edits, MakesTable, WritesLanguage, WritesMinima};
+ghost use Rattle.c_calls.specs.Statuses.{kind_numbered, Loads, Shares, Edits, WritesLanguage, WritesMinima};
 ghost use Rattle.c_calls.specs.Statuses.{kind_named, WritesBreaks, WritesValues, Changes, into, loading};
 ghost use Rattle.c_calls.specs.Statuses.{WritesMarkedText, WritesLines, WritesCanonicalText};
 ghost use Rattle.c_calls.specs.TexFiles.{LoadsPatterns, PlacesFault};
 ghost use Rattle.level_calls.specs.Levels.{holds as holds_levels, Loads as LoadsLevels, minima_given, answer_by};
 ghost use Rattle.level_calls.specs.Levels.{HasStatus, FillsOne, OneIsShort, Says, WritesText, WritesDigits};
-ghost use Rattle.level_calls.specs.Levels.{digits_in, changes_in, texts_in, made_in, MakesTables};
+ghost use Rattle.level_calls.specs.Levels.{digits_in, changes_in, texts_in, made_in};
 
 use c_calls::changes::BreakChange;
 use c_calls::handle::Handle;
@@ -120,15 +120,6 @@ pub extern "C" fn hyphenation_edit(alloc: Global, handle: &mut Handle, edit: &[u
     ensures edits { Edits (holds handle.old) (holds handle.new) edit.now result }
 {
     c_calls::edit(alloc, handle, edit)
-}
-
-/// Makes the table by which a dictionary of either kind breaks words faster, if it can have one.
-#[unsafe(no_mangle)]
-pub extern "C" fn hyphenation_make_table(alloc: Global, handle: &mut Handle) -> u32
-    ensures unchanged { holds handle.new ≡ holds handle.old }
-    ensures status { MakesTable (holds handle.old) result }
-{
-    c_calls::make_table(alloc, handle)
 }
 
 /// Writes the code of the dictionary's language to the front of a buffer: at most 32 bytes.
@@ -352,15 +343,6 @@ pub extern "C" fn hyphenation_levels_free(alloc: Global, handle: &mut LevelsHand
     level_calls::free(alloc, handle);
 }
 
-/// Makes the tables by which the dictionary breaks words faster, for the levels that have none yet and can have one.
-#[unsafe(no_mangle)]
-pub extern "C" fn hyphenation_levels_make_tables(alloc: Global, handle: &mut LevelsHandle) -> u32
-    ensures unchanged { handle.new.slot.kept ≡ handle.old.slot.kept }
-    ensures status { MakesTables (holds_levels handle.old) result }
-{
-    level_calls::make_tables(alloc, handle)
-}
-
 /// Writes the digits of a word's characters, the changes of their places, and the texts of the changes, each to a
 /// buffer. It also writes whether a change was made.
 #[unsafe(no_mangle)]
@@ -415,6 +397,48 @@ pub extern "C" fn hyphenation_levels_text(
         (into buffer.old buffer.new count.old count.new) result }
 {
     level_calls::write_text(alloc, handle, given, minima, text, size, buffer, count)
+}
+
+/// Does what `hyphenation_levels_word` and `hyphenation_levels_text` do, and breaks most words only once for both. The
+/// result is the status of the first, and the status of the second is written to `told`.
+#[unsafe(no_mangle)]
+pub extern "C" fn hyphenation_levels_both(
+    alloc: Global,
+    handle: &mut LevelsHandle,
+    given: bool,
+    minima: &LevelMinima,
+    text: &[u8],
+    size: usize,
+    digits: &mut [u8],
+    count: &mut usize,
+    changes: &mut [LevelChange],
+    number: &mut usize,
+    texts: &mut [u8],
+    total: &mut usize,
+    made: &mut bool,
+    buffer: &mut [u8],
+    bytes: &mut usize,
+    told: &mut u32,
+) -> u32
+    ensures unchanged { handle.new.slot.kept ≡ handle.old.slot.kept }
+    ensures status { HasStatus (holds_levels handle.old) (minima_given given minima.now) text.now size result }
+    ensures digits { FillsOne (digits_in (answer_by handle.old given minima.now text.now size))
+        (into digits.old digits.new count.old count.new) result }
+    ensures changes { FillsOne (changes_in (answer_by handle.old given minima.now text.now size))
+        (into changes.old changes.new number.old number.new) result }
+    ensures texts { FillsOne (texts_in (answer_by handle.old given minima.now text.now size))
+        (into texts.old texts.new total.old total.new) result }
+    ensures short { OneIsShort result (length digits.old < count.new) (length changes.old < number.new)
+        (length texts.old < total.new) }
+    ensures made { Says (made_in (answer_by handle.old given minima.now text.now size)) made.old
+        made.new result }
+    ensures text { WritesText (holds_levels handle.old) (minima_given given minima.now) text.now size
+        (into buffer.old buffer.new bytes.old bytes.new) told.new }
+{
+    level_calls::write_both(
+        alloc, handle, given, minima, text, size, digits, count, changes, number, texts, total,
+        made, buffer, bytes, told,
+    )
 }
 
 /// Writes the digits of a word's bytes by the patterns of the level at the top that change nothing to the front of a

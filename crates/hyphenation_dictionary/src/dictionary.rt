@@ -18,12 +18,18 @@ use hyphenation_breaks::extended::Subregion;
 use hyphenation_breaks::language::Language;
 use hyphenation_breaks::laws::listed_in_order;
 use hyphenation_trie::Automaton;
-use hyphenation_trie::table::{Table, make_table};
-use std::alloc::{AllocError, Global};
+use hyphenation_trie::table::Table;
+use std::alloc::AllocError;
 use std::fmt;
 use std::marker::Model;
 
 /// A dictionary whose values carry a payload `C`, and whose exceptions list breaks of type `B`.
+///
+/// Words are searched by a table of steps, which is made with the dictionary. There is none if a value is more than 15
+/// bytes before its key's end. Nor is there one of more than 67 MB of cells, or of 17 MB where more than 1,024 different
+/// lists of values end texts. Nor has an extended dictionary with a value above 127 one. Such a dictionary is searched by
+/// links, with the same breaks. So is a word of an extended dictionary whose breaks may change letters, also where there
+/// is a table.
 pub struct Dictionary<C: Payload, B: Break> {
     pub(crate) language: Language,
     // The least number of characters of a word before its first break.
@@ -31,7 +37,7 @@ pub struct Dictionary<C: Payload, B: Break> {
     // The least number of characters of a word after its last break.
     pub(crate) right: u8,
     pub(crate) patterns: Automaton<Entry<C>>,
-    // The table of steps of the patterns, once it is made.
+    // The table of steps of the patterns, if they can have one.
     pub(crate) table: Option<Table>,
     // Words, each with its listed breaks.
     pub(crate) exceptions: Exceptions<B>,
@@ -191,49 +197,6 @@ impl<C: Payload, B: Break> Dictionary<C, B> {
         ensures listed_before { option_map (λ v. v.items) result ≡ finite.get self.old.exceptions word.now }
     {
         self.exceptions.remove(word)
-    }
-
-    /// Reports whether the dictionary has the table that [`Dictionary::make_table`] makes.
-    pub fn has_table(&self) -> bool {
-        self.table.is_some()
-    }
-
-    /// Makes the table by which words are scored faster, and returns whether the dictionary has one.
-    ///
-    /// The contents stay as they are, and so does each break. Without a table the patterns are searched by links. A
-    /// table takes memory and time. So it pays for a dictionary that is asked for many words: thousands in English,
-    /// tens of thousands in Hungarian. There is none if a value is more than 15 bytes before its key's end. Nor is
-    /// there one of more than 67 MB of cells, or of 17 MB where more than 1,024 different lists of values end texts.
-    /// Nor has an extended dictionary with a value above 127 one. A word of an extended dictionary whose breaks may
-    /// change letters is searched by links as well. The only error is out of memory; the dictionary can be used on as
-    /// it was.
-    ///
-    /// ```text
-    /// let mut dictionary = Standard::from_reader(alloc, language, &mut reader)?;
-    /// dictionary.make_table(alloc)?;      // true, except for a dictionary that can have none
-    /// ```
-    pub fn make_table(&mut self, alloc: Global) -> Result<bool, AllocError>
-        ensures { self.new ≡ self.old }
-    {
-        if self.table.is_some() {
-            return Ok(true);
-        }
-        let table = make_table(alloc, &self.patterns)?;
-        let made = table.is_some();
-        self.table = table;
-        Ok(made)
-    }
-
-    /// Makes the table if it pays for words of that many bytes together, as [`Dictionary::make_table`] makes it.
-    ///
-    /// It pays where there are four bytes or more for each node of the patterns' trie. In English these are some 40 KB.
-    pub fn make_table_for(&mut self, alloc: Global, bytes: usize) -> Result<bool, AllocError>
-        ensures { self.new ≡ self.old }
-    {
-        if bytes / 4 < self.patterns.nodes() {
-            return Ok(self.table.is_some());
-        }
-        self.make_table(alloc)
     }
 }
 

@@ -128,5 +128,5 @@ pub fn make<C: Payload, B: Listing>(
     language.invariant();
     let trie = trie_of(alloc, patterns)?.freeze(alloc)?;
     let words = map_of(alloc, exceptions)?;
-    Ok(dictionary_of(language, left, right, trie, words))
+    dictionary_of(alloc, language, left, right, trie, words)
 }

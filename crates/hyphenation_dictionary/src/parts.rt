@@ -16,31 +16,35 @@ use hyphenation_breaks::entry::{Entry, Payload};
 use hyphenation_breaks::language::Language;
 use hyphenation_trie::Automaton;
 use hyphenation_trie::parts::keys_of;
+use hyphenation_trie::table::make_table;
 use std::alloc::{AllocError, Global};
 
-/// Returns the dictionary of these parts; `left` and `right` are the minima, in characters.
+/// Makes the dictionary of these parts, and its table of steps; `left` and `right` are the minima, in characters.
 ///
-/// The parts must meet the invariant of a dictionary. Each node of the automaton but the root must begin a key.
+/// The parts must meet the invariant of a dictionary. Each node of the automaton but the root must begin a key. The only
+/// error is out of memory.
 pub fn dictionary_of<C: Payload, B: Break>(
+    alloc: Global,
     language: Language,
     left: u8,
     right: u8,
     patterns: Automaton<Entry<C>>,
     exceptions: Exceptions<B>,
-) -> Dictionary<C, B>
+) -> Result<Dictionary<C, B>, AllocError>
     requires begins { EachBeginsKey patterns }
     requires invariant { IsDictionary C.change_of B.meaning
         (contents_of_parts language left right patterns exceptions) }
-    ensures { result ≡ contents_of_parts language left right patterns exceptions }
+    ensures { IfOk result (λ dictionary. dictionary ≡ contents_of_parts language left right patterns exceptions) }
 {
-    Dictionary {
+    let table = make_table(alloc, &patterns)?;
+    Ok(Dictionary {
         language,
         left,
         right,
         patterns,
-        table: None,
+        table,
         exceptions,
-    }
+    })
 }
 
 /// Returns the keys of a dictionary with their entries, in no particular order; the first of equal keys counts.

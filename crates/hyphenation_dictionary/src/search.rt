@@ -19,7 +19,7 @@ pub fn automaton_of<C: Payload, B: Break>(dictionary: &Dictionary<C, B>) -> &Aut
     patterns_of(dictionary).0
 }
 
-/// Returns the keys of a dictionary as [`automaton_of`] does, with their table of steps if it is made.
+/// Returns the keys of a dictionary as [`automaton_of`] does, with their table of steps if they can have one.
 pub fn patterns_of<C: Payload, B: Break>(
     dictionary: &Dictionary<C, B>,
 ) -> (&Automaton<Entry<C>>, Option<&Table>)

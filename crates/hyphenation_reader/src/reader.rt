@@ -427,7 +427,7 @@ impl<C: Payload, B: Listing> Unfrozen<C, B> {
             exceptions,
         } = self;
         let patterns = patterns.freeze(alloc)?;
-        Ok(parts::dictionary_of(language, left, right, patterns, exceptions))
+        parts::dictionary_of(alloc, language, left, right, patterns, exceptions)
     }
 }
 

@@ -1,18 +1,13 @@
--- Parents, depths and rows of a trie's nodes.
-use Rattle.std.proofs.Common.{◌≡◌, ◌≢◌, ℕ, zero, suc, ◌+◌, ◌<◌, ◌≤◌, List, [], ◌∷◌, ◌++◌, length, map, drop, get_or, set, slice_index, Option, Some, None, refl, sym, ap, subst, ◌∙◌, arith, inl, inr}
+-- Parents and depths of a trie's nodes.
+use Rattle.std.proofs.Common.{◌≡◌, ℕ, ◌+◌, ◌<◌, List, [], ◌∷◌, ◌++◌, length, map, drop, get_or, set, slice_index, Option, Some, None, refl, sym, ap, subst, ◌∙◌, arith, inl, inr}
 use Rattle.std.proofs.lemmas.Bool.{cases_eq, cases_lt}
 use Rattle.std.proofs.lemmas.List.{length-append, length-drop, length-map, map_push, get_or-map, get_or_append_left, get_or_push, get_or-set_same, get_or-set_other}
-use Rattle.hyphenation_trie.specs.Trie.{Tree, node_text, IsTrie}
 use Rattle.hyphenation_trie.specs.Private.Trie.{texts_of, HasFroms}
-use Rattle.hyphenation_trie.specs.Private.Rows.{child_in, edge_in, HasRowBy, IsFullRow}
-use Rattle.hyphenation_trie.specs.Private.Links.{HasNoChild, HasParents, parent_of, byte_of, IsDepths, IsFrozen, HasDepths}
-use Rattle.hyphenation_trie.specs.declared.rows.Cell.{Cell}
+use Rattle.hyphenation_trie.specs.Private.Links.{HasParents, parent_of, byte_of}
 use Rattle.std.specs.List.{zip}
-use Rattle.std.specs.Prelude.{IfSome, IfNone}
 use Rattle.hyphenation_trie.specs.Private.States.{froms_by, texts_by}
 use Rattle.std.proofs.lemmas.Simd.{map-map}
-use Rattle.hyphenation_trie.proofs.RowsPlaced.{same_some}
-use Rattle.hyphenation_trie.proofs.TrieNodes.{length-texts_of, last_same, not_empty}
+use Rattle.hyphenation_trie.proofs.TrieNodes.{length-texts_of}
 
 -- ---- parents and bytes of nodes
 
@@ -47,118 +42,19 @@ parents_are texts froms len has = record {
       (omega (arith, h.2), h.3 ∙ ap (λ (x : ℕ). get_or texts x [] ++ h.0.1 ∷ []) (sym p) ∙ ap (λ (x : ℕ). get_or texts (slice_index (map parent_of froms) j) [] ++ x ∷ []) (sym b));
 }
 
--- siblings have different bytes
-pub apart_are : (texts : List (List ℕ)) (parents bytes : List ℕ) → ((i j : ℕ) → i < length texts → j < length texts → get_or texts i [] ≡ get_or texts j [] → i ≡ j) → HasParents texts parents bytes
-    → (j k : ℕ) → 0 < j → j < k → k < length parents → slice_index parents j ≡ slice_index parents k → slice_index bytes j ≢ slice_index bytes k
-apart_are texts parents bytes distinct has j k pos lt lk same e =
-    let hj = has.each j pos (omega (arith, has.nodes)) in
-    let hk = has.each k (omega arith) (omega (arith, has.nodes)) in
-    let one : get_or texts j [] ≡ get_or texts k [] =
-    hj.1 ∙ ap (λ (x : ℕ). get_or texts x [] ++ slice_index bytes j ∷ []) same ∙ ap (λ (x : ℕ). get_or texts (slice_index parents k) [] ++ x ∷ []) e ∙ sym hk.1 in
-    absurd (omega (arith, distinct j k (omega (arith, has.nodes)) (omega (arith, has.nodes)) one))
-
 -- ---- depths
 
-pub depth_is : (texts : List (List ℕ)) (parents bytes depths : List ℕ) → get_or texts 0 [] ≡ [] → HasParents texts parents bytes → IsDepths parents depths
-    → (fuel j : ℕ) → j < fuel → j < length texts → slice_index depths j ≡ length (get_or texts j [])
-depth_is texts parents bytes depths root has deep zero j lt lj = absurd (omega arith)
-depth_is texts parents bytes depths root has deep (suc fuel) j lt lj = elim (cases_eq j 0) [
-  | inl is ↦ ap (λ (x : ℕ). slice_index depths x) is ∙ deep.root ∙ sym (ap (λ (x : ℕ). length (get_or texts x [])) is ∙ ap length root)
-  | inr apart ↦
-      let h = has.each j (omega arith) lj in
-      let up = depth_is texts parents bytes depths root has deep fuel (slice_index parents j) (omega (arith, h.0)) (omega (arith, h.0)) in
-      deep.each j (omega arith) (omega (arith, has.nodes)) ∙ ap (λ (x : ℕ). x + 1) up ∙ sym (ap length h.1 ∙ length-append (get_or texts (slice_index parents j) []) (slice_index bytes j ∷ []))
+-- one node more has its depth
+pub depths_more : (texts : List (List ℕ)) (depths : List ℕ) (node parent byte depth : ℕ) → length depths ≡ length texts → node < length texts → parent < node
+    → get_or texts node [] ≡ get_or texts parent [] ++ byte ∷ [] → depth ≡ slice_index depths parent + 1
+    → ((j : ℕ) → j < node → slice_index depths j ≡ length (get_or texts j []))
+    → (j : ℕ) → j < node + 1 → slice_index (set depths node depth) j ≡ length (get_or texts j [])
+depths_more texts depths node parent byte depth len lt before text is each j lj = elim (cases_eq j node) [
+  | inl same ↦
+      ap (λ (x : ℕ). slice_index (set depths node depth) x) same ∙ get_or-set_same depths node depth 0 (omega (arith, len)) ∙ is ∙ ap (λ (x : ℕ). x + 1) (each parent before)
+      ∙ sym (ap (λ (x : ℕ). length (get_or texts x [])) same ∙ ap length text ∙ length-append (get_or texts parent []) (byte ∷ []))
+  | inr apart ↦ get_or-set_other depths node j depth 0 apart ∙ each j (omega arith)
 ]
-
--- ---- rows
-
-pub frozen_is : {E : Type 0} (tree : Tree E) (parents bytes bases : List ℕ) (cells : List Cell) → IsTrie tree → HasParents tree.texts parents bytes → length bases ≡ length parents
-    → ((i : ℕ) → i < length parents → HasRowBy parents bytes cells (slice_index bases i) i) → IsFullRow cells (slice_index bases 0) 0 → IsFrozen tree bases cells
-frozen_is tree parents bytes bases cells trie has len rows full = record {
-  trie = trie;
-  lengths = len ∙ has.nodes;
-  room = λ i li. (rows i (omega (arith, has.nodes))).room;
-  sound = λ i b j li e pos.
-      let row = rows i (omega (arith, has.nodes)) in
-      let w = row.only (slice_index bases i + b) j e pos in
-      let byte : slice_index bytes j ≡ b = omega (arith, w.3) in
-      let h = has.each j w.0 (omega (arith, w.1, has.nodes)) in (
-        omega (arith, w.1, has.nodes),
-        h.1 ∙ ap (λ (x : ℕ). get_or tree.texts x [] ++ slice_index bytes j ∷ []) w.2 ∙ ap (λ (x : ℕ). get_or tree.texts i [] ++ x ∷ []) byte,
-      );
-  complete = λ i b j li lj e. elim (cases_eq j 0) [
-    | inl is ↦ absurd (not_empty (get_or tree.texts i []) b (sym trie.root ∙ ap (λ (x : ℕ). get_or tree.texts x []) (sym is) ∙ e))
-    | inr apart ↦
-        let h = has.each j (omega arith) lj in
-        let parts = last_same (get_or tree.texts (slice_index parents j) []) (get_or tree.texts i []) (slice_index bytes j) b (sym h.1 ∙ e) in
-        let up : slice_index parents j ≡ i = trie.distinct (slice_index parents j) i (omega (arith, h.0)) li parts.0 in
-        let row = rows i (omega (arith, has.nodes)) in
-        ap (λ (x : ℕ). child_in cells i (slice_index bases i + x)) (sym parts.1) ∙ row.mine j (omega arith) (omega (arith, has.nodes)) up
-  ];
-  full = full;
-}
-
--- The result of a look-up: the child, or none; the root itself where the root has no child.
-abbrev pub Found : {E : Type 0} → Tree E → ℕ → ℕ → Option ℕ → Type 0
-Found tree i b None = (0 < i) × HasNoChild tree i b
-Found tree i b (Some j) =
-    (j < length tree.texts) × (0 < i + j → node_text tree j ≡ node_text tree i ++ b ∷ []) × (i + j ≡ 0 → HasNoChild tree i b)
-
-pub found_is : {E : Type 0} (tree : Tree E) (bases : List ℕ) (cells : List Cell) (i b : ℕ) (o : Option ℕ) → IsFrozen tree bases cells → i < length tree.texts → b < 256 → o ≡ edge_in bases cells i b
-    → Found tree i b o
-found_is tree bases cells i b None frozen li small e = elim (cases_eq i 0) [
-  | inl is ↦ absurd (frozen.full b small (ap (λ (x : ℕ). edge_in bases cells x b) (sym is) ∙ sym e))
-  | inr apart ↦ (omega arith, λ j lj is. let bad : None ≡ Some j = e ∙ frozen.complete i b j li lj is in absurd cc)
-]
-found_is tree bases cells i b (Some j) frozen li small e = elim (cases_eq (i + j) 0) [
-  | inl is ↦ (
-    omega arith,
-    λ pos. absurd (omega arith),
-    λ zero k lk text.
-        let two : Some j ≡ Some k = e ∙ frozen.complete i b k li lk text in
-        let same : k ≡ 0 = omega (arith, same_some j k two) in
-        absurd (not_empty (node_text tree i) b (sym frozen.trie.root ∙ ap (λ (x : ℕ). node_text tree x) (sym same) ∙ text)),
-  )
-  | inr apart ↦ let found = frozen.sound i b j li (sym e) (omega arith) in (found.0, λ pos. found.1, λ zero. absurd (omega arith))
-]
-
-pub found_within : {E : Type 0} (tree : Tree E) (i b : ℕ) (o : Option ℕ) → Found tree i b o → IfSome o (λ j. j < length tree.texts)
-found_within tree i b None found = tt
-found_within tree i b (Some j) found = found.0
-
-pub found_root : {E : Type 0} (tree : Tree E) (i b : ℕ) (o : Option ℕ) → Found tree i b o → IfSome o (λ j. i + j ≡ 0 → HasNoChild tree i b)
-found_root tree i b None found = tt
-found_root tree i b (Some j) found = found.2
-
-pub found_none : {E : Type 0} (tree : Tree E) (i b : ℕ) (o : Option ℕ) → Found tree i b o → IfNone o ((0 < i) × HasNoChild tree i b)
-found_none tree i b None found = found
-found_none tree i b (Some j) found = tt
-
--- one depth more
-pub depths_more : (parents depths : List ℕ) (node depth : ℕ) → node < length depths → ((j : ℕ) → 0 < j → j < node + 1 → slice_index parents j < j)
-    → depth ≡ slice_index depths (slice_index parents node) + 1
-    → ((j : ℕ) → 0 < j → j < node → slice_index depths j ≡ slice_index depths (slice_index parents j) + 1)
-    → (j : ℕ) → 0 < j → j < node + 1 → slice_index (set depths node depth) j ≡ slice_index (set depths node depth) (slice_index parents j) + 1
-depths_more parents depths node depth lt before is each j jpos lj =
-    let up : slice_index parents j < j = before j jpos lj in
-    let above : slice_index (set depths node depth) (slice_index parents j) ≡ slice_index depths (slice_index parents j) = get_or-set_other depths node (slice_index parents j) depth 0 (λ e. omega (arith, up)) in
-    elim (cases_eq j node) [
-      | inl same ↦
-          ap (λ (x : ℕ). slice_index (set depths node depth) x) same ∙ get_or-set_same depths node depth 0 lt ∙ is ∙ ap (λ (x : ℕ). slice_index depths (slice_index parents x) + 1) (sym same) ∙ ap (λ (x : ℕ). x + 1) (sym above)
-      | inr apart ↦ get_or-set_other depths node j depth 0 apart ∙ each j jpos (omega arith) ∙ ap (λ (x : ℕ). x + 1) (sym above)
-    ]
-
-pub low_more : (depths : List ℕ) (node depth : ℕ) → depth ≤ node → node < length depths → ((j : ℕ) → j < node → slice_index depths j ≤ j) → (j : ℕ) → j < node + 1 → slice_index (set depths node depth) j ≤ j
-low_more depths node depth le lt low j lj = elim (cases_eq j node) [
-  | inl same ↦ omega (arith, ap (λ (x : ℕ). slice_index (set depths node depth) x) same, get_or-set_same depths node depth 0 lt)
-  | inr apart ↦ omega (arith, get_or-set_other depths node j depth 0 apart, low j (omega arith))
-]
-
-pub has_depths : {E : Type 0} (tree : Tree E) (parents bytes depths : List ℕ) → IsTrie tree → HasParents tree.texts parents bytes → IsDepths parents depths → HasDepths tree.texts depths
-has_depths tree parents bytes depths trie has deep = record {
-  lengths = deep.lengths ∙ has.nodes;
-  each = λ j lj. depth_is tree.texts parents bytes depths trie.root has deep (j + 1) j (omega arith) lj;
-}
 
 -- ---- parents and bytes, each in a list of its own
 

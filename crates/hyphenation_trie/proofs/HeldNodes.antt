@@ -1,16 +1,14 @@
 -- The lists of a growing trie hold a trie.
-use Rattle.std.proofs.Common.{◌≡◌, ℕ, ◌<◌, ◌≤◌, List, [], ◌∷◌, ◌++◌, length, map, set, slice_index, Option, Some, None, sym, ap, subst, ◌∙◌, arith}
+use Rattle.std.proofs.Common.{◌≡◌, ℕ, ◌<◌, ◌≤◌, List, [], ◌∷◌, ◌++◌, length, map, set, Option, Some, None, sym, ap, subst, ◌∙◌, arith}
 use Rattle.std.proofs.lemmas.List.{length-map, length-append, length-set, map_push, map-set}
 use Rattle.hyphenation_trie.specs.Private.Growing.{IsGrowing}
-use Rattle.hyphenation_trie.specs.Private.Chains.{IsChained}
 use Rattle.hyphenation_trie.specs.Private.Links.{parent_of, HasParents}
-use Rattle.hyphenation_trie.specs.Private.Rows.{AreChildrenBy}
 use Rattle.hyphenation_trie.specs.Private.States.{IsHeld, froms_by, texts_by, span_in}
 use Rattle.hyphenation_trie.specs.Private.Trie.{tree_of, texts_of, with_child, AreWithin, IsWithin}
 use Rattle.hyphenation_trie.specs.Trie.{IsTrie}
 use Rattle.hyphenation_trie.specs.declared.state.Span.{Span}
 use Rattle.hyphenation_trie.specs.declared.state.State.{State}
-use Rattle.hyphenation_trie.proofs.FrozenTrie.{length-froms_by, froms_by-push, first-push, has_parents, parents_by, apart_are}
+use Rattle.hyphenation_trie.proofs.FrozenTrie.{length-froms_by, froms_by-push, first-push, has_parents}
 use Rattle.hyphenation_trie.proofs.TrieNodes.{IsTrie-seen, seen-grown, length-texts_of, all_within-more, all_within-push, all_within-set}
 
 pub trie_held : {E : Type 0} (parents bytes : List ℕ) (states : List State) (lasts befores : List ℕ) (es : List E) → IsHeld parents bytes states lasts befores (length es)
@@ -65,22 +63,7 @@ tree_more parents bytes states {lasts} {befores} {bound} es i b s held none =
     let spans : map span_in (states ++ s ∷ []) ≡ map span_in states ++ None ∷ [] = map_push span_in states s ∙ ap (λ o. map span_in states ++ o ∷ []) none in
     ap (λ (fs : List (Option (ℕ × ℕ))). tree_of fs (map span_in (states ++ s ∷ [])) es) froms ∙ ap (λ (ss : List (Option Span)). tree_of (froms_by parents bytes ++ Some (i, b) ∷ []) ss es) spans ∙ seen-grown (froms_by parents bytes) (map span_in states) es i b
 
--- ---- for freezing
-
--- each node has a number in the lists of children
-pub rooms_held : (parents bytes : List ℕ) (states : List State) (lasts befores : List ℕ) (bound : ℕ) → IsHeld parents bytes states lasts befores bound → (length lasts ≡ length parents) × (length befores ≡ length parents)
-rooms_held parents bytes states lasts befores bound held =
-    let froms = length-froms_by parents bytes held.parents_from held.bytes_of in
-    (held.growing.nodes ∙ froms, held.growing.chained.lengths ∙ length-map (froms_by parents bytes) parent_of ∙ froms)
+-- ---- parents
 
 pub parents_held : (parents bytes : List ℕ) (states : List State) (lasts befores : List ℕ) (bound : ℕ) → IsHeld parents bytes states lasts befores bound → HasParents (texts_by parents bytes) parents bytes
 parents_held parents bytes states lasts befores bound held = has_parents parents bytes held.parents_from held.bytes_from held.bytes_of held.growing.from
-
-pub children_held : (parents bytes : List ℕ) (states : List State) (lasts befores : List ℕ) (bound : ℕ) → IsHeld parents bytes states lasts befores bound → ((k : ℕ) → slice_index bytes k < 256) → AreChildrenBy parents bytes lasts befores
-children_held parents bytes states lasts befores bound held small = record {
-  bytes_of = held.bytes_of;
-  nodes = held.growing.nodes ∙ length-froms_by parents bytes held.parents_from held.bytes_of;
-  small = small;
-  chained = subst (λ (xs : List ℕ). IsChained xs lasts befores) (parents_by parents bytes held.parents_from held.bytes_of) held.growing.chained;
-  apart = apart_are (texts_by parents bytes) parents bytes held.growing.apart (parents_held parents bytes states lasts befores bound held);
-}

@@ -5,13 +5,13 @@ pub mod Trails
 pub mod ChainsGrow
 pub mod GrowingNodes
 pub mod HeldNodes
-pub mod RowsPlaced
 pub mod Suffixes
 pub mod Tails
 pub mod LinksMade
 pub mod FrozenTrie
 pub mod States
 pub mod SharedEntries
+pub mod Siblings
 pub mod LookedUp
 pub mod KnownNodes
 pub mod TableOrder

@@ -97,7 +97,7 @@ pub record IsSought {E : Type 0} (tree : Tree E) (t : List ℕ) (b at : ℕ) : T
   pub most : (k : ℕ) → k < length tree.texts → EndsWith (t ++ b ∷ []) (node_text tree k) → length (node_text tree k) ≤ length (node_text tree at) + 1
 
 -- a child is the longest
-sought_here : {E : Type 0} (tree : Tree E) (t : List ℕ) (b at child : ℕ) → IsSought tree t b at → child < length tree.texts → node_text tree child ≡ node_text tree at ++ b ∷ [] → IsLongest tree.texts (t ++ b ∷ []) child
+pub sought_here : {E : Type 0} (tree : Tree E) (t : List ℕ) (b at child : ℕ) → IsSought tree t b at → child < length tree.texts → node_text tree child ≡ node_text tree at ++ b ∷ [] → IsLongest tree.texts (t ++ b ∷ []) child
 sought_here tree t b at child s lt is = record {
   within = lt;
   ends = subst (λ (x : List ℕ). EndsWith (t ++ b ∷ []) x) (sym is) (Ends-push t (node_text tree at) b s.ends);
@@ -135,7 +135,7 @@ sought_up tree trie t b at up s pos link none =
     )
 
 -- the root itself is the longest if it has no child
-sought_root : {E : Type 0} (tree : Tree E) → IsTrie tree → (t : List ℕ) (b : ℕ) → IsSought tree t b 0 → HasNoChild tree 0 b → IsLongest tree.texts (t ++ b ∷ []) 0
+pub sought_root : {E : Type 0} (tree : Tree E) → IsTrie tree → (t : List ℕ) (b : ℕ) → IsSought tree t b 0 → HasNoChild tree 0 b → IsLongest tree.texts (t ++ b ∷ []) 0
 sought_root tree trie t b s none = record {
   within = s.within;
   ends = subst (λ (x : List ℕ). EndsWith (t ++ b ∷ []) x) (sym trie.root) (Ends-nil (t ++ b ∷ []));

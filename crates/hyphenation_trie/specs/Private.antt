@@ -3,7 +3,6 @@ pub mod Chains
 pub mod Growing
 pub mod Known
 pub mod Links
-pub mod Rows
 pub mod States
 pub mod TableRows
 pub mod Trie

@@ -1,7 +1,7 @@
 //! The edges of a trie's nodes: the parent of each, and the children of each as a chain.
 
 ghost use Rattle.std.specs.Prelude.{◌≡◌, ◌<◌, ◌≤◌, ◌++◌, [], ◌∷◌, length, slice_index, slice_set, IfOk, OnOk, OnErr};
-ghost use Rattle.hyphenation_trie.specs.Private.Rows.{last_byte};
+ghost use Rattle.hyphenation_trie.specs.Private.Growing.{last_byte};
 
 use super::lists::{list_of_first, push_both};
 use super::test_u32;

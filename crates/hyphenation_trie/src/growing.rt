@@ -4,15 +4,11 @@ ghost use Rattle.std.specs.Prelude.{◌≡◌, ◌≢◌, ◌+◌, ◌<◌, ◌+
 ghost use Rattle.std.specs.Prelude.{option_copied, slice_index_or, IsSome};
 ghost use Rattle.hyphenation_trie.specs.Trie.{node_text, entries_of_key, entries_of_node, IsTrie, AddsFront, KeepsNodes, KeepsKeys, SetsKey, EachBeginsKey};
 ghost use Rattle.hyphenation_trie.specs.Trail.{IsTrail};
+ghost use Rattle.hyphenation_trie.specs.Private.Growing.{IsLastChild, IsChildBefore};
 ghost use Rattle.hyphenation_trie.specs.Private.Trie.{with_child, Grows, with_entries};
 
-use crate::Automaton;
-use crate::automaton::link_all;
 use crate::children::Children;
-use crate::frozen::Frozen;
 use crate::lists::{append_all, list_of_first, push_both};
-use crate::nodes_by_depth::NodesByDepth;
-use crate::rows::rows_of;
 use crate::state::{Span, State, entries_in};
 use crate::trail::Trail;
 use std::alloc::{AllocError, Global};
@@ -237,22 +233,50 @@ impl<E: Drop> Trie<E> {
         0
     }
 
+    // Returns the parent of a node, whose number is less, and the byte that leads from the parent to the node.
+    pub(crate) fn from(&self, node: usize) -> (usize, u8)
+        requires { (0 < node) × (node < length self.now.texts) }
+        ensures before { result.0 < node }
+        ensures text { node_text self.now node ≡ node_text self.now result.0 ++ result.1 ∷ [] }
+    {
+        (
+            self.children.parents[node] as usize,
+            self.children.bytes[node],
+        )
+    }
+
+    // Returns the last child of a node; 0 if it has none.
+    pub(crate) fn last_child(&self, node: usize) -> u32
+        requires { node < length self.now.texts }
+        ensures { IsLastChild self.now node (length self.now.texts) result }
+    {
+        self.children.last[node]
+    }
+
+    // Returns the child before a child of a node; 0 if there is none.
+    pub(crate) fn child_before(&self, child: usize) -> u32
+        requires { child < length self.now.texts }
+        ensures { IsChildBefore self.now child result }
+    {
+        self.children.before[child]
+    }
+
     // Returns the child of a node at a byte, if it has one.
     #[inline(always)]
-    fn child_of(&self, node: u32, byte: u8) -> Option<u32>
+    pub(crate) fn child_of(&self, node: usize, byte: u8) -> Option<u32>
         requires { node < length self.now.texts }
         ensures found { IfSome result (λ j.
             (j < length self.now.texts) × (node_text self.now j ≡ node_text self.now node ++ byte ∷ [])) }
         ensures none { IfNone result ((j : ℕ) → j < length self.now.texts
             → node_text self.now j ≢ node_text self.now node ++ byte ∷ []) }
     {
-        let mut child = self.children.last[node as usize];
+        let mut child = self.children.last[node];
         while child != 0 {
             let at = self.children.bytes[child as usize];
             if at == byte {
                 return Some(child);
             }
-            if at < byte && self.children.in_order_from <= node {
+            if at < byte && self.children.in_order_from as usize <= node {
                 // The children before this one have no greater byte.
                 return None;
             }
@@ -290,7 +314,7 @@ impl<E: Drop> Trie<E> {
             (j < length self.new.texts) × (node_text self.new j ≡ node_text self.old node ++ byte ∷ [])) }
         ensures grows { Grows self.old self.new (node_text self.old node ++ byte ∷ []) }
     {
-        match self.child_of(node, byte) {
+        match self.child_of(node as usize, byte) {
             Some(child) => Ok(child),
             None => self.grow(node, byte),
         }
@@ -364,40 +388,7 @@ impl<E: Drop> Trie<E> {
         let span = self.states[like].span;
         self.states[node as usize].set_span(span)
     }
-
-    /// Makes the automaton that finds the keys of the trie. The only error is out of memory, also if it would have 2^32 nodes
-    /// or cells.
-    pub fn freeze(self, alloc: Global) -> Result<Automaton<E>, AllocError>
-        ensures { IfOk result (λ automaton. automaton ≡ self) }
-    {
-        self.invariant();
-        bytes_are_below_256(&self.children.bytes);
-        let rows = rows_of(alloc, &self.children)?;
-        let Trie {
-            children,
-            states,
-            entries,
-        } = self;
-        let Children {
-            parents,
-            bytes,
-            last,
-            before,
-            in_order_from: _,
-        } = children;
-        // Rows have taken the place of the chains of children, whose lists are filled anew.
-        let NodesByDepth { depths, chains } = NodesByDepth::of(alloc, &parents, last, before)?;
-        let reports = vec![in alloc; 0u32; parents.len()]?;
-        let mut trie = Frozen::new(parents, bytes, states, entries, rows, reports);
-        link_all(&mut trie, &depths, &chains);
-        Ok(Automaton { trie, depths })
-    }
 }
-
-// Gives proofs that each byte is below 256, and does nothing.
-fn bytes_are_below_256(bytes: &[u8])
-    ensures { (k : ℕ) → slice_index bytes.now k < 256 }
-{}
 
 impl<E> fmt::Debug for Trie<E> {
     fn fmt<W: fmt::Write>(&self, f: &mut fmt::Formatter<W>) -> fmt::Result {

@@ -28,14 +28,13 @@ ghost use Rattle.std.specs.Prelude.{◌≡◌, ◌<◌, ◌≤◌, ◌^◌, IfOk
 mod automaton;
 mod chains;
 mod children;
+mod depths;
 mod frozen;
 mod growing;
 pub mod laws;
 mod lists;
 mod look_ups;
-mod nodes_by_depth;
 pub mod parts;
-mod rows;
 mod state;
 pub mod table;
 mod trail;

@@ -11,7 +11,6 @@ ghost use Rattle.hyphenation_trie.specs.Tables.{GoesOn, IsTableOf, ReadsOn};
 ghost use Rattle.hyphenation_trie.specs.Trie.{entries_of_key};
 
 mod classes;
-mod order;
 mod rows;
 pub mod split;
 pub mod steps;
@@ -20,7 +19,6 @@ mod vectors;
 use super::{Automaton, LookUps};
 use classes::classes_of;
 use hyphenation_breaks::entry::{Entry, Payload};
-use order::nodes_by_depth;
 use rows::cells_of;
 use split::{Split, split_of};
 use std::alloc::{AllocError, Global};
@@ -98,7 +96,7 @@ pub fn make_table<C: Payload>(
     };
     let classes = found.0;
     let quarter = found.1;
-    let order = nodes_by_depth(alloc, automaton)?;
+    let order = automaton.nodes_by_depth(alloc)?;
     let Some(known) = known_of_all(alloc, automaton, &order)? else {
         return Ok(None);
     };

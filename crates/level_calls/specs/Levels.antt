@@ -5,7 +5,7 @@ use Rattle.std.specs.Option.{option_map}
 use Rattle.libhyphen_files.specs.Files.{Rules, rules_of}
 use Rattle.libhyphen_rule.specs.Calls.{Answer, answer_of, text_of_call, plain_digits}
 use Rattle.libhyphen_rule.specs.declared.calls.CallMinima.{CallMinima}
-use Rattle.c_calls.specs.Statuses.{Buffer, Fills, Finds, IsDoneOrRefused, IsUnchanged}
+use Rattle.c_calls.specs.Statuses.{Buffer, Fills, Finds, IsUnchanged}
 use Rattle.level_calls.specs.declared.calls.Asked.{Asked}
 use Rattle.level_calls.specs.declared.changes.LevelChange.{LevelChange}
 use Rattle.level_calls.specs.declared.handle.Handle.{Handle}
@@ -31,13 +31,6 @@ abbrev pub Loads : List ℕ → Option Rules → Option Rules → LevelHead → 
 Loads bytes old new before after zero = (new ≡ Some (rules_of bytes)) × (after ≡ head_of (rules_of bytes))
 Loads bytes old new before after (suc (suc zero)) = (new ≡ old) × (after ≡ before)
 Loads bytes old new before after _ = ⊥
-
--- ---- Tables.
-
--- 3: the handle holds no dictionary. A handle with one has 0 or 2.
-abbrev pub MakesTables : Option Rules → ℕ → Type 0
-MakesTables None status = status ≡ 3
-MakesTables (Some rules) status = IsDoneOrRefused status
 
 -- ---- Minima.
 

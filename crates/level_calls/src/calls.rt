@@ -1,8 +1,9 @@
 //! The calls, for a dictionary that is loaded.
 
-ghost use Rattle.std.specs.Prelude.{◌≡◌, ◌≤◌, ◌<◌, IfOk, length};
-ghost use Rattle.c_calls.specs.Statuses.{into, IsDoneOrRefused};
+ghost use Rattle.std.specs.Prelude.{◌≡◌, ◌⊎◌, ◌≤◌, ◌<◌, IfOk, Some, length};
+ghost use Rattle.c_calls.specs.Statuses.{into};
 ghost use Rattle.libhyphen_files.specs.Files.{rules_of};
+ghost use Rattle.libhyphen_rule.specs.Calls.{plain_answer};
 ghost use Rattle.libhyphen_rule.specs.Found.{answer_view};
 ghost use Rattle.level_calls.specs.Changes.{listed_changes, listed_texts};
 ghost use Rattle.level_calls.specs.Levels.{IsStatus, FillsOne, OneIsShort, Says, FindsText, FindsDigits};
@@ -12,10 +13,11 @@ use crate::buffers::{WordFound, WordSaid, fill_word};
 use crate::changes::{LevelChange, listed_changes, listed_texts};
 use crate::loaded::Loaded;
 use c_calls::buffers::fill_buffer;
-use c_calls::statuses::{BAD_ENDS, DONE, NOT_UTF8, OUT_OF_MEMORY};
+use c_calls::statuses::{BAD_ENDS, NOT_UTF8, OUT_OF_MEMORY};
 use libhyphen_files::LevelDictionary;
 use libhyphen_rule::calls::{
-    CallAnswer, CallMinima, hyphenate, plain_digits, short_digits, write_word as written_word,
+    CallAnswer, CallMinima, hyphenate, plain_digits, short_digits, short_word,
+    write_word as written_word,
 };
 use std::alloc::{AllocError, Global};
 
@@ -38,18 +40,6 @@ pub fn load(alloc: Global, bytes: &[u8]) -> Result<Box<Loaded>, AllocError>
     match Box::new(alloc, Loaded { dictionary }) {
         Ok(boxed) => Ok(boxed),
         Err(_) => Err(AllocError),
-    }
-}
-
-/// Makes the tables by which words are broken faster, for the levels that have none yet and can have one. The result is the
-/// status.
-pub fn make_tables(loaded: &mut Loaded, alloc: Global) -> u32
-    ensures unchanged { loaded.new ≡ loaded.old }
-    ensures status { IsDoneOrRefused result }
-{
-    match loaded.dictionary.make_tables(alloc) {
-        Ok(()) => DONE,
-        Err(_) => OUT_OF_MEMORY,
     }
 }
 
@@ -113,6 +103,35 @@ fn write_any_word(
     fill_word(&found, digits, changes, texts, said)
 }
 
+// Fills three buffers with the answer that has these digits and no changes. The result is the status.
+#[inline(always)]
+fn fill_plain(
+    plain: &[u8],
+    digits: &mut [u8],
+    changes: &mut [LevelChange],
+    texts: &mut [u8],
+    said: &mut WordSaid,
+) -> u32
+    ensures status { (result ≡ 0) ⊎ (result ≡ 1) }
+    ensures digits { FillsOne (digits_in (Some (plain_answer plain.now)))
+        (into digits.old digits.new said.old.digits said.new.digits) result }
+    ensures changes { FillsOne (changes_in (Some (plain_answer plain.now)))
+        (into changes.old changes.new said.old.changes said.new.changes) result }
+    ensures texts { FillsOne (texts_in (Some (plain_answer plain.now)))
+        (into texts.old texts.new said.old.texts said.new.texts) result }
+    ensures short { OneIsShort result (length digits.old < said.new.digits) (length changes.old < said.new.changes)
+        (length texts.old < said.new.texts) }
+    ensures made { Says (made_in (Some (plain_answer plain.now))) said.old.made said.new.made result }
+{
+    let found = WordFound {
+        digits: plain,
+        changes: &[],
+        texts: &[],
+        made: false,
+    };
+    fill_word(&found, digits, changes, texts, said)
+}
+
 /// Writes the digits of a word's characters, the changes of their places, and the texts of the changes, each to a
 /// buffer. It also says how much was found, and whether a change was made. The result is the status.
 pub fn write_word(
@@ -143,13 +162,7 @@ pub fn write_word(
         let mut room = [b'0'; 64];
         let plain = &mut room[..size];
         if let Some(length) = short_digits(dictionary, minima, text, size, plain) {
-            let found = WordFound {
-                digits: &plain[..length],
-                changes: &[],
-                texts: &[],
-                made: false,
-            };
-            return fill_word(&found, digits, changes, texts, said);
+            return fill_plain(&plain[..length], digits, changes, texts, said);
         }
     }
     write_any_word(dictionary, alloc, asked, digits, changes, texts, said)
@@ -175,6 +188,58 @@ pub fn write_text(
         return OUT_OF_MEMORY;
     };
     fill_buffer(&written, buffer, count)
+}
+
+/// Does what [`write_word`] and [`write_text`] do, and breaks most words only once for both. The result is the status of
+/// [`write_word`], and the status of [`write_text`] is written to `told`.
+pub fn write_both(
+    dictionary: &LevelDictionary,
+    alloc: Global,
+    asked: &Asked<'_>,
+    digits: &mut [u8],
+    changes: &mut [LevelChange],
+    texts: &mut [u8],
+    said: &mut WordSaid,
+    buffer: &mut [u8],
+    count: &mut usize,
+    told: &mut u32,
+) -> u32
+    ensures status { IsStatus dictionary.now asked.now.minima asked.now.text.now asked.now.size result }
+    ensures digits { FillsOne (digits_in (answer_to dictionary.now asked.now))
+        (into digits.old digits.new said.old.digits said.new.digits) result }
+    ensures changes { FillsOne (changes_in (answer_to dictionary.now asked.now))
+        (into changes.old changes.new said.old.changes said.new.changes) result }
+    ensures texts { FillsOne (texts_in (answer_to dictionary.now asked.now))
+        (into texts.old texts.new said.old.texts said.new.texts) result }
+    ensures short { OneIsShort result (length digits.old < said.new.digits) (length changes.old < said.new.changes)
+        (length texts.old < said.new.texts) }
+    ensures made { Says (made_in (answer_to dictionary.now asked.now)) said.old.made said.new.made result }
+    ensures text { FindsText dictionary.now asked.now.minima asked.now.text.now asked.now.size
+        (into buffer.old buffer.new count.old count.new) told.new }
+{
+    let Asked { minima, text, size } = *asked;
+    if size > text.len() {
+        *told = BAD_ENDS;
+        return BAD_ENDS;
+    }
+    if size <= 64 {
+        let mut room = [b'0'; 64];
+        let mut marked = [0u8; 128];
+        let plain = &mut room[..size];
+        if let Some((length, bytes)) = short_word(
+            dictionary,
+            minima,
+            text,
+            size,
+            plain,
+            &mut marked,
+        ) {
+            *told = fill_buffer(&marked[..bytes], buffer, count);
+            return fill_plain(&plain[..length], digits, changes, texts, said);
+        }
+    }
+    *told = write_text(dictionary, alloc, asked, buffer, count);
+    write_any_word(dictionary, alloc, asked, digits, changes, texts, said)
 }
 
 /// Writes the digits of a word's bytes by the patterns of the level at the top that change nothing to the front of a

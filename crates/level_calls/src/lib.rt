@@ -9,7 +9,7 @@
 ghost use Rattle.std.specs.Prelude.{◌≡◌, ◌<◌, None, length};
 ghost use Rattle.c_calls.specs.Statuses.{into};
 ghost use Rattle.level_calls.specs.Levels.{holds, Loads, minima_given, answer_by, HasStatus, FillsOne, OneIsShort, Says};
-ghost use Rattle.level_calls.specs.Levels.{digits_in, changes_in, texts_in, made_in, MakesTables, WritesText, WritesDigits};
+ghost use Rattle.level_calls.specs.Levels.{digits_in, changes_in, texts_in, made_in, WritesText, WritesDigits};
 
 pub mod buffers;
 pub mod calls;
@@ -47,20 +47,6 @@ pub fn free(alloc: Global, handle: &mut Handle)
     ensures empty { holds handle.new ≡ None }
 {
     drop(handle.take(alloc));
-}
-
-/// Makes the tables by which words are broken faster, for the levels that have none yet and can have one. The dictionary is
-/// unchanged.
-pub fn make_tables(alloc: Global, handle: &mut Handle) -> u32
-    ensures unchanged { handle.new.slot.kept ≡ handle.old.slot.kept }
-    ensures status { MakesTables (holds handle.old) result }
-{
-    let Some(mut loaded) = handle.take(alloc) else {
-        return NO_DICTIONARY;
-    };
-    let status = calls::make_tables(&mut loaded, alloc);
-    *handle = Handle::of(loaded);
-    status
 }
 
 /// Writes the digits of a word's characters, the changes of their places, and the texts of the changes, each to a
@@ -148,6 +134,68 @@ pub fn write_text(
     };
     let status = calls::write_text(&loaded.dictionary, alloc, &asked, buffer, count);
     *handle = Handle::of(loaded);
+    status
+}
+
+/// Does what [`write_word`] and [`write_text`] do, and breaks most words only once for both. The result is the status of
+/// [`write_word`], and the status of [`write_text`] is written to `told`.
+pub fn write_both(
+    alloc: Global,
+    handle: &mut Handle,
+    given: bool,
+    minima: &LevelMinima,
+    text: &[u8],
+    size: usize,
+    digits: &mut [u8],
+    count: &mut usize,
+    changes: &mut [LevelChange],
+    number: &mut usize,
+    texts: &mut [u8],
+    total: &mut usize,
+    made: &mut bool,
+    buffer: &mut [u8],
+    bytes: &mut usize,
+    told: &mut u32,
+) -> u32
+    ensures unchanged { handle.new.slot.kept ≡ handle.old.slot.kept }
+    ensures status { HasStatus (holds handle.old) (minima_given given minima.now) text.now size result }
+    ensures digits { FillsOne (digits_in (answer_by handle.old given minima.now text.now size))
+        (into digits.old digits.new count.old count.new) result }
+    ensures changes { FillsOne (changes_in (answer_by handle.old given minima.now text.now size))
+        (into changes.old changes.new number.old number.new) result }
+    ensures texts { FillsOne (texts_in (answer_by handle.old given minima.now text.now size))
+        (into texts.old texts.new total.old total.new) result }
+    ensures short { OneIsShort result (length digits.old < count.new) (length changes.old < number.new)
+        (length texts.old < total.new) }
+    ensures made { Says (made_in (answer_by handle.old given minima.now text.now size)) made.old made.new
+        result }
+    ensures text { WritesText (holds handle.old) (minima_given given minima.now) text.now size
+        (into buffer.old buffer.new bytes.old bytes.new) told.new }
+{
+    let Some(loaded) = handle.take(alloc) else {
+        *told = NO_DICTIONARY;
+        return NO_DICTIONARY;
+    };
+    let asked = Asked {
+        minima: minima::minima_given(given, minima),
+        text,
+        size,
+    };
+    let mut said = WordSaid {
+        digits: *count,
+        changes: *number,
+        texts: *total,
+        made: *made,
+    };
+    let dictionary = &loaded.dictionary;
+    let status = calls::write_both(
+        dictionary, alloc, &asked, digits, changes, texts, &mut said, buffer, bytes, told,
+    );
+    *handle = Handle::of(loaded);
+    *count = said.digits;
+    *number = said.changes;
+    *total = said.texts;
+    *made = said.made;
     status
 }
 

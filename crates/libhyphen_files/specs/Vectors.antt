@@ -1,5 +1,5 @@
 -- The digits that a node's own pattern gives, as a vector of the last places.
-use Rattle.std.specs.Prelude.{◌≡◌, ℕ, ◌+◌, ◌<◌, ◌≤◌, ◌==◌, if◌then◌else◌, List, [], ◌∷◌, length, Option, None, Some, option_and_then, slice_get, slice_index, slice_index_or, Bool, false, IfSome}
+use Rattle.std.specs.Prelude.{◌≡◌, ℕ, ◌+◌, ◌<◌, ◌==◌, if◌then◌else◌, List, [], ◌∷◌, length, Option, None, Some, option_and_then, slice_get, slice_index, slice_index_or, Bool, false}
 use Rattle.hyphenation_breaks.specs.Ascii.{digit_zero}
 use Rattle.hyphenation_breaks.specs.Dictionary.{TextMap}
 use Rattle.hyphenation_trie.specs.Steps.{AreSteps}
@@ -43,15 +43,15 @@ pub record IsNumberOf (tree : Tree Pattern) (vectors : List (List ℕ)) (node nu
   pub within : number < length vectors
   pub vector : IsNodeVector tree node (slice_index_or vectors number [])
 
--- The vectors of all nodes, by their numbers: at most 4096, and that of the root is the first. If there is a table of steps,
--- it has these numbers.
-pub record AreVectors (tree : Tree Pattern) (vectors : NodeVectors) : Type 0 where
-  pub nodes : length vectors.numbers.items ≡ length tree.texts
-  pub few : length vectors.vectors.items ≤ 4096
-  pub root : slice_index vectors.numbers.items 0 ≡ 0
+-- The vectors of all nodes, by these numbers, which are those of the table of steps.
+pub record AreVectorsBy (tree : Tree Pattern) (numbers : List ℕ) (vectors : NodeVectors) : Type 0 where
   pub each : (node : ℕ) → node < length tree.texts
-      → IsNumberOf tree vectors.vectors.items node (slice_index vectors.numbers.items node)
-  pub steps : IfSome vectors.steps (λ steps. AreSteps tree vectors.numbers.items steps)
+      → IsNumberOf tree vectors.vectors.items node (slice_index numbers node)
+  pub steps : AreSteps tree numbers vectors.steps
+
+-- The vectors of all nodes, with a table of steps.
+abbrev pub AreVectors : Tree Pattern → NodeVectors → Type 0
+AreVectors tree vectors = (numbers : List ℕ) × AreVectorsBy tree numbers vectors
 
 -- No key begins with the byte.
 abbrev pub BeginsNoKey : TextMap (List Pattern) → ℕ → Type 0

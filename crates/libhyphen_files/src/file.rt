@@ -73,24 +73,6 @@ impl LevelDictionary {
         &self.below
     }
 
-    /// Makes the tables of steps by which words are read faster, each if there is none yet and the steps fit into one.
-    ///
-    /// The contents stay as they are, and so does each answer. A level with 65,536 nodes or more has its table once it
-    /// is loaded. The table of a smaller one takes about half the time of its loading, so it pays for thousands of
-    /// words. The only error is out of memory; the dictionary can be used on as it was.
-    ///
-    /// ```text
-    /// let mut dictionary = load(alloc, bytes)?;
-    /// dictionary.make_tables(alloc)?;
-    /// ```
-    pub fn make_tables(&mut self, alloc: Global) -> Result<(), AllocError>
-        ensures { self.new ≡ self.old }
-    {
-        self.top.make_table(alloc)?;
-        self.below.make_table(alloc)?;
-        Ok(())
-    }
-
     /// Reports whether a byte is one of most words. It is no byte 0, no digit, and begins no text without breaks of the
     /// level at the top.
     #[inline(always)]

@@ -17,7 +17,7 @@ use crate::bytes::before_nul;
 use crate::minima::Minima;
 use crate::pattern::{Spelling, StoredPattern, pattern_of, spell_into, spelt_alone};
 use crate::settings::{setting, texts_without_breaks, without_name};
-use crate::vectors::{NodeVectors, add_steps, first_bytes, has_many_nodes, vectors_of};
+use crate::vectors::{NodeVectors, first_bytes, vectors_of};
 use hyphenation_dictionary::laws::inserted_key_is_added;
 use hyphenation_trie::{Automaton, Trail, Trie};
 use std::alloc::{AllocError, Global};
@@ -37,14 +37,14 @@ pub struct FrozenLevel {
     patterns: Automaton<StoredPattern>,
     // Whether some pattern may have a change.
     has_changes: bool,
-    // The vectors of the nodes.
-    vectors: NodeVectors,
+    // The vectors of the nodes, with a table of steps, if the steps fit into one.
+    vectors: Option<NodeVectors>,
     // For each byte whether it may begin a key.
     first_bytes: [bool; 256],
 }
 
 impl Model for FrozenLevel {
-    ghost use Rattle.std.specs.Prelude.{map, IsFalse};
+    ghost use Rattle.std.specs.Prelude.{map, IfSome, IsFalse};
     ghost use Rattle.hyphenation_dictionary.specs.Parts.{patterns_of};
     ghost use Rattle.hyphenation_trie.specs.Trie.{EachBeginsKey};
     ghost use Rattle.libhyphen_files.specs.Levels.{Level, HasNoChanges};
@@ -63,7 +63,7 @@ impl Model for FrozenLevel {
 
     ghost invariant = { λ l. EachBeginsKey l.patterns
         × (IsFalse l.has_changes → HasNoChanges (patterns_of l.patterns))
-        × AreVectors l.patterns l.vectors × AreFirst (patterns_of l.patterns) l.first_bytes };
+        × IfSome l.vectors (λ vectors. AreVectors l.patterns vectors) × AreFirst (patterns_of l.patterns) l.first_bytes };
 }
 
 impl FrozenLevel {
@@ -92,12 +92,13 @@ impl FrozenLevel {
         &self.patterns
     }
 
-    /// Returns the keys, as [`patterns`](FrozenLevel::patterns) does, and the vectors of the nodes.
+    /// Returns the keys, as [`patterns`](FrozenLevel::patterns) does, and the vectors of the nodes. There are none if the
+    /// steps do not fit into a table.
     #[inline(always)]
-    pub fn patterns_with_vectors(&self) -> (&Automaton<StoredPattern>, &NodeVectors)
+    pub fn patterns_with_vectors(&self) -> (&Automaton<StoredPattern>, &Option<NodeVectors>)
         ensures known { patterns_of result.0.now ≡ self.now.patterns }
         ensures begins { EachBeginsKey result.0.now }
-        ensures vectors { AreVectors result.0.now result.1.now }
+        ensures vectors { IfSome result.1.now (λ vectors. AreVectors result.0.now vectors) }
     {
         (&self.patterns, &self.vectors)
     }
@@ -116,18 +117,6 @@ impl FrozenLevel {
         ensures { IsFalse result → HasNoChanges self.now.patterns }
     {
         self.has_changes
-    }
-
-    // Makes the table by which words are read faster, if there is none yet and there can be one. A level with many
-    // nodes has had its own since it was loaded, or can have none. The only error is out of memory; the level can be
-    // used on as it was.
-    pub(crate) fn make_table(&mut self, alloc: Global) -> Result<(), AllocError>
-        ensures { self.new ≡ self.old }
-    {
-        if has_many_nodes(&self.patterns) {
-            return Ok(());
-        }
-        add_steps(alloc, &self.patterns, &mut self.vectors)
     }
 }
 

@@ -47,19 +47,17 @@ const TRIES: usize = 64;
 // A free slot holds this, which is the number of no vector.
 const FREE: u32 = u32::MAX;
 
-/// The vectors of all nodes. A vector has the digits that a node's own pattern gives to the 16 last places, counted
-/// from 0.
+/// The vectors of all nodes, with a table of steps. A vector has the digits that a node's own pattern gives to the 16
+/// last places, counted from 0.
 ///
 /// If the first lane is 10 or more, nothing is known of the node's pattern. Otherwise it changes no letters, and has
 /// no digits but those of the vector.
 #[derive(Drop)]
 pub struct NodeVectors {
-    /// For each node the number of its vector.
-    pub numbers: Vec<u32>,
     /// The vectors.
     pub vectors: Vec<[u8; 16]>,
-    /// The steps from node to node, with these numbers, if their table is made.
-    pub steps: Option<Steps>,
+    /// The steps from node to node, each with the number of a node's vector.
+    pub steps: Steps,
 }
 
 // Returns the number that a digit writes. `None` if the byte is no digit.
@@ -240,47 +238,19 @@ fn numbered_vectors(
     Ok(Numbered { numbers, vectors })
 }
 
-// A level with that many nodes gets its table of steps when it is loaded. A smaller one is loaded in about two thirds
-// of the time without it.
-const MANY_NODES: usize = 1 << 16;
-
-// Tests whether a level gets its table of steps when it is loaded.
-pub(crate) fn has_many_nodes(patterns: &Automaton<StoredPattern>) -> bool {
-    patterns.nodes() >= MANY_NODES
-}
-
-// Returns the vectors of all nodes. A level with few nodes has no table of steps yet. The only error is out of memory.
+// Returns the vectors of all nodes with a table of steps; `None` if the steps do not fit into one. The only error is out
+// of memory.
 pub(crate) fn vectors_of(
     alloc: Global,
     patterns: &Automaton<StoredPattern>,
-) -> Result<NodeVectors, AllocError>
-    ensures { IfOk result (λ vectors. AreVectors patterns.now vectors) }
+) -> Result<Option<NodeVectors>, AllocError>
+    ensures { IfOk result (λ made. IfSome made (λ vectors. AreVectors patterns.now vectors)) }
 {
     let Numbered { numbers, vectors } = numbered_vectors(alloc, patterns)?;
-    let mut made = NodeVectors {
-        numbers,
-        vectors,
-        steps: None,
+    let Some(steps) = make_steps(alloc, patterns, &numbers)? else {
+        return Ok(None);
     };
-    if has_many_nodes(patterns) {
-        add_steps(alloc, patterns, &mut made)?;
-    }
-    Ok(made)
-}
-
-// Makes the table of steps, if there is none yet and the steps fit into one. The only error is out of memory.
-pub(crate) fn add_steps(
-    alloc: Global,
-    patterns: &Automaton<StoredPattern>,
-    vectors: &mut NodeVectors,
-) -> Result<(), AllocError>
-    requires { AreVectors patterns.now vectors.old }
-    ensures vectors { AreVectors patterns.now vectors.new }
-{
-    if vectors.steps.is_none() {
-        vectors.steps = make_steps(alloc, patterns, &vectors.numbers)?;
-    }
-    Ok(())
+    Ok(Some(NodeVectors { vectors, steps }))
 }
 
 // Reports whether a node's text begins with a byte. Only then may a key.

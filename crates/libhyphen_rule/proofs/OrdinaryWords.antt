@@ -1,20 +1,17 @@
 -- Words of ordinary bytes: libhyphen sees them as they are.
-use Rattle.std.proofs.Common.{◌≡◌, ◌∙◌, ℕ, suc, ◌+◌, ◌<◌, ◌≤◌, Bool, true, false, cond, List, [], ◌∷◌, length, take, get_or, Option, Some, refl, sym, ap, subst, arith}
-use Rattle.std.specs.Prelude.{◌==◌, ◌||◌, ◌&&◌, not, Result, Ok, Err, IfOk, IfSome, None}
+use Rattle.std.proofs.Common.{◌≡◌, ◌∙◌, ℕ, suc, ◌+◌, ◌<◌, ◌≤◌, Bool, true, false, cond, List, [], ◌∷◌, length, take, get_or, Option, refl, sym, ap, subst, arith}
+use Rattle.std.specs.Prelude.{◌==◌, ◌||◌, ◌&&◌, not}
 use Rattle.std.specs.Char.{is_ascii_digit}
 use Rattle.std.specs.List.{list_all, list_any, position_or_len}
 use Rattle.std.proofs.lemmas.Bool.{ne_eqb, or_parts}
 use Rattle.std.proofs.lemmas.Bool.Decides.{nat_tests}
 use Rattle.std.proofs.lemmas.List.{get_or-take, length-take-le, take_all}
 use Rattle.libhyphen_files.specs.Bytes.{before_nul}
-use Rattle.hyphenation_breaks.specs.Dictionary.{TextMap}
 use Rattle.libhyphen_files.specs.Files.{Rules}
 use Rattle.libhyphen_files.specs.Ordinary.{IsOrdinary, may_begin_with}
-use Rattle.libhyphen_files.specs.Patterns.{Pattern}
-use Rattle.libhyphen_files.specs.Vectors.{BeginsNoKey}
-use Rattle.libhyphen_rule.specs.Calls.{digits_kept, found_by_call, taken_digit}
-use Rattle.libhyphen_rule.specs.Private.Ordinary.{AllOrdinary, KeepsDigits}
-use Rattle.libhyphen_rule.specs.Private.Unchanged.{BeginsNone, HasNoDigits, IsUnchanged}
+use Rattle.libhyphen_rule.specs.Calls.{digits_kept, taken_digit}
+use Rattle.libhyphen_rule.specs.Private.Ordinary.{AllOrdinary}
+use Rattle.libhyphen_rule.specs.Private.Unchanged.{HasNoDigits}
 use Rattle.libhyphen_rule.specs.Words.{digits_beside, is_beside}
 use Rattle.libhyphen_rule.specs.declared.calls.CallMinima.{CallMinima}
 use Rattle.libhyphen_rule.proofs.Absent.{digits_stay, not_beside}
@@ -43,16 +40,6 @@ pub ordinary_word : (rules : Rules) (text : List ℕ) (size : ℕ) → size ≤ 
 ordinary_word rules text size within all = λ k l.
     let below : k < size = omega (arith, l, length-take-le size text within) in
     subst (λ (b : ℕ). IsOrdinary rules b) (sym (get_or-take size text k 0 below)) (all k (omega (arith, below, within)))
-
--- Where no key begins in a text's frame, none does in that of its first bytes.
-pub none_of_first : (patterns : TextMap (List Pattern)) (text : List ℕ) (size : ℕ) → size ≤ length text → BeginsNone patterns text
-    → BeginsNone patterns (take size text)
-none_of_first patterns text size within none = record {
-  dotted = none.dotted;
-  each = λ k l.
-      let below : k < size = omega (arith, l, length-take-le size text within) in
-      subst (λ (b : ℕ). BeginsNoKey patterns b) (sym (get_or-take size text k 0 below)) (none.each k (omega (arith, below, within)));
-}
 
 -- Such a text has no digits.
 pub ordinary_digits : (rules : Rules) (text : List ℕ) → AllOrdinary rules text → HasNoDigits text
@@ -101,17 +88,3 @@ pub ordinary_kept : (rules : Rules) (given : Option CallMinima) (text digits : L
 ordinary_kept rules given text digits all within =
     kept_in rules.top.no_hyphen (taken_digit given) text digits within (λ k l. (all k l).begins_no_text)
     ∙ ap (λ (seen : List ℕ). digits_beside rules.top.no_hyphen (taken_digit given) seen digits) (sym (ordinary_seen rules text all))
-
--- The same of a result, where the digits are found without a change.
-pub kept_if : {X E : Type 0} (items : X → List ℕ) (rules : Rules) (given : Option CallMinima) (text : List ℕ) (size : ℕ) (result : Result (Option X) E)
-    → AllOrdinary rules text → size ≤ length text
-    → IfOk result (λ found. IfSome found (λ d. IsUnchanged (found_by_call rules given text size) (items d)))
-    → IfOk result (λ found. IfSome found (λ d. length (items d) ≡ size))
-    → IfOk result (λ found. IfSome found (λ d. KeepsDigits rules given text size (items d)))
-kept_if items rules given text size (Ok (Some d)) all within is long = record {
-  first = items d;
-  found = is;
-  kept = ordinary_kept rules given text (items d) all (omega (arith, long, within));
-}
-kept_if items rules given text size (Ok None) all within is long = tt
-kept_if items rules given text size (Err e) all within is long = tt

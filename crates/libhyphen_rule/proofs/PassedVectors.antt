@@ -6,22 +6,22 @@ use Rattle.hyphenation_dictionary.specs.Laws.{KeysAreLookedUp}
 use Rattle.hyphenation_dictionary.specs.Parts.{patterns_of}
 use Rattle.hyphenation_trie.specs.Laws.{KeysHaveNodes}
 use Rattle.hyphenation_trie.specs.Links.{IsLongest}
-use Rattle.hyphenation_trie.specs.Steps.{IsStepOf}
+use Rattle.hyphenation_trie.specs.Steps.{AreSteps, IsStepOf, StandsFor}
 use Rattle.hyphenation_trie.specs.Trie.{Tree, node_text, IsTrie, EachBeginsKey}
 use Rattle.hyphenation_trie.specs.declared.table.steps.Steps.{Steps}
 use Rattle.libhyphen_files.specs.Patterns.{Pattern}
-use Rattle.libhyphen_files.specs.Vectors.{AreVectors, IsNodeVector, IsNumberOf, pattern_of_node}
+use Rattle.libhyphen_files.specs.Vectors.{AreVectors, AreVectorsBy, IsNodeVector, IsNumberOf, pattern_of_node}
 use Rattle.libhyphen_files.specs.declared.vectors.NodeVectors.{NodeVectors}
 use Rattle.libhyphen_rule.specs.Counting.{Counted, counted_up_to}
-use Rattle.libhyphen_rule.specs.Private.Lanes.{AllKnown, IsFound, IsPassed, TakesVector}
+use Rattle.libhyphen_rule.specs.Private.Lanes.{AllKnown, AtRow, IsFound, IsPassed, TakesVector}
 use Rattle.libhyphen_rule.specs.declared.unchanged.FramePass.{FramePass}
 use Rattle.libhyphen_rule.proofs.LongestStart.{counted_none, counted_some}
 use Rattle.libhyphen_rule.proofs.UnchangedDigits.{taken, found_more}
 
-pub passed_more : (stands : List ℕ → ℕ → Type 0) (tree : Tree Pattern) → IsTrie tree → KeysHaveNodes Pattern → KeysAreLookedUp Pattern → EachBeginsKey tree
+pub passed_more : (tree : Tree Pattern) (vectors : NodeVectors) → IsTrie tree → KeysHaveNodes Pattern → KeysAreLookedUp Pattern → EachBeginsKey tree
     → (frame : List ℕ) (at node : ℕ) (vector : List ℕ) (pass next : FramePass) (list new : List ℕ) → at < length frame → IsLongest tree.texts (take (at + 1) frame) node → IsNodeVector tree node vector
-    → TakesVector vector at pass list next new → stands (take (at + 1) frame) next.place → IsPassed stands tree frame at pass list → IsPassed stands tree frame (at + 1) next new
-passed_more stands tree trie keys looked begins frame at node vector pass next list new lt longest of_node takes there was =
+    → TakesVector vector at pass list next new → AtRow tree vectors (take (at + 1) frame) next.row → IsPassed tree vectors frame at pass list → IsPassed tree vectors frame (at + 1) next new
+passed_more tree vectors trie keys looked begins frame at node vector pass next list new lt longest of_node takes there was =
     let bytes : ℕ = length (node_text tree node) in
     let short : bytes ≤ at + 1 = omega (arith, longest.ends.0, length-take (at + 1) frame) in
     let before : List Counted = counted_up_to (patterns_of tree) frame at in
@@ -35,7 +35,7 @@ passed_more stands tree trie keys looked begins frame at node vector pass next l
     record {
       lanes = takes.lanes;
       seen_lanes = takes.seen_lanes;
-      stands_there = there;
+      at_row = there;
       found = λ all.
           let seen : AllKnown pass.seen = λ lane below. omega (arith, all lane below, takes.seen lane below) in
           let known : AllKnown vector = λ lane below. omega (arith, all lane below, takes.seen lane below) in
@@ -45,9 +45,9 @@ passed_more stands tree trie keys looked begins frame at node vector pass next l
     }
 
 -- the vector that was read by a node's number
-pub vector_read : (tree : Tree Pattern) (vectors : NodeVectors) → AreVectors tree vectors → (node number : ℕ) (vector : List ℕ) → node < length tree.texts → number ≡ slice_index vectors.numbers.items node
+pub vector_read : (tree : Tree Pattern) (numbers : List ℕ) (vectors : NodeVectors) → AreVectorsBy tree numbers vectors → (node number : ℕ) (vector : List ℕ) → node < length tree.texts → number ≡ slice_index numbers node
     → vector ≡ get_or vectors.vectors.items number vector → IsNodeVector tree node vector
-vector_read tree vectors are node number vector lt is read =
+vector_read tree numbers vectors are node number vector lt is read =
     let of : IsNumberOf tree vectors.vectors.items node number = subst (λ (n : ℕ). IsNumberOf tree vectors.vectors.items node n) (sym is) (are.each node lt) in
     subst (λ (v : List ℕ). IsNodeVector tree node v) (sym (read ∙ get_or_default vectors.vectors.items number vector [] of.within)) of.vector
 
@@ -57,3 +57,12 @@ pub step_on : (tree : Tree Pattern) (numbers : List ℕ) (steps : Steps) (frame 
 step_on tree numbers steps frame at byte next number lt read to =
     let more : take (at + 1) frame ≡ take at frame ++ byte ∷ [] = take_more frame at 0 lt ∙ ap (λ (b : ℕ). take at frame ++ b ∷ []) (sym read) in
     subst (λ (x : List ℕ). IsStepOf tree numbers steps x next number) (sym more) to
+
+-- the first row is that of the empty text
+pub first_at : (tree : Tree Pattern) (vectors : NodeVectors) → AreVectors tree vectors → (row : ℕ)
+    → ((numbers : List ℕ) → AreSteps tree numbers vectors.steps → StandsFor tree numbers vectors.steps row []) → AtRow tree vectors [] row
+first_at tree vectors are row first = record {
+  numbers = are.0;
+  are_vectors = are.1;
+  stands = first are.0 are.1.steps;
+}

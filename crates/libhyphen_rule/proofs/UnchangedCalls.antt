@@ -7,13 +7,13 @@ use Rattle.std.proofs.lemmas.List.FromFn.{fill_by_all, length-map-range_with_len
 use Rattle.libhyphen_rule.proofs.ForbiddenPlaces.{digits_but-length}
 use Rattle.libhyphen_files.specs.Bytes.{continues}
 use Rattle.libhyphen_files.specs.Files.{Rules}
-use Rattle.libhyphen_rule.specs.Calls.{Answer, answer_of, answer_of_found, begins_within, changes_in_characters, digits_kept, found_by_call, plain_answer}
+use Rattle.libhyphen_rule.specs.Calls.{Answer, answer_of, answer_of_found, begins_within, changes_in_characters, digits_kept, found_by_call, plain_answer, text_of_call}
 use Rattle.libhyphen_rule.specs.Found.{answer_view, placed, placed_all, placed_or_none}
 use Rattle.libhyphen_rule.specs.Minima.{changes_but, digits_but, left_goes, right_goes, goes_before, goes_after}
 use Rattle.libhyphen_rule.specs.OneLevel.{ChangeAt}
 use Rattle.libhyphen_rule.specs.Parts.{Found, without_left, without_right}
 use Rattle.libhyphen_rule.specs.Private.Unchanged.{IsUnchanged}
-use Rattle.libhyphen_rule.specs.Words.{change_in_characters, changes_of_characters, digits_of_characters, last_bytes}
+use Rattle.libhyphen_rule.specs.Words.{change_in_characters, changes_of_characters, digits_of_characters, last_bytes, written_word}
 use Rattle.libhyphen_rule.specs.declared.calls.CallAnswer.{CallAnswer}
 use Rattle.libhyphen_rule.specs.declared.calls.CallMinima.{CallMinima}
 use Rattle.libhyphen_rule.specs.declared.one_level.PlacedChange.{PlacedChange}
@@ -121,12 +121,6 @@ view_with answer digits changes made d e m long =
     ∙ ap (λ (xs : List ℕ). length xs) (sym d) in
     answer_same _ _ _ _ _ _ d (same_places (length answer.digits.items) answer.changes.items as_many ∙ e) m
 
-view_none : (answer : CallAnswer) (digits : List ℕ) (made : Bool) → answer.digits.items ≡ digits
-    → answer.changes.items ≡ [] → answer.made ≡ made
-    → answer_view answer ≡ answer_with digits (no_changes (length digits)) made
-view_none answer digits made d e m =
-    answer_same _ _ _ _ _ _ d (ap (placed_or_none (length answer.digits.items)) e ∙ ap (λ (xs : List ℕ). no_changes (length xs)) d) m
-
 -- A text in bytes does not begin within a character. One in UTF-8 does not if its first byte begins one.
 pub whole_of_bytes : (rules : Rules) (text : List ℕ) → rules.utf8 ≡ false → begins_within rules text ≡ false
 whole_of_bytes rules text bytes = ap (λ b. b && continues (slice_index text 0)) bytes
@@ -164,23 +158,6 @@ unchanged_by false text size found first digits kept told is same long tells =
     (sym is.not_made)
 
 -- The answer for a word without changes, by the digits that are found.
-pub unchanged_is : (rules : Rules) (given : Option CallMinima) (text : List ℕ) (size : ℕ) (first digits : List ℕ) (answer : CallAnswer)
-    → begins_within rules text ≡ false → IsUnchanged (found_by_call rules given text size) first
-    → digits ≡ digits_kept rules given text first
-    → answer.digits.items ≡ cond rules.utf8 (digits_of_characters (take size text) digits) digits
-    → answer.changes.items ≡ [] → answer.made ≡ false
-    → Some (answer_view answer) ≡ answer_of rules given text size
-unchanged_is rules given text size first digits answer whole is same tells none made =
-    let found : Found = found_by_call rules given text size in
-    let kept : List ℕ = digits_kept rules given text found.digits in
-    let same_kept : digits ≡ kept = same ∙ ap (digits_kept rules given text) (sym is.digits_are) in
-    let long : length kept ≡ length first = length-map-range_with_len _ 0 (length found.digits)
-    ∙ ap (λ (xs : List ℕ). length xs) is.digits_are in
-    ap Some (view_none answer answer.digits.items false refl none made
-    ∙ unchanged_by rules.utf8 text size found first digits kept answer.digits.items is same_kept long tells)
-    ∙ some_answer rules given text size whole
-
--- The same, only by the digits.
 pub plain_is : (rules : Rules) (given : Option CallMinima) (text : List ℕ) (size : ℕ) (first digits told : List ℕ)
     → begins_within rules text ≡ false → IsUnchanged (found_by_call rules given text size) first
     → digits ≡ digits_kept rules given text first
@@ -194,6 +171,31 @@ plain_is rules given text size first digits told whole is same tells =
     ∙ ap (λ (xs : List ℕ). length xs) is.digits_are in
     ap Some (unchanged_by rules.utf8 text size found first digits kept told is same_kept long tells)
     ∙ some_answer rules given text size whole
+
+-- The word without changes, written.
+module _ (rules : Rules) (text : List ℕ) (size : ℕ) (first : List ℕ) (long : length first ≡ length (take size text)) where
+  written_of : (found : Found) (digits : List ℕ) → IsUnchanged found first
+      → written_word (take size text) digits (no_changes (length (take size text))) ≡ written_word (take size text) digits found.changes
+  written_of found digits is = ap (written_word (take size text) digits) (ap no_changes (sym long) ∙ sym is.no_changes)
+
+  pub written_without_minima : (written digits : List ℕ) → IsUnchanged (found_by_call rules None text size) first
+      → written ≡ written_word (take size text) digits (no_changes (length (take size text)))
+      → digits ≡ digits_kept rules None text first
+      → written ≡ text_of_call rules None text size
+  unfolding text_of_call
+  written_without_minima written digits is marked kept =
+      let found : Found = found_by_call rules None text size in
+      marked ∙ written_of found digits is
+      ∙ ap (λ (ds : List ℕ). written_word (take size text) ds found.changes) (kept ∙ ap (digits_kept rules None text) (sym is.digits_are))
+
+  pub written_with_minima : (minima : CallMinima) (written : List ℕ) → IsUnchanged (found_by_call rules (Some minima) text size) first
+      → written ≡ written_word (take size text) first (no_changes (length (take size text)))
+      → written ≡ text_of_call rules (Some minima) text size
+  unfolding text_of_call
+  written_with_minima minima written is marked =
+      let found : Found = found_by_call rules (Some minima) text size in
+      marked ∙ written_of found first is
+      ∙ ap (λ (ds : List ℕ). written_word (take size text) ds found.changes) (sym is.digits_are)
 
 -- The answer in characters.
 pub in_characters_is : (rules : Rules) (given : Option CallMinima) (text : List ℕ) (size : ℕ) (first digits : List ℕ) (changes : List (Option ChangeAt)) (answer : CallAnswer)

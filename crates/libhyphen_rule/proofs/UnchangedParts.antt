@@ -285,13 +285,12 @@ no_digits (b ∷ bs) none =
     ∙ ap (λ xs. b ∷ xs) (no_digits bs (or_parts (is_ascii_digit b) (list_any is_ascii_digit bs) none).1)
 
 -- The same minima and the same digits in other words.
-pub word_unchanged_is : (rules : Rules) (left left' right right' : ℤ) (word behind digits digits' : List ℕ) → left ≡ left' → right ≡ right' → digits' ≡ digits
+pub word_unchanged_is : (rules : Rules) (left left' right right' : ℤ) (word behind digits : List ℕ) → left ≡ left' → right ≡ right'
     → IsUnchanged (word_found rules (record { left = left; right = right }) word behind) digits
-    → IsUnchanged (word_found rules (record { left = left'; right = right' }) word behind) digits'
-word_unchanged_is rules left left' right right' word behind digits digits' of_left of_right of_digits is =
-    subst (λ ds. IsUnchanged (word_found rules (record { left = left'; right = right' }) word behind) ds) (sym of_digits)
-    (subst (λ r. IsUnchanged (word_found rules (record { left = left'; right = r }) word behind) digits) of_right
-    (subst (λ l. IsUnchanged (word_found rules (record { left = l; right = right }) word behind) digits) of_left is))
+    → IsUnchanged (word_found rules (record { left = left'; right = right' }) word behind) digits
+word_unchanged_is rules left left' right right' word behind digits of_left of_right is =
+    subst (λ r. IsUnchanged (word_found rules (record { left = left'; right = r }) word behind) digits) of_right
+    (subst (λ l. IsUnchanged (word_found rules (record { left = l; right = right }) word behind) digits) of_left is)
 
 -- ---- Words in which the level at the top finds nothing.
 

@@ -12,11 +12,12 @@ use Rattle.hyphenation_trie.specs.Trie.{Tree}
 use Rattle.libhyphen_files.specs.Levels.{pattern_at}
 use Rattle.libhyphen_files.specs.Patterns.{Pattern}
 use Rattle.libhyphen_files.specs.Vectors.{BeginsNoKey}
+use Rattle.libhyphen_files.specs.declared.vectors.NodeVectors.{NodeVectors}
 use Rattle.libhyphen_rule.specs.Counting.{Counted, framed, begins_key, longest_start, counted_from, counted_if_key, counted_at, counted_in, counted_up_to}
 use Rattle.libhyphen_rule.specs.OneLevel.{Made, changes_by, digits_by, digit_at, digit_behind, made_up_to, offers}
 use Rattle.libhyphen_rule.specs.Private.Claims.{made_now}
 use Rattle.libhyphen_rule.specs.Private.Digits.{HasDigits}
-use Rattle.libhyphen_rule.specs.Private.Lanes.{AllPlain, IsFound, IsPassed, IsReadWhole}
+use Rattle.libhyphen_rule.specs.Private.Lanes.{AllPlain, AtRow, IsFound, IsPassed, IsReadWhole}
 use Rattle.libhyphen_rule.specs.Private.Unchanged.{BeginsNone, HasNoDigits}
 use Rattle.libhyphen_rule.specs.declared.unchanged.FramePass.{FramePass}
 use Rattle.libhyphen_rule.proofs.PlacedChanges.{none_made}
@@ -53,12 +54,12 @@ none_found patterns frame last list none = record {
   written_digits = λ place lt. absurd (omega arith);
 }
 
-pub none_passed : (stands : List ℕ → ℕ → Type 0) (tree : Tree Pattern) (frame : List ℕ) (pass : FramePass) (list : List ℕ) → stands [] pass.place
-    → length pass.last ≡ 16 → length pass.seen ≡ 16 → ((lane : ℕ) → lane < 16 → slice_index pass.last lane ≡ 0) → IsPassed stands tree frame 0 pass list
-none_passed stands tree frame pass list there lanes seen_lanes none = record {
+pub none_passed : (tree : Tree Pattern) (vectors : NodeVectors) (frame : List ℕ) (pass : FramePass) (list : List ℕ) → AtRow tree vectors [] pass.row
+    → length pass.last ≡ 16 → length pass.seen ≡ 16 → ((lane : ℕ) → lane < 16 → slice_index pass.last lane ≡ 0) → IsPassed tree vectors frame 0 pass list
+none_passed tree vectors frame pass list there lanes seen_lanes none = record {
   lanes = lanes;
   seen_lanes = seen_lanes;
-  stands_there = there;
+  at_row = there;
   found = λ known. none_found (patterns_of tree) frame pass.last list none;
 }
 
@@ -86,15 +87,15 @@ has_digits counted bytes last list digits found inner end byte below = elim (cas
 ]
 
 -- The last byte of the frame is read.
-pub read_whole : (stands : List ℕ → ℕ → Type 0) (tree : Tree Pattern) (word : List ℕ) (at : ℕ) (pass next : FramePass) (list new : List ℕ) → HasNoDigits word → at ≡ length word
-    → IsPassed stands tree (framed word) (at + 1) pass list
-    → ((frame : List ℕ) → length word + 1 < length frame → dot ≡ slice_index frame (length word + 1) → IsPassed stands tree frame (length word + 1) pass list
-    → IsPassed stands tree frame (length word + 1 + 1) next new)
+pub read_whole : (tree : Tree Pattern) (vectors : NodeVectors) (word : List ℕ) (at : ℕ) (pass next : FramePass) (list new : List ℕ) → HasNoDigits word → at ≡ length word
+    → IsPassed tree vectors (framed word) (at + 1) pass list
+    → ((frame : List ℕ) → length word + 1 < length frame → dot ≡ slice_index frame (length word + 1) → IsPassed tree vectors frame (length word + 1) pass list
+    → IsPassed tree vectors frame (length word + 1 + 1) next new)
     → IsReadWhole tree word next new
-read_whole stands tree word at pass next list new plain ends before step =
+read_whole tree vectors word at pass next list new plain ends before step =
     let more : (length word + 1) + 1 ≡ length word + 2 = omega arith in
     let all = step (framed word) (omega (arith, length-framed word)) (frame_end word plain)
-    (subst (λ (k : ℕ). IsPassed stands tree (framed word) (k + 1) pass list) ends before) in
+    (subst (λ (k : ℕ). IsPassed tree vectors (framed word) (k + 1) pass list) ends before) in
     record {
       seen_lanes = all.seen_lanes;
       found = λ known. subst (λ (k : ℕ). IsFound (counted_up_to (patterns_of tree) (framed word) k) k next.last new) more (all.found known);

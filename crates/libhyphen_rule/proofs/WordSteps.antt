@@ -1,5 +1,5 @@
--- Ranges of numbers with one more of them, and what lists made over them are then.
-use Rattle.std.proofs.Common.{◌≡◌, ◌+◌, ◌∙◌, ℕ, Bool, true, false, if◌then◌else◌, List, [], ◌∷◌, ◌++◌, map, refl, sym, ap, arith, append-nil}
+-- Ranges of numbers with one more of them, and what lists made over them are then. Fronts of lists.
+use Rattle.std.proofs.Common.{◌≡◌, ◌+◌, ◌∙◌, ℕ, zero, suc, Bool, true, false, if◌then◌else◌, List, [], ◌∷◌, ◌++◌, map, refl, set, sym, take, ap, arith, append-nil}
 use Rattle.std.specs.Prelude.{◌||◌, filter, fold}
 use Rattle.std.specs.List.{list_any, range_with_len}
 use Rattle.std.proofs.lemmas.List.{map-append, map-id}
@@ -46,3 +46,9 @@ pub any_of_map : {X Y : Type 0} (p : Y → Bool) (f : X → Y) (xs : List X)
     → list_any p (map f xs) ≡ list_any (λ x. p (f x)) xs
 any_of_map p f [] = refl
 any_of_map p f (x ∷ xs) = ap (λ (b : Bool). p (f x) || b) (any_of_map p f xs)
+
+-- The first numbers of a list stay where one behind them is set.
+pub take_before_set : (xs : List ℕ) (k v : ℕ) → take k (set xs k v) ≡ take k xs
+take_before_set [] k v = refl
+take_before_set (x ∷ xs) zero v = refl
+take_before_set (x ∷ xs) (suc k) v = ap (λ (ys : List ℕ). x ∷ ys) (take_before_set xs k v)

@@ -1,26 +1,26 @@
 //! The calls of libhyphen.
 
-ghost use Rattle.std.specs.Prelude.{◌≡◌, ◌<◌, ◌≤◌, ◌++◌, ◌∷◌, [], IfOk, IfSome, IsFalse, IsTrue, None, Some, length};
+ghost use Rattle.std.specs.Prelude.{◌≡◌, ◌*◌, ◌<◌, ◌≤◌, ◌++◌, ◌∷◌, [], IfOk, IfSome, IsFalse, IsTrue, None, Some, length};
 ghost use Rattle.std.specs.Prelude.{replicate, take, drop, slice_index, false, if◌then◌else◌};
 ghost use Rattle.std.specs.Option.{option_map};
 ghost use Rattle.libhyphen_rule.specs.Found.{placed_all, found_of, answer_view};
 ghost use Rattle.libhyphen_files.specs.Bytes.{before_nul, continues};
-ghost use Rattle.libhyphen_rule.specs.Calls.{answer_of, inner_digit, inner_digits, plain_digits, text_of_call};
-ghost use Rattle.libhyphen_rule.specs.Calls.{found_by_call, changes_in_characters, taken_digit, greater, least_of, at_least_two, plain_answer};
+ghost use Rattle.libhyphen_rule.specs.Calls.{answer_of, begins_within, digits_kept, inner_digit, inner_digits, plain_digits};
+ghost use Rattle.libhyphen_rule.specs.Calls.{found_by_call, changes_in_characters, taken_digit, greater, least_of, at_least_two, plain_answer, text_of_call};
 ghost use Rattle.libhyphen_rule.specs.Parts.{without_left, without_right};
-ghost use Rattle.libhyphen_rule.specs.Private.Ordinary.{AllAscii, AllOrdinary, KeepsDigits};
+ghost use Rattle.libhyphen_rule.specs.Private.Ordinary.{AllAscii, AllOrdinary};
 ghost use Rattle.libhyphen_rule.specs.Private.Unchanged.{BeginsNone, HasNoDigits, IsUnchanged};
-ghost use Rattle.libhyphen_rule.specs.Words.{changes_of_characters, digits_beside, digits_of_characters};
+ghost use Rattle.libhyphen_rule.specs.Words.{changes_of_characters, digits_of_characters};
 
 use crate::digits::read_digits;
 use crate::found::WordFound;
 use crate::minima::{take_left, take_right};
 use crate::one_level::PlacedChange;
 use crate::parts::{has_change, word_found};
-use crate::unchanged_parts::{has_digit, read_short_word, word_without_digits};
+use crate::unchanged_parts::{has_digit, read_word};
 use crate::words::{
-    changes_of_characters, digits_of_characters, is_ascii, keep_last_digits, take_beside,
-    written_word,
+    changes_of_characters, digits_of_characters, is_ascii, keep_last_digits, mark_word,
+    take_beside, written_word,
 };
 use libhyphen_files::LevelDictionary;
 use libhyphen_files::bytes::{before_nul, continues};
@@ -197,72 +197,6 @@ fn found_by_call<'d>(
     Ok(without_right(utf8, at_least_two(least.right), word, text, found))
 }
 
-// Returns the digits that both levels find in a word without digits, the first bytes of a text. Those of places too
-// near to its ends are left out. `None` where a pattern counts that may change letters. `seen` is the text up to its
-// first byte 0. The only error is out of memory.
-fn digits_by_call(
-    alloc: Global,
-    dictionary: &LevelDictionary,
-    minima: Option<CallMinima>,
-    text: &[u8],
-    size: usize,
-    seen: &[u8],
-) -> Result<Option<Vec<u8>>, AllocError>
-    requires within { size ≤ length text.now }
-    requires word { HasNoDigits (take size text.now) }
-    requires seen { seen.now ≡ before_nul text.now }
-    ensures found { IfOk result (λ found. IfSome found
-        (λ digits. IsUnchanged (found_by_call dictionary.now minima text.now size) digits.items)) }
-    ensures digits { IfOk result (λ found. IfSome found (λ digits. length digits.items ≡ size)) }
-{
-    let (word, behind) = text.split_at(size);
-    let least = least_of(dictionary.top().minima(), minima);
-    let utf8 = dictionary.is_utf8();
-    let (left, right) = (least.compound_left, least.compound_right);
-    let found = word_without_digits(alloc, dictionary, left, right, word, behind)?;
-    let Some(mut digits) = found else {
-        return Ok(None);
-    };
-    let (left, right) = (at_least_two(least.left), at_least_two(least.right));
-    take_left(utf8, left, seen, &mut digits, &mut []);
-    take_right(utf8, right, word, seen, &mut digits, &mut []);
-    Ok(Some(digits))
-}
-
-// Returns the digits that both levels find in a word, the first bytes of a text. Those of places too near to its ends
-// are left out. `None` where the word has digits, or a pattern counts that may change letters. The only error is out of
-// memory.
-fn unchanged_by_call(
-    alloc: Global,
-    dictionary: &LevelDictionary,
-    minima: Option<CallMinima>,
-    text: &[u8],
-    size: usize,
-) -> Result<Option<Vec<u8>>, AllocError>
-    requires { size ≤ length text.now }
-    ensures found { IfOk result (λ found. IfSome found
-        (λ digits. IsUnchanged (found_by_call dictionary.now minima text.now size) digits.items)) }
-    ensures digits { IfOk result (λ found. IfSome found (λ digits. length digits.items ≡ size)) }
-{
-    if has_digit(&text[..size]) {
-        return Ok(None);
-    }
-    digits_by_call(alloc, dictionary, minima, text, size, before_nul(text))
-}
-
-// Reports whether each byte of a text is one of most words.
-#[inline(always)]
-fn all_ordinary(dictionary: &LevelDictionary, text: &[u8]) -> bool
-    ensures { IsTrue result → AllOrdinary dictionary.now text.now }
-{
-    for byte in text.iter() {
-        if !dictionary.is_ordinary(*byte) {
-            return false;
-        }
-    }
-    true
-}
-
 // The facts that a look at each byte of a text tells.
 #[derive(Clone, Copy)]
 struct Looked {
@@ -297,6 +231,104 @@ fn look_at(dictionary: &LevelDictionary, text: &[u8]) -> Looked
     }
 }
 
+// Finds the digits of both levels in a word without digits, the first bytes of a text, at most 64. Those of places too
+// near to its ends are left out. Returns false, with anything in the list, where the word has to be broken in the
+// general way. `seen` is the text up to its first byte 0. `counts` is whether a pattern of the level at the top may
+// count.
+#[inline(always)]
+fn put_digits_by_call(
+    dictionary: &LevelDictionary,
+    minima: Option<CallMinima>,
+    text: &[u8],
+    size: usize,
+    seen: &[u8],
+    counts: bool,
+    digits: &mut [u8],
+) -> bool
+    requires within { size ≤ length text.now }
+    requires word { HasNoDigits (take size text.now) }
+    requires none { IsFalse counts → BeginsNone dictionary.now.top.patterns (take size text.now) }
+    requires seen { seen.now ≡ before_nul text.now }
+    requires short { size ≤ 64 }
+    requires digits { length digits.old ≡ size }
+    ensures found { IsTrue result → IsUnchanged (found_by_call dictionary.now minima text.now size) digits.new }
+    ensures digits { length digits.new ≡ size }
+{
+    let (word, behind) = text.split_at(size);
+    let least = least_of(dictionary.top().minima(), minima);
+    let utf8 = dictionary.is_utf8();
+    let (left, right) = (least.compound_left, least.compound_right);
+    if !read_word(dictionary, left, right, word, behind, counts, digits) {
+        return false;
+    }
+    let (left, right) = (at_least_two(least.left), at_least_two(least.right));
+    take_left(utf8, left, seen, digits, &mut []);
+    take_right(utf8, right, word, seen, digits, &mut []);
+    true
+}
+
+// Returns a text up to its first byte 0. `None` if the word that it begins has a digit. `ordinary` is whether each byte
+// is known to be neither.
+#[inline(always)]
+fn seen_text(text: &[u8], size: usize, ordinary: bool) -> Option<&[u8]>
+    requires within { size ≤ length text.now }
+    requires ordinary { IsTrue ordinary → HasNoDigits (take size text.now) × (before_nul text.now ≡ text.now) }
+    ensures seen { IfSome result (λ seen. seen.now ≡ before_nul text.now) }
+    ensures word { IfSome result (λ _. HasNoDigits (take size text.now)) }
+{
+    if ordinary {
+        return Some(text);
+    }
+    if has_digit(&text[..size]) {
+        return None;
+    }
+    Some(before_nul(text))
+}
+
+// The facts known of a word whose digits were found by its bytes.
+#[derive(Clone, Copy)]
+struct ShortWord {
+    // No text without breaks begins or ends at a place.
+    apart: bool,
+    // Each byte is a character of ASCII.
+    ascii: bool,
+}
+
+// Finds the digits of both levels in a word of at most 64 bytes, the first bytes of a text. Those of places too near to
+// its ends are left out. `None`, with anything in the list, where the word has to be broken in the general way.
+#[inline(always)]
+fn find_short(
+    dictionary: &LevelDictionary,
+    minima: Option<CallMinima>,
+    text: &[u8],
+    size: usize,
+    digits: &mut [u8],
+) -> Option<ShortWord>
+    requires within { size ≤ length text.now }
+    requires short { size ≤ 64 }
+    requires digits { length digits.old ≡ size }
+    ensures whole { IfSome result (λ _. begins_within dictionary.now text.now ≡ false) }
+    ensures found { IfSome result (λ _.
+        IsUnchanged (found_by_call dictionary.now minima text.now size) digits.new) }
+    ensures apart { IfSome result (λ word. IsTrue word.apart
+        → digits.new ≡ digits_kept dictionary.now minima text.now digits.new) }
+    ensures ascii { IfSome result (λ word. IsTrue word.ascii → AllAscii (take size text.now)) }
+    ensures digits { length digits.new ≡ size }
+{
+    if dictionary.is_utf8() && begins_within(text) {
+        return None;
+    }
+    let looked = look_at(dictionary, text);
+    let seen = seen_text(text, size, looked.ordinary)?;
+    if !put_digits_by_call(dictionary, minima, text, size, seen, looked.counts, digits) {
+        return None;
+    }
+    Some(ShortWord {
+        apart: looked.ordinary,
+        ascii: looked.ascii,
+    })
+}
+
 // Takes the places away beside which a text without breaks begins or ends, in the first bytes of a text, a word.
 fn take_kept(
     dictionary: &LevelDictionary,
@@ -304,8 +336,7 @@ fn take_kept(
     text: &[u8],
     digits: &mut [u8],
 )
-    ensures { digits.new
-        ≡ digits_beside dictionary.now.top.no_hyphen (taken_digit minima) (before_nul text.now) digits.old }
+    ensures { digits.new ≡ digits_kept dictionary.now minima text.now digits.old }
 {
     let instead = match minima {
         None => b'0',
@@ -319,63 +350,21 @@ fn take_kept(
     );
 }
 
-// Returns the digits of a call for each byte of a word, the first bytes of a text; `None` where a pattern counts that
-// may change letters, or the word has digits. Beside a text of ordinary bytes is no text without breaks. The only error
-// is out of memory.
-fn kept_digits(
-    alloc: Global,
-    dictionary: &LevelDictionary,
-    minima: Option<CallMinima>,
-    text: &[u8],
-    size: usize,
-) -> Result<Option<Vec<u8>>, AllocError>
-    requires { size ≤ length text.now }
-    ensures kept { IfOk result (λ found. IfSome found
-        (λ digits. KeepsDigits dictionary.now minima text.now size digits.items)) }
-    ensures digits { IfOk result (λ found. IfSome found (λ digits. length digits.items ≡ size)) }
-{
-    if all_ordinary(dictionary, text) {
-        return digits_by_call(alloc, dictionary, minima, text, size, text);
-    }
-    let Some(mut plain) = unchanged_by_call(alloc, dictionary, minima, text, size)? else {
-        return Ok(None);
-    };
-    take_kept(dictionary, minima, text, &mut plain);
-    Ok(Some(plain))
-}
-
-// Finds the digits of both levels in a word without digits, the first bytes of a text, at most 64. Those of places too
-// near to its ends are left out. Returns false, with anything in the list, where a pattern counts that may change
-// letters. The text has no byte 0. `counts` is whether a pattern of the level at the top may count.
+// Takes these places away in a word whose digits were found by its bytes.
 #[inline(always)]
-fn put_digits_by_call(
+fn take_short(
     dictionary: &LevelDictionary,
     minima: Option<CallMinima>,
     text: &[u8],
-    size: usize,
-    counts: bool,
+    word: ShortWord,
     digits: &mut [u8],
-) -> bool
-    requires within { size ≤ length text.now }
-    requires word { HasNoDigits (take size text.now) }
-    requires none { IsFalse counts → BeginsNone dictionary.now.top.patterns (take size text.now) }
-    requires seen { text.now ≡ before_nul text.now }
-    requires short { size ≤ 64 }
-    requires digits { length digits.old ≡ size }
-    ensures found { IsTrue result → IsUnchanged (found_by_call dictionary.now minima text.now size) digits.new }
-    ensures digits { length digits.new ≡ size }
+)
+    requires { IsTrue word.apart → digits.old ≡ digits_kept dictionary.now minima text.now digits.old }
+    ensures { digits.new ≡ digits_kept dictionary.now minima text.now digits.old }
 {
-    let (word, behind) = text.split_at(size);
-    let least = least_of(dictionary.top().minima(), minima);
-    let utf8 = dictionary.is_utf8();
-    let (left, right) = (least.compound_left, least.compound_right);
-    if !read_short_word(dictionary, left, right, word, behind, counts, digits) {
-        return false;
+    if !word.apart {
+        take_kept(dictionary, minima, text, digits);
     }
-    let (left, right) = (at_least_two(least.left), at_least_two(least.right));
-    take_left(utf8, left, text, digits, &mut []);
-    take_right(utf8, right, word, text, digits, &mut []);
-    true
 }
 
 // Leaves of the digits of a word's bytes those of its characters, at the front of the list. Returns how many there are.
@@ -399,8 +388,8 @@ fn keep_digits(utf8: bool, ascii: bool, word: &[u8], digits: &mut [u8]) -> usize
 /// anything in the list, where [`hyphenate`] must be asked. No memory is taken.
 ///
 /// The answer of [`hyphenate`] has these digits then, and no changes. The word has at most 64 bytes, and the list a
-/// place for each. The result is `None` if the text has a digit or the first byte of a text without breaks. It is also
-/// `None` if a pattern counts that may change letters.
+/// place for each. The result is `None` if the word has a digit or begins within a character, if a pattern counts that
+/// may change letters, and if a level has no table of steps.
 ///
 /// ```text
 /// let dictionary = load(alloc, b"UTF-8\nr5kin\n")?;
@@ -421,15 +410,76 @@ pub fn short_digits(
     ensures count { IfSome result (λ count. count ≤ size) }
     ensures digits { length digits.new ≡ size }
 {
-    let utf8 = dictionary.is_utf8();
-    let looked = look_at(dictionary, text);
-    if utf8 && begins_within(text) || !looked.ordinary {
-        return None;
-    }
-    if !put_digits_by_call(dictionary, minima, text, size, looked.counts, digits) {
-        return None;
-    }
-    Some(keep_digits(utf8, looked.ascii, &text[..size], digits))
+    let word = find_short(dictionary, minima, text, size, digits)?;
+    take_short(dictionary, minima, text, word, digits);
+    Some(keep_digits(dictionary.is_utf8(), word.ascii, &text[..size], digits))
+}
+
+// Writes a short word with its breaks to the front of a list, and takes the places away beside texts without breaks: where
+// minima are given, the word is written before that. Returns how many bytes are written.
+#[inline(always)]
+fn mark_short(
+    dictionary: &LevelDictionary,
+    minima: Option<CallMinima>,
+    text: &[u8],
+    size: usize,
+    word: ShortWord,
+    digits: &mut [u8],
+    written: &mut [u8],
+) -> usize
+    requires within { size ≤ length text.now }
+    requires found { IsUnchanged (found_by_call dictionary.now minima text.now size) digits.old }
+    requires apart { IsTrue word.apart → digits.old ≡ digits_kept dictionary.now minima text.now digits.old }
+    requires digits { length digits.old ≡ size }
+    requires room { 2 * size ≤ length written.old }
+    ensures digits { digits.new ≡ digits_kept dictionary.now minima text.now digits.old }
+    ensures text { take result written.new ≡ text_of_call dictionary.now minima text.now size }
+    ensures count { result ≤ 2 * size }
+    ensures length { length written.new ≡ length written.old }
+{
+    let Some(given) = minima else {
+        take_short(dictionary, None, text, word, digits);
+        return mark_word(&text[..size], digits, written);
+    };
+    let count = mark_word(&text[..size], digits, written);
+    take_short(dictionary, Some(given), text, word, digits);
+    count
+}
+
+/// Writes what [`short_digits`] writes, and to the front of another list the word as [`write_word`] gives it. Returns how
+/// many digits and how many bytes these are; `None`, with anything in the lists, where [`hyphenate`] and [`write_word`]
+/// must be asked. No memory is taken.
+///
+/// The word has at most 64 bytes. The first list has a place for each of them, and the second one two or more.
+///
+/// ```text
+/// let dictionary = load(alloc, b"UTF-8\nr5kin\n")?;
+/// short_word(&dictionary, None, b"firkin", 6, &mut digits, &mut written)    // Some((6, 7)): 000500 and fir=kin
+/// ```
+pub fn short_word(
+    dictionary: &LevelDictionary,
+    minima: Option<CallMinima>,
+    text: &[u8],
+    size: usize,
+    digits: &mut [u8],
+    written: &mut [u8],
+) -> Option<(usize, usize)>
+    requires within { size ≤ length text.now }
+    requires short { size ≤ 64 }
+    requires digits { length digits.old ≡ size }
+    requires room { 2 * size ≤ length written.old }
+    ensures answer { IfSome result
+        (λ counts. Some (plain_answer (take counts.0 digits.new)) ≡ answer_of dictionary.now minima text.now size) }
+    ensures text { IfSome result
+        (λ counts. take counts.1 written.new ≡ text_of_call dictionary.now minima text.now size) }
+    ensures counts { IfSome result (λ counts. (counts.0 ≤ size) × (counts.1 ≤ 2 * size)) }
+    ensures digits { length digits.new ≡ size }
+    ensures written { length written.new ≡ length written.old }
+{
+    let word = find_short(dictionary, minima, text, size, digits)?;
+    let bytes = mark_short(dictionary, minima, text, size, word, digits, written);
+    let count = keep_digits(dictionary.is_utf8(), word.ascii, &text[..size], digits);
+    Some((count, bytes))
 }
 
 // Returns the changes of a word's characters. The word is the first bytes of a text. The only error is out of memory.
@@ -484,31 +534,6 @@ fn answer_in_characters<'d>(
     })
 }
 
-// Returns the answer for a word without changes, by the digits of its bytes. The only error is out of memory.
-fn unchanged_answer<'d>(
-    alloc: Global,
-    utf8: bool,
-    word: &[u8],
-    digits: Vec<u8>,
-) -> Result<CallAnswer<'d>, AllocError>
-    requires { length digits.items ≡ length word.now }
-    ensures digits { IfOk result (λ answer. answer.digits.items
-        ≡ (if utf8 then digits_of_characters word.now digits.items else digits.items)) }
-    ensures changes { IfOk result (λ answer. answer.changes.items ≡ []) }
-    ensures made { IfOk result (λ answer. answer.made ≡ false) }
-{
-    let digits = if utf8 && !is_ascii(word) {
-        digits_of_characters(alloc, word, &digits)?
-    } else {
-        digits
-    };
-    Ok(CallAnswer {
-        digits,
-        changes: Vec::new(alloc),
-        made: false,
-    })
-}
-
 /// Breaks a word: the first bytes of a text. The text behind it counts for minima and texts without breaks, as it
 /// does for libhyphen.
 ///
@@ -535,10 +560,6 @@ pub fn hyphenate<'d>(
     let utf8 = dictionary.is_utf8();
     if utf8 && begins_within(text) {
         return Ok(None);
-    }
-    if let Some(plain) = kept_digits(alloc, dictionary, minima, text, size)? {
-        let answer = unchanged_answer(alloc, utf8, &text[..size], plain)?;
-        return Ok(Some(answer));
     }
     let WordFound {
         mut digits,

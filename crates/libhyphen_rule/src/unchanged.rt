@@ -1,31 +1,29 @@
 //! Words in which no pattern counts that changes letters: their digits, found in one pass without a look at changes.
 //!
-//! The pass reads one cell of a table of steps for each byte of the word's frame. Where there is no table, it steps
-//! from node to node of the automaton. Each node has a vector: the digits that its own pattern gives to the 16 last
-//! places, counted from 0. The pass keeps the digits of these places in one register. With each byte it moves them by
-//! one place, raises them to those of the vector, and writes them to a list. A digit that is moved out of the register
-//! is written for good, since no pattern that ends later gives one so far back.
+//! The pass reads one cell of a table of steps for each byte of the word's frame. The cell has the number of a vector:
+//! the digits that one node's own pattern gives to the 16 last places, counted from 0. The pass keeps the digits of
+//! these places in one register. With each byte it moves them by one place, raises them to those of the vector, and
+//! writes them to a list. A digit that is moved out of the register is written for good, since no pattern that ends
+//! later gives one so far back.
 //!
 //! A vector with a lane above 9 does not tell the node's pattern. The pass goes on then, and its digits are not used.
+//! Such a word, a longer one than 64 bytes, and one of a level without a table are left to the general way.
 
 ghost use Rattle.std.specs.Prelude.{◌≡◌, ℕ, List, ◌+◌, ◌%◌, ◌<◌, ◌≤◌, max, None, IfSome, IsTrue, IsFalse, false, true};
 ghost use Rattle.std.specs.Prelude.{drop, length, replicate, slice_index, take};
 ghost use Rattle.std.specs.List.{list_any};
 ghost use Rattle.hyphenation_breaks.specs.Ascii.{digit_zero};
 ghost use Rattle.hyphenation_dictionary.specs.Parts.{patterns_of};
-ghost use Rattle.hyphenation_trie.specs.Steps.{AreSteps};
 ghost use Rattle.hyphenation_trie.specs.Trie.{EachBeginsKey};
 ghost use Rattle.libhyphen_files.specs.Vectors.{AreVectors};
 ghost use Rattle.libhyphen_rule.specs.OneLevel.{changes_by, digits_by, is_odd, level_changes, level_digits};
-ghost use Rattle.libhyphen_rule.specs.Private.Lanes.{AllKnown, AtNode, AtRow, IsReadWhole, PassesByte, TakesVector};
+ghost use Rattle.libhyphen_rule.specs.Private.Lanes.{AllKnown, AtRow, IsReadWhole, PassesByte, TakesVector};
 ghost use Rattle.libhyphen_rule.specs.Private.Unchanged.{BeginsNone, HasNoDigits};
 
 use crate::digits::clear;
-use crate::parts::has_break;
 use hyphenation_dictionary::laws::keys_are_looked_up;
-use hyphenation_trie::laws::{keys_have_nodes, longest_goes_on};
-use hyphenation_trie::table::steps::Steps;
-use hyphenation_trie::{Automaton, LookUps};
+use hyphenation_trie::Automaton;
+use hyphenation_trie::laws::keys_have_nodes;
 use libhyphen_files::level::FrozenLevel;
 use libhyphen_files::pattern::StoredPattern;
 use libhyphen_files::vectors::NodeVectors;
@@ -75,11 +73,11 @@ fn all_known(seen: u8x16) -> bool
     seen.simd_gt(u8x16::splat(9)).to_bitmask() == 0
 }
 
-// A frame of which some bytes are read. It has the node of the longest text there, or the row for it, and the digits of
-// the 16 last places. For each lane it has the greatest number of all vectors that were met.
+// A frame of which some bytes are read. It has the row for their text, and the digits of the 16 last places. For each
+// lane it has the greatest number of all vectors that were met.
 #[derive(Clone, Copy, Drop)]
 struct FramePass {
-    place: usize,
+    row: usize,
     last: u8x16,
     seen: u8x16,
 }
@@ -88,7 +86,7 @@ struct FramePass {
 #[inline(always)]
 fn passed_vector(
     pass: FramePass,
-    place: usize,
+    row: usize,
     vector: &[u8; 16],
     list: &mut [u8],
     at: usize,
@@ -96,22 +94,22 @@ fn passed_vector(
     requires lanes { (length pass.last ≡ 16) × (length pass.seen ≡ 16) × (length vector.now ≡ 16) }
     requires room { at + 16 ≤ length list.old }
     ensures takes { TakesVector vector.now at pass list.old result list.new }
-    ensures place { result.place ≡ place }
+    ensures row { result.row ≡ row }
     ensures room { length list.new ≡ length list.old }
 {
     let vector = u8x16::from_array(*vector);
     let last = greater(moved(pass.last), vector);
     store(last, list, at);
     FramePass {
-        place,
+        row,
         last,
         seen: greater(pass.seen, vector),
     }
 }
 
-// Reads one byte more of a frame, by a step from node to node.
+// Reads one byte more of a frame.
 #[inline(always)]
-fn passed_by_links(
+fn passed_byte(
     patterns: &Automaton<StoredPattern>,
     vectors: &NodeVectors,
     pass: FramePass,
@@ -120,153 +118,37 @@ fn passed_by_links(
     at: usize,
 ) -> FramePass
     requires begins { EachBeginsKey patterns.now }
-    requires vectors { AreVectors patterns.now vectors.now }
-    requires node { pass.place < length patterns.now.texts }
+    requires row { (text : List ℕ) × AtRow patterns.now vectors.now text pass.row }
     requires lanes { (length pass.last ≡ 16) × (length pass.seen ≡ 16) }
     requires room { at + 16 ≤ length list.old }
-    ensures passed { PassesByte (AtNode patterns.now) patterns.now at byte pass list.old result list.new }
-    ensures room { length list.new ≡ length list.old }
-{
-    patterns.invariant();
-    keys_have_nodes::<StoredPattern>();
-    longest_goes_on::<StoredPattern>();
-    keys_are_looked_up::<StoredPattern>();
-    let node = patterns.step(pass.place, byte, &mut LookUps::new());
-    let number = vectors.numbers[node] as usize;
-    passed_vector(pass, node, &vectors.vectors[number], list, at)
-}
-
-// Reads one byte more of a frame, by a table of steps.
-#[inline(always)]
-fn passed_by_steps(
-    patterns: &Automaton<StoredPattern>,
-    vectors: &NodeVectors,
-    steps: &Steps,
-    pass: FramePass,
-    byte: u8,
-    list: &mut [u8],
-    at: usize,
-) -> FramePass
-    requires begins { EachBeginsKey patterns.now }
-    requires vectors { AreVectors patterns.now vectors.now }
-    requires row { (text : List ℕ) × AtRow patterns.now vectors.now steps.now text pass.place }
-    requires lanes { (length pass.last ≡ 16) × (length pass.seen ≡ 16) }
-    requires room { at + 16 ≤ length list.old }
-    ensures passed { PassesByte (AtRow patterns.now vectors.now steps.now) patterns.now at byte pass list.old result list.new }
+    ensures passed { PassesByte patterns.now vectors.now at byte pass list.old result list.new }
     ensures room { length list.new ≡ length list.old }
 {
     patterns.invariant();
     keys_have_nodes::<StoredPattern>();
     keys_are_looked_up::<StoredPattern>();
-    let (row, number) = steps.step(patterns, pass.place, byte);
+    let (row, number) = vectors.steps.step(patterns, pass.row, byte);
     passed_vector(pass, row, &vectors.vectors[number], list, at)
-}
-
-// Puts the digits of a word's places, by the list in which they are counted from 0. The place behind the last byte has
-// none.
-#[inline(always)]
-fn put_digits(list: &[u8], digits: &mut [u8])
-    requires room { length digits.old + 16 ≤ length list.now }
-    requires known { (byte : ℕ) → byte + 1 < length digits.old → slice_index list.now (byte + 16) < 10 }
-    ensures inner { (byte : ℕ) → byte + 1 < length digits.old
-        → slice_index digits.new byte ≡ digit_zero + slice_index list.now (byte + 16) }
-    ensures last { (byte : ℕ) → byte + 1 ≡ length digits.old → slice_index digits.new byte ≡ digit_zero }
-    ensures length { length digits.new ≡ length digits.old }
-{
-    if digits.is_empty() {
-        return;
-    }
-    let inner = digits.len() - 1;
-    for byte in 0..inner {
-        digits[byte] = list[byte + 16] + b'0';
-    }
-    digits[inner] = b'0';
-}
-
-// Reads the frame of a word without digits, by steps from node to node.
-#[inline(always)]
-fn read_by_links(
-    patterns: &Automaton<StoredPattern>,
-    vectors: &NodeVectors,
-    word: &[u8],
-    list: &mut [u8],
-) -> FramePass
-    requires begins { EachBeginsKey patterns.now }
-    requires vectors { AreVectors patterns.now vectors.now }
-    requires word { HasNoDigits word.now }
-    requires list { length word.now + 18 ≤ length list.old }
-    ensures read { IsReadWhole patterns.now word.now result list.new }
-    ensures room { length list.new ≡ length list.old }
-{
-    patterns.invariant();
-    let none = u8x16::splat(0);
-    let start = FramePass {
-        place: patterns.root(),
-        last: none,
-        seen: none,
-    };
-    let mut pass = passed_by_links(patterns, vectors, start, b'.', list, 0);
-    for at in 0..word.len() {
-        pass = passed_by_links(patterns, vectors, pass, word[at], list, at + 1);
-    }
-    passed_by_links(patterns, vectors, pass, b'.', list, word.len() + 1)
 }
 
 // Returns the row of a text, in a table of steps.
 #[inline(always)]
-fn row_of(
-    patterns: &Automaton<StoredPattern>,
-    vectors: &NodeVectors,
-    steps: &Steps,
-    text: &[u8],
-) -> usize
-    requires steps { AreSteps patterns.now vectors.now.numbers.items steps.now }
-    ensures { AtRow patterns.now vectors.now steps.now text.now result }
+fn row_of(patterns: &Automaton<StoredPattern>, vectors: &NodeVectors, text: &[u8]) -> usize
+    requires vectors { AreVectors patterns.now vectors.now }
+    ensures { AtRow patterns.now vectors.now text.now result }
 {
-    let mut row = steps.first_row(patterns);
+    let mut row = vectors.steps.first_row(patterns);
     for byte in text.iter() {
-        row = steps.step(patterns, row, *byte).0;
+        row = vectors.steps.step(patterns, row, *byte).0;
     }
     row
 }
 
-// Reads the frame of a word without digits, by a table of steps.
+// Reads the frame of a word without digits.
 //
 // Before that it looks for the row of the word's end, and puts a byte of its number where nothing reads it. Each row is
 // known when the one before it is read, and a large table is in no near cache. So the two ways wait for memory at once,
 // and the rows of the second one are mostly those that the end of the first one needs.
-#[inline(always)]
-fn read_by_steps(
-    patterns: &Automaton<StoredPattern>,
-    vectors: &NodeVectors,
-    steps: &Steps,
-    word: &[u8],
-    list: &mut [u8],
-) -> FramePass
-    requires begins { EachBeginsKey patterns.now }
-    requires vectors { AreVectors patterns.now vectors.now }
-    requires steps { AreSteps patterns.now vectors.now.numbers.items steps.now }
-    requires word { HasNoDigits word.now }
-    requires list { length word.now + 18 ≤ length list.old }
-    ensures read { IsReadWhole patterns.now word.now result list.new }
-    ensures room { length list.new ≡ length list.old }
-{
-    let ahead = row_of(patterns, vectors, steps, &word[word.len() / 3..]);
-    list[word.len() + 17] = (ahead % 256) as u8;
-    let none = u8x16::splat(0);
-    let start = FramePass {
-        place: steps.first_row(patterns),
-        last: none,
-        seen: none,
-    };
-    let mut pass = passed_by_steps(patterns, vectors, steps, start, b'.', list, 0);
-    for at in 0..word.len() {
-        pass = passed_by_steps(patterns, vectors, steps, pass, word[at], list, at + 1);
-    }
-    passed_by_steps(patterns, vectors, steps, pass, b'.', list, word.len() + 1)
-}
-
-// Reads the frame of a word without digits.
 #[inline(always)]
 fn read_whole(
     patterns: &Automaton<StoredPattern>,
@@ -281,39 +163,19 @@ fn read_whole(
     ensures read { IsReadWhole patterns.now word.now result list.new }
     ensures room { length list.new ≡ length list.old }
 {
-    match &vectors.steps {
-        Some(steps) => read_by_steps(patterns, vectors, steps, word, list),
-        None => read_by_links(patterns, vectors, word, list),
+    let ahead = row_of(patterns, vectors, &word[word.len() / 3..]);
+    list[word.len() + 17] = (ahead % 256) as u8;
+    let none = u8x16::splat(0);
+    let start = FramePass {
+        row: vectors.steps.first_row(patterns),
+        last: none,
+        seen: none,
+    };
+    let mut pass = passed_byte(patterns, vectors, start, b'.', list, 0);
+    for at in 0..word.len() {
+        pass = passed_byte(patterns, vectors, pass, word[at], list, at + 1);
     }
-}
-
-// Finds the digits of a word's places by some patterns, in one pass over the word's frame. Returns false where a
-// pattern counts that may change letters. The word has no digits.
-#[inline(always)]
-fn read_frame(
-    patterns: &Automaton<StoredPattern>,
-    vectors: &NodeVectors,
-    word: &[u8],
-    list: &mut [u8],
-    digits: &mut [u8],
-) -> bool
-    requires begins { EachBeginsKey patterns.now }
-    requires vectors { AreVectors patterns.now vectors.now }
-    requires word { HasNoDigits word.now }
-    requires list { length word.now + 18 ≤ length list.old }
-    requires digits { length digits.old ≡ length word.now }
-    ensures digits { IsTrue result → digits.new ≡ digits_by (patterns_of patterns.now) word.now }
-    ensures changes { IsTrue result
-        → changes_by (patterns_of patterns.now) word.now ≡ replicate (length word.now) None }
-    ensures list_length { length list.new ≡ length list.old }
-    ensures digits_length { length digits.new ≡ length digits.old }
-{
-    let pass = read_whole(patterns, vectors, word, list);
-    if !all_known(pass.seen) {
-        return false;
-    }
-    put_digits(list, digits);
-    true
+    passed_byte(patterns, vectors, pass, b'.', list, word.len() + 1)
 }
 
 // Makes numbers the digits that write them, each modulo 256.
@@ -382,12 +244,12 @@ fn put_short(list: &mut [u8; 96], digits: &mut [u8]) -> bool
     has_odd(list, inner)
 }
 
-// Finds the digits of a word's places by some patterns, as `read_frame` does, in a word of at most 64 bytes. Returns
-// whether some digit is odd; `None` where a pattern counts that may change letters.
+// Finds the digits of a word's places by some patterns, in one pass over the word's frame. Returns whether some digit
+// is odd; `None` where a pattern counts that may change letters. The word has no digits, and at most 64 bytes.
 //
-// The list is its own. Nothing else leads to it, so the compiler keeps in registers where the tables are.
+// Nothing else leads to the list, so the compiler keeps in registers where the tables are.
 #[inline(always)]
-fn read_short_frame(
+fn read_frame(
     patterns: &Automaton<StoredPattern>,
     vectors: &NodeVectors,
     word: &[u8],
@@ -412,37 +274,6 @@ fn read_short_frame(
     Some(put_short(&mut list, digits))
 }
 
-// Finds the digits of a word's places by some patterns, in one pass over the word's frame. Returns whether some digit
-// is odd; `None` where a pattern counts that may change letters. The word has no digits.
-#[inline(always)]
-fn read_any_frame(
-    patterns: &Automaton<StoredPattern>,
-    vectors: &NodeVectors,
-    word: &[u8],
-    list: &mut [u8],
-    digits: &mut [u8],
-) -> Option<bool>
-    requires begins { EachBeginsKey patterns.now }
-    requires vectors { AreVectors patterns.now vectors.now }
-    requires word { HasNoDigits word.now }
-    requires list { length word.now + 18 ≤ length list.old }
-    requires digits { length digits.old ≡ length word.now }
-    ensures digits { IfSome result (λ _. digits.new ≡ digits_by (patterns_of patterns.now) word.now) }
-    ensures changes { IfSome result (λ _.
-        changes_by (patterns_of patterns.now) word.now ≡ replicate (length word.now) None) }
-    ensures odd { IfSome result (λ odd. odd ≡ list_any is_odd digits.new) }
-    ensures list_length { length list.new ≡ length list.old }
-    ensures digits_length { length digits.new ≡ length digits.old }
-{
-    if word.len() <= 64 {
-        return read_short_frame(patterns, vectors, word, digits);
-    }
-    if !read_frame(patterns, vectors, word, list, digits) {
-        return None;
-    }
-    Some(has_break(digits))
-}
-
 // Reports whether some byte of a word's frame may begin a key. The word has no digits.
 #[inline(always)]
 pub(crate) fn may_count(level: &FrozenLevel, word: &[u8]) -> bool
@@ -460,24 +291,16 @@ pub(crate) fn may_count(level: &FrozenLevel, word: &[u8]) -> bool
 }
 
 // Finds the digits of a word's places by one level: for each byte of the word that of the place behind it. Returns
-// whether some digit is odd; `None`, with anything in the lists, where a pattern counts that may change letters. The
-// word has no digits.
-//
-// The first list is room to work in, 18 bytes longer than the word or more.
+// whether some digit is odd; `None`, with anything in the list, where a pattern counts that may change letters, or the
+// level has no table of steps. The word has no digits, and at most 64 bytes.
 #[inline(always)]
-pub(crate) fn read_unchanged(
-    level: &FrozenLevel,
-    word: &[u8],
-    list: &mut [u8],
-    digits: &mut [u8],
-) -> Option<bool>
+pub(crate) fn read_unchanged(level: &FrozenLevel, word: &[u8], digits: &mut [u8]) -> Option<bool>
     requires word { HasNoDigits word.now }
-    requires list { length word.now + 18 ≤ length list.old }
+    requires short { length word.now ≤ 64 }
     requires digits { length digits.old ≡ length word.now }
     ensures digits { IfSome result (λ _. digits.new ≡ level_digits level.now word.now) }
     ensures changes { IfSome result (λ _. level_changes level.now word.now ≡ replicate (length word.now) None) }
     ensures odd { IfSome result (λ odd. odd ≡ list_any is_odd digits.new) }
-    ensures list_length { length list.new ≡ length list.old }
     ensures digits_length { length digits.new ≡ length digits.old }
 {
     if !may_count(level, word) {
@@ -485,5 +308,8 @@ pub(crate) fn read_unchanged(
         return Some(false);
     }
     let (patterns, vectors) = level.patterns_with_vectors();
-    read_any_frame(patterns, vectors, word, list, digits)
+    let Some(vectors) = vectors else {
+        return None;
+    };
+    read_frame(patterns, vectors, word, digits)
 }

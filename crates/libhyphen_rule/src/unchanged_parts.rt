@@ -1,20 +1,19 @@
-//! Compounds in which no pattern counts that changes letters. A part is then some bytes of the word, so nothing is
-//! copied.
+//! Compounds of at most 64 bytes in which no pattern counts that changes letters. A part is then some bytes of the word,
+//! so nothing is copied.
 
-ghost use Rattle.std.specs.Prelude.{◌≡◌, ◌⊎◌, ◌+◌, ◌≤◌, [], IfOk, IfSome, IsFalse, IsTrue, length};
+ghost use Rattle.std.specs.Prelude.{◌≡◌, ◌⊎◌, ◌≤◌, [], IfSome, IsFalse, IsTrue, length};
 ghost use Rattle.std.specs.Char.{is_ascii_digit};
 ghost use Rattle.std.specs.List.{list_any};
 ghost use Rattle.libhyphen_rule.specs.Found.{asked_in, minima_of};
-ghost use Rattle.libhyphen_rule.specs.Parts.{found_in, word_found};
+ghost use Rattle.libhyphen_rule.specs.Parts.{found_in};
 ghost use Rattle.libhyphen_rule.specs.Private.Unchanged.{BeginsNone, HasNoDigits, IsUnchanged};
 ghost use Rattle.libhyphen_rule.specs.Private.UnchangedParts.{FindsBelow, IsUnchangedWord, LeavesLeft, LeavesRight, part_unchanged};
 
 use crate::minima::{take_left, take_right};
 use crate::parts::{AskedText, BothLevels, MOST_DEPTH, ends_part};
-use crate::unchanged::{may_count, read_unchanged};
+use crate::unchanged::read_unchanged;
 use libhyphen_files::LevelDictionary;
 use libhyphen_files::bytes::before_nul;
-use std::alloc::{AllocError, Global};
 
 // Reports whether a word has a digit.
 pub(crate) fn has_digit(word: &[u8]) -> bool
@@ -63,25 +62,17 @@ fn take_right_end(levels: BothLevels<'_>, asked: AskedText<'_>, digits: &mut [u8
 }
 
 // Finds the digits of a text in which the level at the top finds no break and no change. Returns false, with anything
-// in the lists, where a pattern of the level below counts that may change letters.
-//
-// The first list is room to work in.
+// in the list, where the level below has to be asked in the general way. The text has no digits, and at most 64 bytes.
 #[inline(always)]
-fn unchanged_below(
-    levels: BothLevels<'_>,
-    asked: AskedText<'_>,
-    list: &mut [u8],
-    digits: &mut [u8],
-) -> bool
+fn unchanged_below(levels: BothLevels<'_>, asked: AskedText<'_>, digits: &mut [u8]) -> bool
     requires text { HasNoDigits asked.text.now }
+    requires short { length asked.text.now ≤ 64 }
     requires behind { IsFalse asked.at_left ⊎ IsFalse asked.at_right → asked.behind.now ≡ [] }
-    requires list { length asked.text.now + 18 ≤ length list.old }
     requires digits { length digits.old ≡ length asked.text.now }
     ensures found { IsTrue result → FindsBelow levels.entry asked.entry digits.new }
-    ensures list_length { length list.new ≡ length list.old }
     ensures digits_length { length digits.new ≡ length digits.old }
 {
-    let Some(_) = read_unchanged(levels.dictionary.below(), asked.text, list, digits) else {
+    let Some(_) = read_unchanged(levels.dictionary.below(), asked.text, digits) else {
         return false;
     };
     take_left_end(levels, asked, digits);
@@ -104,21 +95,18 @@ fn part_of(whole: AskedText<'_>, begin: usize, end: usize) -> AskedText<'_>
 }
 
 // Finds the digits of a text by both levels. Its parts are parted again, up to a depth, and while more parts may be
-// asked. Returns how many more may be asked then; `None`, with anything in the lists, where a pattern counts that may
-// change letters.
-//
-// The first list is room to work in, 18 bytes longer than the text or more. The text has no digits.
+// asked. Returns how many more may be asked then; `None`, with anything in the list, where a level has to be asked in
+// the general way. The text has no digits, and at most 64 bytes.
 fn unchanged_in(
     levels: BothLevels<'_>,
     depth: usize,
     parts: usize,
     asked: AskedText<'_>,
-    list: &mut [u8],
     digits: &mut [u8],
 ) -> Option<usize>
     requires text { HasNoDigits asked.text.now }
+    requires short { length asked.text.now ≤ 64 }
     requires behind { IsFalse asked.at_left ⊎ IsFalse asked.at_right → asked.behind.now ≡ [] }
-    requires list { length asked.text.now + 18 ≤ length list.old }
     requires digits { length digits.old ≡ length asked.text.now }
     ensures found { IfSome result (λ _.
         IsUnchanged (found_in levels.entry.dictionary.now (minima_of levels.entry) depth parts (asked_in asked.entry))
@@ -126,12 +114,11 @@ fn unchanged_in(
     ensures parts { IfSome result (λ left.
         (found_in levels.entry.dictionary.now (minima_of levels.entry) depth parts (asked_in asked.entry)).parts
         ≡ left) }
-    ensures list_length { length list.new ≡ length list.old }
     ensures digits_length { length digits.new ≡ length digits.old }
 {
-    let parted = read_unchanged(levels.dictionary.top(), asked.text, list, digits)?;
+    let parted = read_unchanged(levels.dictionary.top(), asked.text, digits)?;
     if !parted {
-        if !unchanged_below(levels, asked, list, digits) {
+        if !unchanged_below(levels, asked, digits) {
             return None;
         }
         return Some(parts);
@@ -152,7 +139,6 @@ fn unchanged_in(
                 depth - 1,
                 left - 1,
                 part,
-                list,
                 &mut digits[begin..byte + 1],
             )?;
             digits[byte - 1] = before;
@@ -163,79 +149,13 @@ fn unchanged_in(
     Some(left)
 }
 
-// Finds the digits of a word that has none itself. Returns false, with anything in the lists, where a pattern counts
-// that may change letters. `counts` is whether a pattern of the level at the top may count.
-//
-// The first list is room to work in.
-#[inline(always)]
-fn read_word(
-    levels: BothLevels<'_>,
-    word: &[u8],
-    behind: &[u8],
-    counts: bool,
-    list: &mut [u8],
-    digits: &mut [u8],
-) -> bool
-    requires word { HasNoDigits word.now }
-    requires none { IsFalse counts → BeginsNone levels.dictionary.now.top.patterns word.now }
-    requires list { length word.now + 18 ≤ length list.old }
-    requires digits { length digits.old ≡ length word.now }
-    ensures found { IsTrue result
-        → IsUnchanged (word_found levels.entry.dictionary.now (minima_of levels.entry) word.now behind.now) digits.new }
-    ensures list_length { length list.new ≡ length list.old }
-    ensures digits_length { length digits.new ≡ length digits.old }
-{
-    let asked = AskedText {
-        text: word,
-        behind,
-        at_left: true,
-        at_right: true,
-    };
-    if !counts {
-        return unchanged_below(levels, asked, list, digits);
-    }
-    unchanged_in(levels, MOST_DEPTH, word.len(), asked, list, digits).is_some()
-}
-
-// Returns the digits of a word by both levels, before the minima of the whole word; `None` where a pattern counts that
-// may change letters. The word has no digits. `behind` is what follows it; `left` and `right` are the least numbers of
-// letters in its parts. The only error is out of memory.
-pub(crate) fn word_without_digits(
-    alloc: Global,
-    dictionary: &LevelDictionary,
-    left: i32,
-    right: i32,
-    word: &[u8],
-    behind: &[u8],
-) -> Result<Option<Vec<u8>>, AllocError>
-    requires { HasNoDigits word.now }
-    ensures found { IfOk result (λ found. IfSome found
-        (λ digits. IsUnchangedWord dictionary.now left right word.now behind.now digits.items)) }
-    ensures digits { IfOk result (λ found. IfSome found (λ digits. length digits.items ≡ length word.now)) }
-{
-    let levels = BothLevels {
-        dictionary,
-        left,
-        right,
-    };
-    let counts = may_count(dictionary.top(), word);
-    let mut digits = vec![in alloc; b'0'; word.len()]?;
-    let is_found = if word.len() <= 64 {
-        let mut list = [0u8; 96];
-        read_word(levels, word, behind, counts, &mut list, &mut digits)
-    } else {
-        let mut list = vec![in alloc; 0u8; word.len() + 18]?;
-        read_word(levels, word, behind, counts, &mut list, &mut digits)
-    };
-    if is_found { Ok(Some(digits)) } else { Ok(None) }
-}
-
 // Finds the digits of a word by both levels, before the minima of the whole word. Returns false, with anything in the
-// list, where a pattern counts that may change letters. The word has at most 64 bytes, and no digits. `behind` is what
-// follows it; `left` and `right` are the least numbers of letters in its parts. `counts` is whether a pattern of the
-// level at the top may count.
+// list, where a level has to be asked in the general way.
+//
+// The word has at most 64 bytes, and no digits. `behind` is what follows it; `left` and `right` are the least numbers
+// of letters in its parts. `counts` is whether a pattern of the level at the top may count.
 #[inline(always)]
-pub(crate) fn read_short_word(
+pub(crate) fn read_word(
     dictionary: &LevelDictionary,
     left: i32,
     right: i32,
@@ -256,6 +176,14 @@ pub(crate) fn read_short_word(
         left,
         right,
     };
-    let mut list = [0u8; 96];
-    read_word(levels, word, behind, counts, &mut list, digits)
+    let asked = AskedText {
+        text: word,
+        behind,
+        at_left: true,
+        at_right: true,
+    };
+    if !counts {
+        return unchanged_below(levels, asked, digits);
+    }
+    unchanged_in(levels, MOST_DEPTH, word.len(), asked, digits).is_some()
 }

@@ -1,6 +1,6 @@
 //! The last steps over a whole word: texts beside which no break is, the word written with its breaks, and characters.
 
-ghost use Rattle.std.specs.Prelude.{◌≡◌, ◌<◌, ◌≤◌, ◌==◌, ℕ, false, List, [], ◌∷◌, nat_lt, length, map, option_map, take};
+ghost use Rattle.std.specs.Prelude.{◌≡◌, ◌<◌, ◌≤◌, ◌==◌, ◌*◌, ℕ, false, List, [], ◌∷◌, nat_lt, length, map, option_map, replicate, take, None};
 ghost use Rattle.std.specs.Prelude.{slice_index_or, slice_range, IfOk, OnOk};
 ghost use Rattle.std.specs.List.{list_all, list_any};
 ghost use Rattle.libhyphen_rule.specs.Found.{placed, placed_all};
@@ -135,6 +135,25 @@ pub(crate) fn written_word(
         }
     }
     Ok(written)
+}
+
+// Writes a word with an equals sign at each odd place to the front of a list. Returns how many bytes are written.
+#[inline(always)]
+pub(crate) fn mark_word(word: &[u8], digits: &[u8], written: &mut [u8]) -> usize
+    requires digits { length digits.now ≡ length word.now }
+    requires room { 2 * length word.now ≤ length written.old }
+    ensures text { take result written.new ≡ written_word word.now digits.now (replicate (length word.now) None) }
+    ensures count { result ≤ 2 * length word.now }
+    ensures length { length written.new ≡ length written.old }
+{
+    let mut count = 0;
+    for byte in 0..word.len() {
+        // The next byte takes the place of an equals sign that does not count. So no branch depends on the digits.
+        written[count] = word[byte];
+        written[count + 1] = b'=';
+        count += 1 + usize::from(digits[byte] % 2);
+    }
+    count
 }
 
 // Reports whether each byte of a word is a character of ASCII.

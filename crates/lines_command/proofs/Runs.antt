@@ -137,16 +137,16 @@ not_among options dictionary bytes_of left (name ∷ names) failure never (inr (
     not_among options dictionary bytes_of (left_after left name) names failure never among
 
 -- Where the first of the inputs that are left fails, it is among all that fails so.
-pub first_fails : {X : Type 0} (options : ParsedOptions) (dictionary given : AnyDictionary) (bytes_of : KnownFiles) (first : Option (List ℕ)) (all : List (List ℕ))
+pub first_fails : {X : Type 0} (options : ParsedOptions) (dictionary : AnyDictionary) (bytes_of : KnownFiles) (first : Option (List ℕ)) (all : List (List ℕ))
     (left : Option (List ℕ)) (name : List ℕ) (names rest : List (List ℕ)) (page : List ℕ) (failure returned : Failure) (result : Result X Failure)
-    → rest ≡ name ∷ names → given ≡ dictionary → GoesOn options dictionary bytes_of first all left rest page
-    → IsFailureOfText options given bytes_of left name failure → result ≡ Err returned → returned ≡ failure
+    → rest ≡ name ∷ names → GoesOn options dictionary bytes_of first all left rest page
+    → IsFailureOfText options dictionary bytes_of left name failure → result ≡ Err returned → returned ≡ failure
     → IfErr result (IsFailureAmong options dictionary bytes_of first all)
-first_fails options dictionary given bytes_of first all left name names rest page failure returned result more kept so_far fails is same =
+first_fails options dictionary bytes_of first all left name names rest page failure returned result more so_far fails is same =
     subst (λ r. IfErr r (IsFailureAmong options dictionary bytes_of first all)) (sym is)
     (subst (λ f. IsFailureAmong options dictionary bytes_of first all f) (sym same)
     (so_far.fails failure (subst (λ n. IsFailureAmong options dictionary bytes_of left n failure) (sym more)
-    (inl (subst (λ d. IsFailureOfText options d bytes_of left name failure) kept fails)))))
+    (inl fails))))
 
 -- A failure of an input is one of the program.
 pub input_fails : (parsed : ParsedArgs) (dictionary : AnyDictionary) (bytes_of : KnownFiles) (folders : List (List ℕ)) (left : Option (List ℕ)) (failure : Failure)

@@ -20,26 +20,10 @@ use command_line::dictionaries::load_dictionary;
 use command_line::inputs::{read_text, shown_name};
 use command_line::{Failure, InputRefusal, NamedFiles};
 use hyphenation_hyphenator::hyphenator::Hyphenator;
-use paragraphs::{Aim, FillError, fill_text};
+use paragraphs::{FillError, fill_text};
 use std::alloc::{AllocError, Global};
 use std::io::{Read, Write};
 use written_texts::fill_written;
-
-// Makes the table of a dictionary if it pays for the lines of a text. Where they are filled one by one, few words are
-// broken.
-fn make_table_for_lines(
-    dictionary: &mut AnyDictionary,
-    alloc: Global,
-    text: &str,
-    aim: Aim,
-) -> Result<(), AllocError>
-    ensures { dictionary.new ≡ dictionary.old }
-{
-    if matches!(aim, Aim::Even { .. }) {
-        let _made = dictionary.make_table_for(alloc, text.len())?;
-    }
-    Ok(())
-}
 
 // Returns the lines of a text.
 fn filled<'h, H: Hyphenator<'h>>(
@@ -127,20 +111,18 @@ fn push_input<F: NamedFiles, I: Read>(
     files: &F,
     alloc: Global,
     options: &Options<'_>,
-    dictionary: &mut AnyDictionary,
+    dictionary: &AnyDictionary,
     name: &str,
     input: &mut I,
     page: &mut String,
 ) -> Result<(), Failure>
-    ensures kept { dictionary.new ≡ dictionary.old }
-    ensures added { OnOk result (AddsTo (parsed_options options.now) dictionary.old (F.bytes files.now)
+    ensures added { OnOk result (AddsTo (parsed_options options.now) dictionary.now (F.bytes files.now)
         (I.remaining input.old) name.now page.old page.new) }
-    ensures failure { IfErr result (IsFailureOfText (parsed_options options.now) dictionary.old (F.bytes files.now)
+    ensures failure { IfErr result (IsFailureOfText (parsed_options options.now) dictionary.now (F.bytes files.now)
         (I.remaining input.old) name.now) }
     ensures unread { is_standard_input name.now ≡ false → input.new ≡ input.old }
 {
     let text = read_text(files, alloc, name, input)?;
-    make_table_for_lines(dictionary, alloc, &text, options.aim())?;
     match lines_of(alloc, dictionary, options, &text) {
         Ok(lines) => {
             push_lines(&lines, page)?;
@@ -156,13 +138,13 @@ fn page_of<F: NamedFiles, I: Read>(
     files: &F,
     alloc: Global,
     options: &Options<'_>,
-    dictionary: &mut AnyDictionary,
+    dictionary: &AnyDictionary,
     names: &[&str],
     input: &mut I,
 ) -> Result<String, Failure>
-    ensures pages { IfOk result (HasAllPages (parsed_options options.now) dictionary.old (F.bytes files.now)
+    ensures pages { IfOk result (HasAllPages (parsed_options options.now) dictionary.now (F.bytes files.now)
         (I.remaining input.old) names.now) }
-    ensures failure { IfErr result (IsFailureAmong (parsed_options options.now) dictionary.old (F.bytes files.now)
+    ensures failure { IfErr result (IsFailureAmong (parsed_options options.now) dictionary.now (F.bytes files.now)
         (I.remaining input.old) (texts_now names.now)) }
     ensures unread { list_any is_standard_input (texts_now names.now) ≡ false → input.new ≡ input.old }
 {
@@ -202,13 +184,13 @@ pub fn run<F: NamedFiles, I: Read, O: Write>(
     ensures dictionary_first { IfErr result (BeforeReading (input.new ≡ input.old)) }
     ensures untouched { IfErr result (λ failure. (failure ≡ Failure.Output) ⊎ (output.new ≡ output.old)) }
 {
-    let mut dictionary = load_dictionary(files, alloc, folders, request.dictionary)?;
+    let dictionary = load_dictionary(files, alloc, folders, request.dictionary)?;
     standard_breaks_are_plain(&dictionary);
     let page = page_of(
         files,
         alloc,
         &request.options,
-        &mut dictionary,
+        &dictionary,
         &request.inputs,
         input,
     )?;

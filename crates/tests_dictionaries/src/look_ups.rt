@@ -7,14 +7,11 @@ use std::test::Fail;
 use test_support::dictionaries::load;
 use test_support::expect_equal_in;
 
-// The numbers of look-ups and of reports of scoring a word by the table of the dictionary of a text. Without a table
-// both are 0.
+// The numbers of look-ups and of reports of scoring a word by the table of the dictionary of a text.
 fn counts_by_table(alloc: Global, text: &str, word: &str) -> Result<(u128, u128), Fail> {
-    let mut dictionary: Standard = load(alloc, text)?;
+    let dictionary: Standard = load(alloc, text)?;
     let mut count = LookUps::new();
-    if dictionary.make_table(alloc)? {
-        let _values = dictionary.score_counted(alloc, word, &mut count)?;
-    }
+    let _values = dictionary.score_counted(alloc, word, &mut count)?;
     Ok((count.made(), count.reported()))
 }
 

@@ -1,13 +1,14 @@
-//! Which dictionaries can have a table, and for which texts one is made.
+//! Which dictionaries have a table.
 
 use any_dictionary::AnyDictionary;
+use hyphenation_dictionary::search::patterns_of;
 use std::alloc::Global;
 use std::test::Fail;
-use test_support::dictionaries::{FIRKIN, load};
+use test_support::dictionaries::load;
 use test_support::expect_equal_in;
 
-// Each row has its sentence, the text of a dictionary, and whether the dictionary can have a table.
-const CAN_HAVE: &[(&str, &str, bool)] = &[
+// Each row has its sentence, the text of a dictionary, and whether the dictionary has a table.
+const HAS_TABLE: &[(&str, &str, bool)] = &[
     (
         "few keys",
         "hyphenation 1 standard\nlanguage x\nminima 0 0\np .fi2\np i2r\np r2k\np r5kin\np k1in\np k2in.\n",
@@ -105,33 +106,19 @@ const CAN_HAVE: &[(&str, &str, bool)] = &[
     ),
 ];
 
-// Whether the dictionary of a text has a table, whether one is made, and whether it has one then.
-fn tables_of(alloc: Global, text: &str) -> Result<(bool, bool, bool), Fail> {
-    let mut dictionary: AnyDictionary = load(alloc, text)?;
-    let before = dictionary.has_table();
-    let made = dictionary.make_table(alloc)?;
-    Ok((before, made, dictionary.has_table()))
+// Whether the dictionary of a text has a table.
+fn has_table(alloc: Global, text: &str) -> Result<bool, Fail> {
+    let dictionary: AnyDictionary = load(alloc, text)?;
+    Ok(match &dictionary {
+        AnyDictionary::Standard(standard) => patterns_of(standard).1.is_some(),
+        AnyDictionary::Extended(extended) => patterns_of(extended).1.is_some(),
+    })
 }
 
 #[test]
-fn a_dictionary_whose_values_are_near_their_ends_can_have_a_table(
-    rt: HostRuntime,
-) -> Result<(), Fail> {
-    for (shows, text, can) in CAN_HAVE {
-        expect_equal_in(*shows, &tables_of(rt.alloc(), text)?, &(false, *can, *can))?;
+fn a_dictionary_whose_values_are_near_their_ends_has_a_table(rt: HostRuntime) -> Result<(), Fail> {
+    for (shows, text, has) in HAS_TABLE {
+        expect_equal_in(*shows, &has_table(rt.alloc(), text)?, has)?;
     }
     Ok(())
-}
-
-// Whether a table is made for a text of so many bytes. The patterns have 14 nodes: the root, and the beginnings of keys,
-// such as `.`, `.f` and `.fi`.
-fn has_table_for(alloc: Global, bytes: usize) -> Result<bool, Fail> {
-    let mut dictionary: AnyDictionary = load(alloc, FIRKIN)?;
-    Ok(dictionary.make_table_for(alloc, bytes)?)
-}
-
-#[test]
-fn a_table_is_made_for_texts_of_four_bytes_for_each_node(rt: HostRuntime) -> Result<(), Fail> {
-    expect_equal_in("55 bytes", &has_table_for(rt.alloc(), 55)?, &false)?;
-    expect_equal_in("56 bytes", &has_table_for(rt.alloc(), 56)?, &true)
 }

@@ -19,7 +19,7 @@ use std::alloc::{AllocError, Global};
 use std::io::{Read, Write};
 use text_results::files::ReplaceFiles;
 use text_results::results::write_results;
-use text_results::texts::{bytes_of, push, read_texts};
+use text_results::texts::{push, read_texts};
 
 // Returns the result of a text.
 fn result_of(
@@ -63,17 +63,16 @@ fn results_by<F: NamedFiles, I: Read>(
     files: &F,
     alloc: Global,
     request: &Request<'_>,
-    dictionary: &mut AnyDictionary,
+    dictionary: &AnyDictionary,
     input: &mut I,
 ) -> Result<Vec<String>, Failure>
-    ensures results { IfOk result (λ results. HasResultsBy request.now dictionary.old (F.bytes files.now)
+    ensures results { IfOk result (λ results. HasResultsBy request.now dictionary.now (F.bytes files.now)
         (I.remaining input.old) results.items) }
     ensures failure { IfErr result
         (IsFailureAmong (F.bytes files.now) (I.remaining input.old) (texts_now request.now.inputs.items)) }
     ensures unread { list_any is_standard_input (texts_now request.now.inputs.items) ≡ false → input.new ≡ input.old }
 {
     let texts = read_texts(files, alloc, &request.inputs, input)?;
-    let _made = dictionary.make_table_for(alloc, bytes_of(&texts))?;
     let results = results_of_texts(alloc, dictionary, &request.options, &texts)?;
     Ok(results)
 }
@@ -95,7 +94,7 @@ fn results_of<F: NamedFiles, I: Read>(
     ensures dictionary_first { IfErr result (BeforeReading (input.new ≡ input.old)) }
 {
     match load_dictionary(files, alloc, folders, request.dictionary) {
-        Ok(mut dictionary) => results_by(files, alloc, request, &mut dictionary, input),
+        Ok(dictionary) => results_by(files, alloc, request, &dictionary, input),
         Err(failure) => Err(failure),
     }
 }

@@ -47,8 +47,8 @@ pub fn read_texts<F: NamedFiles, I: Read>(
     Ok(texts)
 }
 
-/// Returns the number of bytes of texts, or `usize::MAX` if it is greater.
-pub fn bytes_of(texts: &[String]) -> usize {
+// Returns the number of bytes of texts, or `usize::MAX` if it is greater.
+pub(crate) fn bytes_of(texts: &[String]) -> usize {
     let mut bytes: usize = 0;
     for text in texts {
         bytes = bytes.saturating_add(text.len());

@@ -52,7 +52,6 @@ _load_dic = _declare(_LONG, "load_dic", c_uint32, *_TEXT, c_uint32, c_uint32, *_
 _load_patterns = _declare(_LONG, "load_patterns", POINTER(_Patterns), _HANDLE, POINTER(_Fault))
 _free = _declare(_SHORT, "free", _HANDLE, result=None)
 _share = _declare(_SHORT, "share", _HANDLE, _HANDLE)
-_make_table = _declare(_SHORT, "make_table", _HANDLE)
 _edit = _declare(_SHORT, "edit", _HANDLE, *_TEXT)
 _language = _declare(_SHORT, "language", _HANDLE, *_BUFFER)
 _minima = _declare(_SHORT, "minima", _HANDLE, POINTER(c_size_t), POINTER(c_size_t))
@@ -177,9 +176,6 @@ class Handle:
 
     def close(self) -> None:
         _free(self._at)
-
-    def make_table(self) -> None:
-        _check(_make_table(self._at))
 
     def edit(self, edit: bytes) -> None:
         _check(_edit(self._at, edit, len(edit)))

@@ -8,7 +8,6 @@ ghost use Rattle.std.specs.Prelude.{◌≡◌, ◌<◌, ℕ, List, [], length, s
 ghost use Rattle.hyphenation_trie.specs.Steps.{AreSteps, StandsFor, StepsBy};
 
 use super::classes::classes_of;
-use super::order::nodes_by_depth;
 use super::rows::cells_of;
 use super::split::{Split, split_of};
 use crate::Automaton;
@@ -70,7 +69,7 @@ pub fn make_steps<E: Drop>(
     };
     let classes = found.0;
     let quarter = found.1;
-    let order = nodes_by_depth(alloc, automaton)?;
+    let order = automaton.nodes_by_depth(alloc)?;
     let split = split_of(numbers);
     let Some(cells) = cells_of(alloc, automaton, &order, numbers, &classes, quarter, split)? else {
         return Ok(None);

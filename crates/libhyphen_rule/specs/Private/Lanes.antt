@@ -2,11 +2,10 @@
 use Rattle.std.specs.Prelude.{◌≡◌, ℕ, ◌+◌, ◌<◌, max, List, [], ◌∷◌, length, take, slice_index, None}
 use Rattle.hyphenation_breaks.specs.Ascii.{digit_zero}
 use Rattle.hyphenation_dictionary.specs.Parts.{patterns_of}
-use Rattle.hyphenation_trie.specs.Links.{IsLongest}
 use Rattle.hyphenation_trie.specs.Steps.{StandsFor}
 use Rattle.hyphenation_trie.specs.Trie.{Tree}
-use Rattle.hyphenation_trie.specs.declared.table.steps.Steps.{Steps}
 use Rattle.libhyphen_files.specs.Patterns.{Pattern}
+use Rattle.libhyphen_files.specs.Vectors.{AreVectorsBy}
 use Rattle.libhyphen_files.specs.declared.vectors.NodeVectors.{NodeVectors}
 use Rattle.libhyphen_rule.specs.Counting.{Counted, counted_up_to, framed}
 use Rattle.libhyphen_rule.specs.OneLevel.{offers, digit_at}
@@ -33,27 +32,24 @@ pub record IsFound (counted : List Counted) (bytes : ℕ) (last list : List ℕ)
   pub digits : (lane : ℕ) → lane < 16 → slice_index last lane < 10
   pub written_digits : (place : ℕ) → place < bytes → slice_index list (place + 14) < 10
 
--- A pass is at a node: the longest that ends the text.
-abbrev pub AtNode : Tree Pattern → List ℕ → ℕ → Type 0
-AtNode tree text place = IsLongest tree.texts text place
-
--- A pass is at the row of the text, in a table of steps.
-abbrev pub AtRow : Tree Pattern → NodeVectors → Steps → List ℕ → ℕ → Type 0
-AtRow tree vectors steps text place = StandsFor tree vectors.numbers.items steps place text
+-- The row is that of the text, in the table of steps to these vectors.
+pub record AtRow (tree : Tree Pattern) (vectors : NodeVectors) (text : List ℕ) (row : ℕ) : Type 0 where
+  pub numbers : List ℕ
+  pub are_vectors : AreVectorsBy tree numbers vectors
+  pub stands : StandsFor tree numbers vectors.steps row text
 
 -- The first bytes of a frame are read. The digits are known if all vectors that were met are.
-pub record IsPassed (stands : List ℕ → ℕ → Type 0) (tree : Tree Pattern) (frame : List ℕ) (bytes : ℕ) (pass : FramePass) (list : List ℕ)
-    : Type 0 where
+pub record IsPassed (tree : Tree Pattern) (vectors : NodeVectors) (frame : List ℕ) (bytes : ℕ) (pass : FramePass) (list : List ℕ) : Type 0 where
   pub lanes : length pass.last ≡ 16
   pub seen_lanes : length pass.seen ≡ 16
-  pub stands_there : stands (take bytes frame) pass.place
+  pub at_row : AtRow tree vectors (take bytes frame) pass.row
   pub found : AllKnown pass.seen → IsFound (counted_up_to (patterns_of tree) frame bytes) bytes pass.last list
 
 -- One byte more of each frame is read that has this byte next.
-abbrev pub PassesByte : (List ℕ → ℕ → Type 0) → Tree Pattern → ℕ → ℕ → FramePass → List ℕ → FramePass → List ℕ → Type 0
-PassesByte stands tree at byte pass old passed new =
-    (frame : List ℕ) → at < length frame → byte ≡ slice_index frame at → IsPassed stands tree frame at pass old
-    → IsPassed stands tree frame (at + 1) passed new
+abbrev pub PassesByte : Tree Pattern → NodeVectors → ℕ → ℕ → FramePass → List ℕ → FramePass → List ℕ → Type 0
+PassesByte tree vectors at byte pass old passed new =
+    (frame : List ℕ) → at < length frame → byte ≡ slice_index frame at → IsPassed tree vectors frame at pass old
+    → IsPassed tree vectors frame (at + 1) passed new
 
 -- The digits of the 16 last places are moved by one place, raised to those of a vector, and written to a list.
 pub record TakesVector (vector : List ℕ) (at : ℕ) (pass : FramePass) (old : List ℕ) (passed : FramePass) (new : List ℕ) : Type 0 where

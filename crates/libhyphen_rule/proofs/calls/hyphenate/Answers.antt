@@ -1,28 +1,11 @@
-use Rattle.std.proofs.Common.{◌≡◌, ◌∙◌, sym, ap, cond, take, false, true, List, ℕ}
+use Rattle.std.proofs.Common.{◌≡◌, ◌∙◌, sym, ap, false, true, List, ℕ}
 use Rattle.std.specs.Vec.{with_items}
 use Rattle.std.proofs.lemmas.List.{with_items_is}
 use Rattle.libhyphen_rule.specs.Calls.{begins_within, digits_kept, found_by_call}
 use Rattle.libhyphen_rule.specs.Found.{found_of, placed_all}
-use Rattle.libhyphen_rule.specs.Words.{digits_of_characters}
-use Rattle.libhyphen_rule.specs.Private.Ordinary.{KeepsDigits}
-use Rattle.libhyphen_rule.proofs.UnchangedCalls.{in_characters_is, unchanged_is, whole_of_bytes, whole_of_utf8}
+use Rattle.libhyphen_rule.proofs.UnchangedCalls.{in_characters_is, whole_of_bytes, whole_of_utf8}
 use Rattle.libhyphen_rule.proofs.calls.hyphenate.Goals.{else-utf8-via-then-utf8+else-begins_within, else-utf8-via-else-utf8}
 use Rattle.libhyphen_rule.proofs.calls.hyphenate.Goals as goal
-
-pub returns-in-Some : goal.returns-in-Some
-returns-in-Some c =
-    let rules_now = c.args.dictionary.now in
-    let text = c.args.text.now in
-    let whole : begins_within rules_now text ≡ false = elim c.else-utf8.branch [
-      | else-utf8-via-then-utf8+else-begins_within w ↦ whole_of_utf8 rules_now text (sym w.begins_within.ensures ∙ w.if-begins_within.false)
-      | else-utf8-via-else-utf8 w ↦ whole_of_bytes rules_now text (sym c.is_utf8-utf8.ensures ∙ w.if-utf8.false)
-    ] in
-    let digits : List ℕ = c.in-Some.plain.items in
-    let known : KeepsDigits rules_now c.args.minima text c.args.size digits = rw c.in-Some.is at c.in_ok-plain.ensures.kept in
-    unchanged_is rules_now c.args.minima text c.args.size known.first digits c.in_ok-answer.answer whole known.found known.kept
-    (c.in_ok-answer.ensures.digits
-    ∙ ap (λ utf8. cond {A = List ℕ} utf8 (digits_of_characters (take c.args.size text) digits) digits) c.is_utf8-utf8.ensures)
-    c.in_ok-answer.ensures.changes c.in_ok-answer.ensures.made
 
 pub returns : goal.returns
 returns c =
@@ -37,7 +20,7 @@ returns c =
     let given = c.in_ok-digits.field-0 in
     let kept = with_items_is given.digits c.take_kept.new.digits (c.take_kept.auto.digits ∙ c.deref_mut.ensures.len) in
     let digits : List ℕ = (with_items given.digits c.take_kept.new.digits).items in
-    in_characters_is rules_now c.args.minima text c.args.size given.digits.items digits (placed_all given.changes.items) c.in_ok-answer-2.answer
+    in_characters_is rules_now c.args.minima text c.args.size given.digits.items digits (placed_all given.changes.items) c.in_ok-answer.answer
     whole utf8 (sym (ap (λ f. f.digits) found)) (kept ∙ c.take_kept.ensures ∙ ap (digits_kept rules_now c.args.minima text) c.deref_mut.ensures.value)
-    (sym (ap (λ f. f.changes) found)) c.in_ok-answer-2.ensures.digits c.in_ok-answer-2.ensures.changes
-    (c.in_ok-answer-2.ensures.made ∙ ap (λ f. f.made) found)
+    (sym (ap (λ f. f.changes) found)) c.in_ok-answer.ensures.digits c.in_ok-answer.ensures.changes
+    (c.in_ok-answer.ensures.made ∙ ap (λ f. f.made) found)

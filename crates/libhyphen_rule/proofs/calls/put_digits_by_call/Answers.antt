@@ -8,13 +8,13 @@ use Rattle.libhyphen_rule.specs.Private.Unchanged.{BeginsNone, HasNoDigits, IsUn
 use Rattle.libhyphen_rule.proofs.UnchangedCalls.{unchanged_left, unchanged_right}
 use Rattle.libhyphen_rule.proofs.calls.put_digits_by_call.Goals as goal
 
-pub read_short_word-requires-clause-word : goal.read_short_word-requires-clause-word
-read_short_word-requires-clause-word c =
+pub read_word-requires-clause-word : goal.read_word-requires-clause-word
+read_word-requires-clause-word c =
     let word : c.split_at.result.0.now ≡ take c.args.size c.args.text.now = search rules in
     subst (λ (xs : List ℕ). HasNoDigits xs) (sym word) c.requires.word
 
-pub read_short_word-requires-clause-none : goal.read_short_word-requires-clause-none
-read_short_word-requires-clause-none c not =
+pub read_word-requires-clause-none : goal.read_word-requires-clause-none
+read_word-requires-clause-none c not =
     let word : c.split_at.result.0.now ≡ take c.args.size c.args.text.now = search rules in
     subst (λ (xs : List ℕ). BeginsNone c.args.dictionary.now.top.patterns xs) (sym word) (c.requires.none not)
 
@@ -26,15 +26,15 @@ returns-clause-found c done =
     let least = least_of rules_now.top.minima c.args.minima in
     let as_given : (least : ℤ) → ℤ = λ least. to_z w32 (of_z w32 least) in
     let passed : PartMinima = record { left = as_given given.compound_left; right = as_given given.compound_right } in
-    let digits = c.read_short_word.new.digits in
+    let digits = c.read_word.new.digits in
     let told : IsUnchanged (word_found rules_now passed c.split_at.result.0.now c.split_at.result.1.now) digits =
-    c.read_short_word.ensures.found c.if-not-read_short_word.false in
+    c.read_word.ensures.found c.if-not-read_word.false in
     let passed_left : as_given given.compound_left ≡ least.compound_left = search rules in
     let passed_right : as_given given.compound_right ≡ least.compound_right = search rules in
     let word : c.split_at.result.0.now ≡ take c.args.size c.args.text.now = search rules in
     let behind : c.split_at.result.1.now ≡ drop c.args.size c.args.text.now = search rules in
     let utf8 : c.is_utf8-utf8.result ≡ rules_now.utf8 = search rules in
-    let text : c.args.text.now ≡ before_nul c.args.text.now = c.requires.seen in
+    let text : c.args.seen.now ≡ before_nul c.args.text.now = c.requires.seen in
     let least_left : as_given c.at_least_two-left.result ≡ at_least_two least.left = search rules in
     let least_right : as_given c.at_least_two-right.result ≡ at_least_two least.right = search rules in
     let found : IsUnchanged (word_found rules_now (part_minima least) (take c.args.size c.args.text.now) (drop c.args.size c.args.text.now)) digits =

@@ -29,11 +29,11 @@ returns-then-not-may_count-clause-odd c =
 pub returns-clause-digits : goal.returns-clause-digits
 unfolding level_digits
 returns-clause-digits c =
-    weaker _ _ c.read_any_frame.result
-    (λ odd is. is ∙ ap (λ (ps : TextMap (List Pattern)). digits_by ps c.args.word.now) c.patterns_with_vectors.ensures.known) c.read_any_frame.ensures.digits
+    weaker _ _ c.read_frame.result
+    (λ odd is. is ∙ ap (λ (ps : TextMap (List Pattern)). digits_by ps c.args.word.now) c.patterns_with_vectors.ensures.known) c.read_frame.ensures.digits
 
 pub returns-clause-changes : goal.returns-clause-changes
 unfolding level_changes
 returns-clause-changes c =
-    weaker _ _ c.read_any_frame.result
-    (λ odd none. ap (λ (ps : TextMap (List Pattern)). changes_by ps c.args.word.now) (sym c.patterns_with_vectors.ensures.known) ∙ none) c.read_any_frame.ensures.changes
+    weaker _ _ c.read_frame.result
+    (λ odd none. ap (λ (ps : TextMap (List Pattern)). changes_by ps c.args.word.now) (sym c.patterns_with_vectors.ensures.known) ∙ none) c.read_frame.ensures.changes

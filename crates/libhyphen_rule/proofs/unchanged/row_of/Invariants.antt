@@ -3,4 +3,4 @@ use Rattle.libhyphen_rule.specs.Private.Lanes.{AtRow}
 use Rattle.libhyphen_rule.proofs.unchanged.row_of.Given as goal
 
 abbrev pub invariant-loop-byte : goal.invariant-loop-byte
-invariant-loop-byte l = AtRow l.patterns l.vectors l.steps (take l.byte-index l.text) l.row
+invariant-loop-byte l = AtRow l.patterns l.vectors (take l.byte-index l.text) l.row

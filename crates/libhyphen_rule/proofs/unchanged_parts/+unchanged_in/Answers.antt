@@ -35,7 +35,6 @@ loop-byte-init t c = record {
   begun = omega arith;
   long = c.read_unchanged.ensures.digits_length ∙ c.requires.digits;
   behind = λ k le. refl;
-  list = c.read_unchanged.ensures.list_length;
 }
 
 pub loop-byte-preserved-then-not-ends_part : goal.loop-byte-preserved-then-not-ends_part
@@ -48,7 +47,6 @@ loop-byte-preserved-then-not-ends_part t c =
       begun = omega arith;
       long = c.loop-byte.invariant.long;
       behind = λ k le. c.loop-byte.invariant.behind k (omega arith);
-      list = c.loop-byte.invariant.list;
     }
 
 pub unchanged_in-requires : goal.unchanged_in-requires
@@ -65,9 +63,9 @@ unchanged_in-requires t c =
       (
         part_has_no_digits asked part begin end is c.requires.text,
         (
-          λ _. part_behind asked part begin end is,
+          omega (arith, size, within, c.requires.short),
           (
-            omega arith,
+            λ _. part_behind asked part begin end is,
             length-take-le (end - begin) (drop begin c.loop-byte.digits) (omega (arith, length-drop begin c.loop-byte.digits)) ∙ sym size,
           ),
         ),
@@ -115,7 +113,6 @@ loop-byte-preserved t c =
             begun = omega arith;
             long = sized ∙ c.loop-byte.invariant.long;
             behind = λ k le. ap (λ xs. get_or xs k 0) new ∙ put_back-behind now inner begin byte k inner_long (omega arith) within (omega arith) ∙ c.loop-byte.invariant.behind k (omega arith);
-            list = ap length w.list-is ∙ w.unchanged_in.ensures.list_length ∙ c.loop-byte.invariant.list;
           }
       | else-byte-begin w ↦
           let none : ask left part ≡ None → nat_lt (begin + 1) byte ≡ true → parted_up_to ask asked (found_unchanged top c.args.parts) (byte + 1) ≡ parting now left (byte + 1) asked.text =
@@ -135,7 +132,6 @@ loop-byte-preserved t c =
             begun = omega arith;
             long = ap length w.digits-is ∙ c.loop-byte.invariant.long;
             behind = λ k le. ap (λ xs. get_or xs k 0) w.digits-is ∙ c.loop-byte.invariant.behind k (omega arith);
-            list = ap length w.list-is ∙ c.loop-byte.invariant.list;
           }
     ]
 

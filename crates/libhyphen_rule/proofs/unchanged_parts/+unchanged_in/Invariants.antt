@@ -15,5 +15,4 @@ invariant-loop-byte l = record {
   begun : l.begin ≤ l.byte;
   long : length l.digits ≡ length l.fn.asked.text.now;
   behind : (k : ℕ) → l.byte ≤ k → get_or l.digits k 0 ≡ get_or l.initial.digits k 0;
-  list : length l.list ≡ length l.fn.list;
 }

@@ -1,18 +1,12 @@
-use Rattle.std.proofs.Common.{◌≡◌, ◌∙◌, ◌+◌, ◌<◌, ◌≤◌, ℕ, zero, suc, List, ap, arith, map, length, refl, set, sym, take, [], ◌∷◌, ◌++◌}
+use Rattle.std.proofs.Common.{◌≡◌, ◌∙◌, ◌+◌, ◌<◌, ◌≤◌, ℕ, List, ap, arith, map, length, refl, set, sym, take, [], ◌∷◌, ◌++◌}
 use Rattle.std.specs.Prelude.{filter, slice_index}
 use Rattle.std.specs.List.{range_with_len}
 use Rattle.std.proofs.lemmas.Grind.{take-set_at}
 use Rattle.std.proofs.lemmas.List.{get_or-set_other, length-set}
 use Rattle.libhyphen_rule.specs.Words.{is_last, last_bytes}
-use Rattle.libhyphen_rule.proofs.WordSteps.{kept_more, left_more}
+use Rattle.libhyphen_rule.proofs.WordSteps.{kept_more, left_more, take_before_set}
 use Rattle.libhyphen_rule.proofs.words.keep_last_digits.Goals as goal
 use Rattle.libhyphen_rule.proofs.words.keep_last_digits.Goals.{then-is_last, else-is_last}
-
--- The first numbers of a list stay where one behind them is set.
-take_before_set : (xs : List ℕ) (k v : ℕ) → take k (set xs k v) ≡ take k xs
-take_before_set [] k v = refl
-take_before_set (x ∷ xs) zero v = refl
-take_before_set (x ∷ xs) (suc k) v = ap (λ (ys : List ℕ). x ∷ ys) (take_before_set xs k v)
 
 pub loop-byte-preserved : goal.loop-byte-preserved
 loop-byte-preserved c =

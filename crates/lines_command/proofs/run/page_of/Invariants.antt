@@ -10,9 +10,8 @@ use Rattle.lines_command.proofs.run.page_of.Given as goal
 -- The page goes on with the inputs that are left. Standard input is as it was if it is none of the inputs.
 abbrev pub invariant-loop-rest : goal.invariant-loop-rest
 invariant-loop-rest g l = record {
-  kept : l.dictionary ≡ l.fn.dictionary;
   goes_on :
-      GoesOn (parsed_options l.options) l.fn.dictionary (g.F.NamedFiles.bytes l.files) (g.I.Read.remaining l.fn.input) (texts_now l.names) (g.I.Read.remaining l.input) (texts_now l.rest) (string_bytes l.page);
+      GoesOn (parsed_options l.options) l.dictionary (g.F.NamedFiles.bytes l.files) (g.I.Read.remaining l.fn.input) (texts_now l.names) (g.I.Read.remaining l.input) (texts_now l.rest) (string_bytes l.page);
   unread : list_any is_standard_input (texts_now l.names) ≡ false → (l.input ≡ l.fn.input) × (list_any is_standard_input (texts_now l.rest) ≡ false);
 }
 

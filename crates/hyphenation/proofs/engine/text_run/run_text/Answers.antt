@@ -12,7 +12,7 @@ returns-clause-output g c =
     let mark = c.args.marking.mark.now in
     let done = c.edit_all.new.dictionary in
     IfSome_then (g.D.Read.remaining c.args.reader.now) c.in_ok-dictionary.ensures.contents (λ bytes given. IfSome_then (g.I.Read.remaining c.args.input.now) c.in_ok-text.ensures.read (λ text read.
-    c.in_ok-hyphenated.ensures.text
+    c.in_ok-hyphenated.ensures
     ∙ ap (λ t. hyphenated_text (breaks_by done) mark t) (c.deref.ensures ∙ read)
     ∙ ap (λ d. hyphenated_text (breaks_by d) mark text) (c.in_ok-edit_all.ensures.done ∙ ap (λ d. fold edited d (texts_now edits)) given)
     ∙ output_given c.args.kind edits mark bytes text))

@@ -1,5 +1,5 @@
 use Rattle.std.proofs.lemmas.Grind.{common_steps}
-use Rattle.std.proofs.Common.{◌≡◌, ◌≢◌, ◌<◌, ℕ, ◌∙◌, refl, sym, ap, arith, List, length, get_or, slice_index, Some, None}
+use Rattle.std.proofs.Common.{◌≡◌, ◌<◌, ℕ, ◌∙◌, refl, sym, ap, arith, List, length, get_or, slice_index, Some, None}
 use Rattle.std.proofs.lemmas.List.{length-map, get_or_default}
 use Rattle.hyphenation_trie.specs.Private.Growing.{IsSought}
 use Rattle.hyphenation_trie.specs.Private.Links.{parent_of, byte_of}
@@ -9,10 +9,8 @@ use Rattle.hyphenation_trie.proofs.FrozenTrie.{byte_here}
 use Rattle.hyphenation_trie.proofs.GrowingNodes.{sought-start, sought-next, sought-past, sought-found, sought-none, sought-byte, other_byte}
 use Rattle.hyphenation_trie.proofs.HeldNodes.{node_held}
 use Rattle.hyphenation_trie.proofs.TrieNodes.{length-texts_of}
+use Rattle.hyphenation_trie.proofs.Siblings.{above_zero}
 use Rattle.hyphenation_trie.proofs.growing.Trie.child_of.Goals as goal
-
-some : (k : ℕ) → k ≢ 0 → 0 < k
-some k apart = omega arith
 
 -- the node at hand is the child of the node at the byte that is read
 at_byte : (parents bytes : List ℕ) (states : List State) (lasts befores : List ℕ) (bound node byte child read : ℕ) → IsHeld parents bytes states lasts befores bound → IsSought (froms_by parents bytes) node byte child → 0 < child
@@ -34,7 +32,7 @@ index-child-requires g c =
 
 pub index-at-requires : goal.index-at-requires
 index-at-requires g c =
-    let pos = some c.loop-child.child c.loop-child-test.true in
+    let pos = above_zero c.loop-child.child c.loop-child-test.true in
     let froms = froms_by c.self.inside.children.parents.items c.self.inside.children.bytes.items in
     omega (arith, (node_held _ _ _ _ _ _ c.loop-child.child c.self.invariant.0 (omega (arith, length-texts_of froms, (c.loop-child.invariant.here pos).0))).1, c.self.inside.children.bytes.ok.0)
 
@@ -46,14 +44,14 @@ loop-child-init g c =
 
 pub returns-then-at-byte-clause-found : goal.returns-then-at-byte-clause-found
 returns-then-at-byte-clause-found g c =
-    let pos = some c.loop-child.child c.loop-child-test.true in
+    let pos = above_zero c.loop-child.child c.loop-child-test.true in
     rw (← c.self.view_is) (
     sought-found _ _ _ c.args.node c.args.byte c.loop-child.child c.self.invariant.0.growing c.loop-child.invariant pos
     (at_byte _ _ _ _ _ _ c.args.node c.args.byte c.loop-child.child c.index-at.result.now c.self.invariant.0 c.loop-child.invariant pos c.index-at.ensures ∙ ap (λ (x : ℕ). Some (c.args.node, x)) c.if-at-byte.true))
 
 pub loop-child-preserved : goal.loop-child-preserved
 loop-child-preserved g c =
-    let pos = some c.loop-child.child c.loop-child-test.true in
+    let pos = above_zero c.loop-child.child c.loop-child-test.true in
     let here = (c.loop-child.invariant.here pos).0 in
     (sought-next _ _ _ c.args.node c.args.byte c.loop-child.child c.index-child-in-loop-child.result.now c.self.invariant.0.growing c.loop-child.invariant pos
     (λ e. c.if-at-byte.false (other_byte c.args.node _ c.args.byte
@@ -63,7 +61,7 @@ loop-child-preserved g c =
 pub returns-then-self-node-clause-none : goal.returns-then-self-node-clause-none
 returns-then-self-node-clause-none g c =
     let asked = rw (← c.self.view_is) at c.requires in
-    let pos = some c.loop-child.child c.loop-child-test.true in
+    let pos = above_zero c.loop-child.child c.loop-child-test.true in
     let held = c.self.invariant.0 in
     let parents = c.self.inside.children.parents.items in
     let bytes = c.self.inside.children.bytes.items in
