@@ -4,7 +4,7 @@ was compared. tests/bindings runs it.
 
 - The statuses of the header have the numbers of c_calls/src/statuses.rt, and each has a message in the library.
 - The message of each cause is the one that the proved crates write for it, and no other number has one.
-- The version is that of VERSION.
+- The version is that of tools/VERSION.
 - A comment is before each call. It says each argument by its name, in their order, and the result.
 """
 import ctypes
@@ -66,7 +66,7 @@ def comments():
     return len(calls)
 
 
-same("the version", text("version"), (ROOT / "VERSION").read_text().strip())
+same("the version", text("version"), (ROOT / "tools/VERSION").read_text().strip())
 counts = statuses(), causes(), comments()
 for it in wrong:
     print(it)

@@ -38,7 +38,7 @@ NOT_RUN = [
     (r"languages/README.md: (mkdir tex|for package)", "it downloads packages"),
     (r".*: languages/(make|libreoffice|table) ", "it goes through all languages; tests/languages runs what it does over a few"),
     (r".*: DICPATH=", "it starts LibreOffice; tests/libreoffice does so"),
-    (r"man/hyphenate-languages.1: hyphenate-languages$", "it makes the dictionaries of all languages on the machine"),
+    (r"docs/man/hyphenate-languages.1: hyphenate-languages$", "it makes the dictionaries of all languages on the machine"),
 ]
 # Commands that need files of packages: those of TeX's patterns, and of LibreOffice's. `!` before a path: they may not be there.
 TEX = "/usr/share/cargo/registry/hyphenation-*/patterns"
@@ -49,7 +49,7 @@ NEEDS = [
     (r".*--list fr hu mk", [TEX, "/usr/share/hyphen/hyph_hu_HU.dic", "!/usr/share/texlive/texmf-dist/tex/generic/hyph-utf8"]),
     (r".*hyph_de_DE.dic", ["/usr/share/hyphen/hyph_de_DE.dic"]),
     (r".*hyph_pt_BR.dic", ["/usr/share/hyphen/hyph_pt_BR.dic"]),
-    (r"man/hyphenate-convert.1: hyphenate-convert standard en-us", [TEX]),
+    (r"docs/man/hyphenate-convert.1: hyphenate-convert standard en-us", [TEX]),
 ]
 
 passed = failed = 0
@@ -146,7 +146,7 @@ def commands_of_man(path):
             inside = []
         elif line == ".EE":
             plain = [re.sub(r"\\&", "", one).replace(r"\-", "-").replace(r"\(aq", "'").replace(r"\e", "\\") for one in inside]
-            found += shown_commands(f"man/{path.name}", number - len(plain), plain)
+            found += shown_commands(f"docs/man/{path.name}", number - len(plain), plain)
             inside = None
         elif inside is not None:
             inside.append(line)
@@ -160,8 +160,7 @@ def folder_for(scratch, number):
     texts = home / ".local/share/hyphenation"
     texts.mkdir(parents=True)
     shutil.copytree(ROOT / "examples", folder / "examples")
-    for path in (scratch / "bin").iterdir():
-        (folder / path.name).symlink_to(path)
+    (folder / "bin").symlink_to(scratch / "bin")
     firkin = (ROOT / "examples/firkin.txt").read_text()
     (folder / "firkin.txt").write_text(firkin)
     # in the place of the dictionary that a user has made of a language
@@ -251,7 +250,7 @@ def check_words(scratch):
     for path in (TEX, "/usr/share/hyphen/hyph_hu_HU.dic"):
         if not list(pathlib.Path("/").glob(path[1:])):
             return f"{path} is not there"
-    made = [str(ROOT / "hyphenate-languages"), "--into", str(scratch / "texts"), *(code for _, code, _ in OF_WORDS)]
+    made = [str(ROOT / "bin/hyphenate-languages"), "--into", str(scratch / "texts"), *(code for _, code, _ in OF_WORDS)]
     environment = {**os.environ, "HYPHENATE_BIN": str(scratch / "bin"), "PYTHONDONTWRITEBYTECODE": "1"}
     ran = subprocess.run(made, env=environment, text=True, capture_output=True, check=False)
     check(ran.returncode == 0, f"README.md: the dictionaries of its words: {ran.stderr.strip()[-300:]}")
@@ -278,10 +277,10 @@ def check_itself(scratch):
 
 def main(words):
     scratch, lists = pathlib.Path(words[0]), words[1:] == ["--list"]
-    (scratch / "bin/hyphenate-languages").symlink_to(ROOT / "hyphenate-languages")
-    mans = sorted(ROOT.glob("man/*.[17]"))
+    (scratch / "bin/hyphenate-languages").symlink_to(ROOT / "bin/hyphenate-languages")
+    mans = sorted(ROOT.glob("docs/man/*.[17]"))
     left_out, compared, ran = [], [], 0
-    sources = [(page, commands_of_page(page)) for page in PAGES] + [(f"man/{path.name}", commands_of_man(path)) for path in mans]
+    sources = [(page, commands_of_page(page)) for page in PAGES] + [(f"docs/man/{path.name}", commands_of_man(path)) for path in mans]
     for number, (page, commands) in enumerate(sources):
         reasons = [(command, command.reason()) for command in commands]
         left_out += [(f"{command.page}:{command.line}: {command.text}", reason) for command, reason in reasons if reason]
@@ -289,15 +288,15 @@ def main(words):
         if kept:
             compared += run(kept, scratch, number)
             ran += len(kept)
-        if page.startswith("man/"):
+        if page.startswith("docs/man/"):
             check(commands, f"{page}: there is no example")
     for table, entries in (("NOT_RUN", NOT_RUN), ("NEEDS", NEEDS)):
         for at, entry in enumerate(entries):
             check((table, at) in matched, f"tests/examples.py: no command matches the entry {entry[0]} of {table}")
     for path in mans:
-        shows = any(command.page == f"man/{path.name}" for command in compared)
-        check(shows or path.suffix == ".7", f"man/{path.name}: no output of an example was compared")
-    firsts = [command for command in sources[PAGES.index("README.md")][1] if re.search(r"\| \./hyphenate ", command.text)]
+        shows = any(command.page == f"docs/man/{path.name}" for command in compared)
+        check(shows or path.suffix == ".7", f"docs/man/{path.name}: no output of an example was compared")
+    firsts = [command for command in sources[PAGES.index("README.md")][1] if re.search(r"\| bin/hyphenate ", command.text)]
     check(len(firsts) == 2 and set(firsts) <= set(compared), "README.md: its first results were not run and compared")
     check_blocks(scratch)
     reason = check_words(scratch)

@@ -17,9 +17,8 @@ make_copy() {
   export STUB_COPY=$copy
   mkdir "$copy" "$plain" "$stub"
   # Few of the proofs, since each crate that is proved gets copies of those below it.
-  tar -C "$root" --exclude=out --exclude=mutants --exclude='proofs/[!L]*' -cf - "${programs[@]}" hyphenate-languages \
-    languages install tools proof-times man LICENSE-APACHE LICENSE-MIT examples crates.txt HANDLES VERSION bindings/c \
-    crates | tar -C "$copy" -xf -
+  tar -C "$root" --exclude=out --exclude=mutants --exclude='proofs/[!L]*' -cf - bin languages install tools \
+    docs/man LICENSE-APACHE LICENSE-MIT examples crates.txt HANDLES bindings/c crates | tar -C "$copy" -xf -
   find "$copy" -type f -exec touch -d '2 hours ago' {} +
   for it in "${tools[@]}"; do
     ln -s "$(command -v "$it")" "$plain/$it"

@@ -9,7 +9,7 @@ ROOT = os.path.dirname(os.path.dirname(os.path.realpath(__file__)))
 
 def program(name):
     """The path of a program: in the folder HYPHENATE_BIN, else this repository's launcher."""
-    return os.path.join(os.environ.get("HYPHENATE_BIN") or ROOT, name)
+    return os.path.join(os.environ.get("HYPHENATE_BIN") or os.path.join(ROOT, "bin"), name)
 
 
 def built(name):

@@ -93,5 +93,5 @@ prove() {
   return $status
 }
 
-# shellcheck source=proof-times
-. "$root/proof-times"
+# shellcheck source=tools/proof-times
+. "$root/tools/proof-times"
