@@ -6,10 +6,6 @@ pub mod PageRows
 pub mod ShortParts
 pub mod ShownTexts
 pub mod Printable
-pub mod Groups
-pub mod WholeWords
-pub mod MixedParts
-pub mod FullLines
 pub mod PlainWords
 mod OnePiece
 mod WordBreaks

@@ -1,18 +1,15 @@
 -- The first words of a text, where they are of printable ASCII.
-use Rattle.std.proofs.Common.{◌≡◌, ℕ, suc, ◌+◌, ◌-◌, ◌<◌, ◌≤◌, ◌&&◌, Bool, true, false, cond, List, [], ◌∷◌, ◌++◌, length, get_or, take, drop, slice_range, chars, encode_utf8, inl, inr, sym, ap, ap₂, subst, refl, ◌∙◌, arith, append_assoc, append-nil, length-append, length-drop}
+use Rattle.std.proofs.Common.{◌≡◌, ℕ, suc, ◌+◌, ◌-◌, ◌<◌, ◌≤◌, ◌&&◌, Bool, true, false, cond, List, [], ◌∷◌, ◌++◌, length, get_or, drop, slice_range, chars, encode_utf8, inl, inr, sym, ap, subst, refl, ◌∙◌, arith, append_assoc, append-nil, length-drop}
 use Rattle.std.specs.Char.{is_ascii_alphabetic}
 use Rattle.std.specs.List.{list_all}
-use Rattle.std.specs.Str.{IsCharBoundary, IsUtf8}
 use Rattle.std.proofs.lemmas.Bool.{and_parts, ne_eqb, cases_lt}
 use Rattle.std.proofs.lemmas.Bool.Decides.{nat_tests}
-use Rattle.std.proofs.lemmas.List.{drop_more, get_or-take, get_or-drop, length-take, take-append-drop}
+use Rattle.std.proofs.lemmas.List.{get_or-take, get_or-drop, length-take}
 use Rattle.std.proofs.lemmas.List.Folds.{drop_split}
-use Rattle.std.proofs.lemmas.Str.{chars-append, chars-nil, chars-IsAscii, encode_ascii, IsUtf8-from_ascii, IsCharBoundary-after_ascii}
+use Rattle.std.proofs.lemmas.Str.{chars-append, chars-nil, chars-IsAscii, encode_ascii, IsUtf8-from_ascii}
 use Rattle.std.proofs.lemmas.Str.Ascii.{IsAscii-nil, IsAscii-cons}
-use Rattle.std.proofs.Math.Seq.{take-append_seam}
-use Rattle.paragraphs.specs.Private.Plain.{is_plain, is_ascii_gap, AreLetters, EachBetween, EndsAt, IsPlainWord, in_a_row, IsRun}
+use Rattle.paragraphs.specs.Private.Plain.{is_plain, is_ascii_gap, AreLetters, EachBetween, EndsAt, IsPlainWord}
 use Rattle.paragraphs.specs.Private.Printable.{is_printable}
-use Rattle.paragraphs.proofs.Printable.{both_printable}
 use Rattle.paragraphs.specs.Words.{is_gap, if_any, words_after, words}
 
 -- ---- bytes
@@ -147,67 +144,3 @@ pub gaps_passed : (bytes : List ℕ) (start : ℕ) → start ≤ length bytes �
 gaps_passed bytes start within each =
     ap words (drop_split bytes 0 start (omega arith))
     ∙ gaps_first (slice_range bytes 0 start) (drop start bytes) (all_between is_ascii_gap bytes 0 start within each)
-
--- ---- runs
-
-in_a_row_more : (row : List (List ℕ)) (word : List ℕ) → 0 < length row → in_a_row (row ++ word ∷ []) ≡ in_a_row row ++ 32 ∷ word
-in_a_row_more [] word some = absurd (omega (arith, some))
-in_a_row_more (first ∷ []) word some = refl
-in_a_row_more (first ∷ second ∷ row) word some =
-    ap (λ s. first ++ 32 ∷ s) (in_a_row_more (second ∷ row) word (omega arith))
-    ∙ sym (append_assoc first (32 ∷ in_a_row (second ∷ row)) (32 ∷ word))
-
--- The first word is a run.
-pub run_begins : (bytes : List ℕ) (end : ℕ) → IsPlainWord bytes 0 end → IsRun bytes end
-run_begins bytes end is =
-    let count : end - 0 ≡ end = omega arith in
-    let word : slice_range bytes 0 end ≡ take end bytes = ap (λ n. take n bytes) count in
-    let all = all_plain_printable (slice_range bytes 0 end) (all_between is_plain bytes 0 end is.within is.plain) in
-    record {
-      row = take end bytes ∷ [];
-      made = record { some = omega arith; joined = refl; printable = sym (ap (list_all is_printable) word) ∙ all };
-      parted = plain_word bytes 0 end is ∙ ap (λ w. w ∷ words (drop end bytes)) word;
-      after = is.after;
-      within = is.within;
-      ended = is.ended;
-    }
-
--- A run goes on with the word one space after it.
-pub run_goes_on : (bytes : List ℕ) (end next : ℕ) → IsRun bytes end → end < length bytes → get_or bytes end 0 ≡ 32 → IsPlainWord bytes (end + 1) next → IsRun bytes next
-run_goes_on bytes end next run lt here is =
-    let word = slice_range bytes (end + 1) next in
-    let rest = drop next bytes in
-    let after = is.after in
-    let within = is.within in
-    let spaced : drop end bytes ≡ 32 ∷ drop (end + 1) bytes = drop_more bytes end 0 lt ∙ ap (λ b. b ∷ drop (end + 1) bytes) here in
-    let follows : drop (end + 1) bytes ≡ word ++ rest = drop_split bytes (end + 1) next (omega (arith, after)) in
-    let begun = take end bytes ++ 32 ∷ word in
-    let whole : bytes ≡ begun ++ rest =
-    sym (take-append-drop end bytes) ∙ ap (λ s. take end bytes ++ s) (spaced ∙ ap (λ s. 32 ∷ s) follows) ∙ sym (append_assoc (take end bytes) (32 ∷ word) rest) in
-    let many : length begun ≡ next =
-    omega (arith, after, within, length-append (take end bytes) (32 ∷ word), length-take end bytes, length-take (next - (end + 1)) (drop (end + 1) bytes), length-drop (end + 1) bytes) in
-    let taken : take next bytes ≡ begun = ap₂ take (sym many) whole ∙ take-append_seam begun rest in
-    let all = all_plain_printable word (all_between is_plain bytes (end + 1) next within is.plain) in
-    record {
-      row = run.row ++ word ∷ [];
-      made = record {
-        some = omega (arith, length-append run.row (word ∷ []));
-        joined = taken ∙ ap (λ s. s ++ 32 ∷ word) run.made.joined ∙ sym (in_a_row_more run.row word run.made.some);
-        printable =
-            ap (list_all is_printable) taken ∙ both_printable (take end bytes) (32 ∷ word) run.made.printable all;
-      };
-      parted =
-          run.parted
-          ∙ ap (λ s. run.row ++ s) (ap words spaced ∙ gap_first 32 (drop (end + 1) bytes) refl ∙ plain_word bytes (end + 1) next is)
-          ∙ sym (append_assoc run.row (word ∷ []) (words rest));
-      after = omega (arith, after);
-      within = within;
-      ended = is.ended;
-    }
-
--- A text may be cut after gaps of ASCII.
-pub cut_after_gaps : (bytes : List ℕ) (start : ℕ) → IsUtf8 bytes → start ≤ length bytes → EachBetween is_ascii_gap bytes 0 start → 0 < start → IsCharBoundary bytes start
-cut_after_gaps bytes start u within each some =
-    let place : start - 1 + 1 ≡ start = omega (arith, some) in
-    let small = gap_small (get_or bytes (start - 1) 0) (each (start - 1) (omega arith) (omega (arith, some))) in
-    subst (IsCharBoundary bytes) place (IsCharBoundary-after_ascii bytes (start - 1) u (omega (arith, some, within)) small)

@@ -1,10 +1,9 @@
 -- Texts of printable ASCII are shown as they are, a column for each byte.
-use Rattle.std.proofs.Common.{◌≡◌, ℕ, ◌+◌, ◌-◌, zero, suc, ◌<◌, ◌&&◌, if◌then◌else◌, Bool, true, false, not, List, [], ◌∷◌, ◌++◌, length, get_or, filter, take, drop, slice_range, ap, ap₂, refl, ◌∙◌, arith}
+use Rattle.std.proofs.Common.{◌≡◌, ℕ, ◌+◌, ◌-◌, zero, suc, ◌<◌, ◌&&◌, if◌then◌else◌, Bool, true, false, not, List, [], ◌∷◌, ◌++◌, length, get_or, filter, take, drop, slice_range, ap, refl, ◌∙◌, arith}
 use Rattle.std.specs.List.{list_all}
 use Rattle.std.specs.Str.{encode_utf8_all}
 use Rattle.std.proofs.lemmas.Bool.{and_parts}
 use Rattle.std.proofs.lemmas.Bool.Decides.{nat_tests}
-use Rattle.std.proofs.lemmas.List.Folds.{list_all-append}
 use Rattle.std.proofs.lemmas.Str.{chars-IsAscii, encodes-IsAscii}
 use Rattle.std.proofs.lemmas.Str.Ascii.{IsAscii-nil, IsAscii-cons}
 use Rattle.std.specs.Prelude.{IsAscii}
@@ -70,9 +69,6 @@ printable_drop [] zero all = refl
 printable_drop [] (suc n) all = refl
 printable_drop (c ∷ cs) zero all = all
 printable_drop (c ∷ cs) (suc n) all = printable_drop cs n (let parts = and_parts (is_printable c) (list_all is_printable cs) all in parts.1)
-
-pub both_printable : (xs ys : List ℕ) → list_all is_printable xs ≡ true → list_all is_printable ys ≡ true → list_all is_printable (xs ++ ys) ≡ true
-both_printable xs ys left right = list_all-append is_printable xs ys ∙ ap₂ (λ s t. s && t) left right
 
 pub printable_between : (text : List ℕ) (a b : ℕ) → list_all is_printable text ≡ true → list_all is_printable (slice_range text a b) ≡ true
 printable_between text a b all = printable_take (drop a text) (b - a) (printable_drop text a all)

@@ -7,7 +7,5 @@ pub mod Ends
 pub mod Open
 pub mod PartStyles
 pub mod PartSettings
-pub mod Entries
-pub mod MixedParts
 pub mod Printable
 pub mod Plain

@@ -10,7 +10,6 @@
 mod changes;
 mod gathering;
 mod length;
-mod mixed;
 mod page;
 mod part;
 mod parting;

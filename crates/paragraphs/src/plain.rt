@@ -1,13 +1,12 @@
 //! Words of printable ASCII.
 //!
-//! They are found byte by byte. Where they are one space apart, they are one slice of the text.
+//! They are found byte by byte.
 
-ghost use Rattle.std.specs.Prelude.{◌≡◌, ◌∷◌, ◌++◌, ◌+◌, ◌<◌, ◌≤◌, [], true, MatchOption, IfSome, length};
+ghost use Rattle.std.specs.Prelude.{◌≡◌, ◌∷◌, ◌+◌, ◌<◌, ◌≤◌, [], true, MatchOption, IfSome, length};
 ghost use Rattle.std.specs.Char.{is_ascii_alphabetic};
 ghost use Rattle.std.specs.List.{list_all};
 ghost use Rattle.std.specs.Str.{IsUtf8};
-ghost use Rattle.paragraphs.specs.Private.Plain.{is_plain, is_ascii_gap, AreLetters, EachBetween, IsPlainWord, IsRun};
-ghost use Rattle.paragraphs.specs.Private.Plain.{BeginsWith};
+ghost use Rattle.paragraphs.specs.Private.Plain.{is_plain, is_ascii_gap, AreLetters, EachBetween, IsPlainWord};
 ghost use Rattle.paragraphs.specs.Private.Printable.{is_printable};
 ghost use Rattle.paragraphs.specs.Words.{words};
 
@@ -151,41 +150,4 @@ pub(crate) fn next_word(text: &str) -> Option<FirstWord>
         letters: false,
         after,
     })
-}
-
-// Returns the end of the plain word from a place on, if it is at most so far.
-#[inline(always)]
-fn plain_end_within(place: BytePlace, most: usize) -> Option<usize>
-    ensures { IfSome result (λ end. IsPlainWord place.entry.bytes.now place.entry.at end) }
-{
-    let end = plain_end(place, place.at)?;
-    if most < end {
-        return None;
-    }
-    Some(end)
-}
-
-// Returns the end of the first word, or of more words, each one space after the one before. The end is at most so far.
-fn run_end(bytes: &[u8], most: usize) -> Option<usize>
-    ensures { IfSome result (λ end. IsRun bytes.now end) }
-{
-    let mut end = plain_end_within(BytePlace { bytes, at: 0 }, most)?;
-    'words: while end < bytes.len() && bytes[end] == b' ' {
-        let next = BytePlace { bytes, at: end + 1 };
-        match plain_end_within(next, most) {
-            Some(next) => end = next,
-            None => return Some(end),
-        }
-    }
-    Some(end)
-}
-
-// Splits a text after words of printable ASCII that are one space apart, and have at most that many bytes.
-pub(crate) fn split_run(text: &str, most: usize) -> Option<(&str, &str)>
-    ensures run { IfSome result (λ x. BeginsWith text.now x.0.now x.1.now) }
-    ensures less { IfSome result (λ x. length x.1.now < length text.now) }
-{
-    let begun = &text[past_gaps(text.as_bytes())..];
-    let end = run_end(begun.as_bytes(), most)?;
-    Some(begun.split_at(end))
 }

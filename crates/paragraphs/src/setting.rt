@@ -1,7 +1,7 @@
 //! Lines of parts.
 
 ghost use Rattle.std.specs.Prelude.{◌≡◌, ℕ, ◌+◌, ◌*◌, ◌-◌, ◌^◌, ◌<◌, ◌≤◌, ◌++◌, List, true, false, if◌then◌else◌, IfOk};
-ghost use Rattle.std.specs.Prelude.{IfSome, OnOk, MatchOption, length, map};
+ghost use Rattle.std.specs.Prelude.{OnOk, MatchOption, length, map};
 ghost use Rattle.std.specs.List.{list_all};
 ghost use Rattle.std.specs.String.{string_bytes};
 ghost use Rattle.paragraphs.specs.Aims.{IsAimedAt, IsSet};
@@ -201,17 +201,6 @@ fn stretch_of_texts(alloc: Global, part: &Part) -> Result<Option<Stretch>, Alloc
     Ok(Some(stretch))
 }
 
-// Returns the columns of a part, or `None` where it is too long to be measured.
-pub(crate) fn stretch(alloc: Global, part: &Part) -> Result<Option<Stretch>, AllocError>
-    ensures { IfOk result (λ made. MatchOption made (is_short_part part.now ≡ false)
-        (λ stretch. stretch ≡ stretch_of (setting_of part.now))) }
-{
-    if is_bare(part) {
-        return Ok(Some(bare_stretch(part)));
-    }
-    stretch_of_texts(alloc, part)
-}
-
 // Returns the columns of all parts, or `None` where one is too long to be measured.
 pub(crate) fn stretches(alloc: Global, parts: &[Part]) -> Result<Option<Vec<Stretch>>, AllocError>
     ensures { IfOk result (λ made. MatchOption made (list_all is_short_part parts.now ≡ false)
@@ -353,7 +342,7 @@ fn line(
 }
 
 // Returns the lines that end at a row of ends. Most have about that many columns.
-pub(crate) fn lines(
+fn lines(
     alloc: Global,
     parts: &[Part],
     columns: u16,

@@ -1,6 +1,6 @@
 //! The parts of a paragraph, and its lines.
 
-ghost use Rattle.std.specs.Prelude.{◌≡◌, IfOk, IfErr, IfSome, OnOk, map};
+ghost use Rattle.std.specs.Prelude.{◌≡◌, IfOk, IfErr, OnOk, map};
 ghost use Rattle.std.specs.String.{string_bytes};
 ghost use Rattle.paragraphs.specs.Pages.{IsFilled};
 ghost use Rattle.paragraphs.specs.Private.Open.{AddsParts};
@@ -11,7 +11,6 @@ ghost use Rattle.paragraphs.specs.Styles.{style_of};
 ghost use Rattle.paragraphs.specs.Parts.{word_parts, other_parts, parts_of};
 ghost use Rattle.paragraphs.specs.Words.{words};
 
-use crate::mixed::{full_lines, mixed_of};
 use crate::part::Part;
 use crate::parting::StyledWord;
 use crate::plain::{FirstWord, next_word};
@@ -113,53 +112,6 @@ impl From<AllocError> for FillError {
     }
 }
 
-// Returns the lines of a paragraph, each as full as can be, if few of its words have to be broken to find them.
-fn full_lines_of<'h, H: Hyphenator<'h>>(
-    alloc: Global,
-    dictionary: &'h H,
-    style: &Style,
-    text: &str,
-    columns: u16,
-) -> Result<Option<Vec<String>>, AllocError>
-    ensures { IfOk result (λ found. IfSome found (λ lines. IsFilled Aim.Full (H.breaks_of dictionary.now)
-        (style_of style.now) columns text.now (map string_bytes lines.items))) }
-{
-    let mixed = mixed_of(alloc, dictionary, style, text, columns)?;
-    let found = full_lines(alloc, &mixed.parts, &mixed.wholes, columns)?;
-    let Some(lines) = found else {
-        return Ok(None);
-    };
-    Ok(Some(lines))
-}
-
-// Returns the lines of a paragraph, of which all words are broken.
-fn fill_all<'h, H: Hyphenator<'h>>(
-    alloc: Global,
-    dictionary: &'h H,
-    style: &Style,
-    text: &str,
-    columns: u16,
-    aim: Aim,
-) -> Result<Vec<String>, FillError>
-    ensures lines { IfOk result (λ lines. IsFilled aim (H.breaks_of dictionary.now) (style_of style.now) columns
-        text.now (map string_bytes lines.items)) }
-    ensures too_long { IfErr result (λ e. e ≡ FillError.TooLong →
-        IsTooLong (parts_of (H.breaks_of dictionary.now) (style_of style.now) (words text.now))) }
-{
-    let parts = parts_of(alloc, dictionary, style, text)?;
-    if parts.len() >= 1 << 30 {
-        return Err(FillError::TooLong);
-    }
-    let made = stretches(alloc, &parts)?;
-    match made {
-        Some(stretches) => {
-            let lines = set(alloc, &parts, &stretches, columns, aim)?;
-            Ok(lines)
-        }
-        None => Err(FillError::TooLong),
-    }
-}
-
 /// Returns the lines of a paragraph: its words with one space between them, broken where a line ends.
 ///
 /// A word is what is between gaps. It may be broken where the dictionary breaks one of its pieces between Unicode's
@@ -186,11 +138,16 @@ pub fn fill<'h, H: Hyphenator<'h>>(
     ensures too_long { IfErr result (λ e. e ≡ FillError.TooLong →
         IsTooLong (parts_of (H.breaks_of dictionary.now) (style_of style.now) (words text.now))) }
 {
-    if let Aim::Full = aim {
-        let found = full_lines_of(alloc, dictionary, style, text, columns)?;
-        if let Some(lines) = found {
-            return Ok(lines);
-        }
+    let parts = parts_of(alloc, dictionary, style, text)?;
+    if parts.len() >= 1 << 30 {
+        return Err(FillError::TooLong);
     }
-    fill_all(alloc, dictionary, style, text, columns, aim)
+    let made = stretches(alloc, &parts)?;
+    match made {
+        Some(stretches) => {
+            let lines = set(alloc, &parts, &stretches, columns, aim)?;
+            Ok(lines)
+        }
+        None => Err(FillError::TooLong),
+    }
 }

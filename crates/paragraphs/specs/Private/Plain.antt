@@ -1,12 +1,9 @@
--- Words of printable ASCII, one space apart.
-use Rattle.std.specs.Prelude.{◌≡◌, ℕ, ◌<◌, ◌≤◌, ◌==◌, ◌||◌, Bool, true, List, [], ◌∷◌, ◌++◌, length, take, drop}
+-- Words of printable ASCII.
+use Rattle.std.specs.Prelude.{◌≡◌, ℕ, ◌<◌, ◌≤◌, ◌==◌, ◌||◌, Bool, true, List, length}
 use Rattle.std.specs.Prelude.{slice_index}
 use Rattle.std.specs.Char.{is_ascii_alphabetic}
 use Rattle.std.specs.Int.{is_in_range}
 use Rattle.std.specs.List.{list_all}
-use Rattle.hyphenation_breaks.specs.Ascii.{space}
-use Rattle.paragraphs.specs.Private.Printable.{is_printable}
-use Rattle.paragraphs.specs.Words.{words}
 
 -- A byte is a printable character of ASCII, but no space.
 abbrev pub is_plain : ℕ → Bool
@@ -34,30 +31,3 @@ pub record IsPlainWord (bytes : List ℕ) (start end : ℕ) : Type 0 where
   pub within : end ≤ length bytes
   pub plain : EachBetween is_plain bytes start end
   pub ended : EndsAt bytes end
-
--- Words with one space between two of them.
-abbrev pub in_a_row : List (List ℕ) → List ℕ
-in_a_row [] = []
-in_a_row (word ∷ []) = word
-in_a_row (word ∷ next ∷ others) = word ++ space ∷ in_a_row (next ∷ others)
-
--- A text of printable ASCII is these words.
-pub record IsRow (row : List (List ℕ)) (text : List ℕ) : Type 0 where
-  pub some : 0 < length row
-  pub joined : text ≡ in_a_row row
-  pub printable : list_all is_printable text ≡ true
-
--- These words are before a place, and the other words of a text after it.
-pub record IsRun (bytes : List ℕ) (end : ℕ) : Type 0 where
-  pub row : List (List ℕ)
-  pub made : IsRow row (take end bytes)
-  pub parted : words bytes ≡ row ++ words (drop end bytes)
-  pub after : 0 < end
-  pub within : end ≤ length bytes
-  pub ended : EndsAt bytes end
-
--- A run is the first words of a text, and the rest has the others.
-pub record BeginsWith (text run rest : List ℕ) : Type 0 where
-  pub row : List (List ℕ)
-  pub made : IsRow row run
-  pub parted : words text ≡ row ++ words rest

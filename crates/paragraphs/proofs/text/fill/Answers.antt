@@ -10,7 +10,7 @@ use Rattle.paragraphs.specs.Words.{words}
 use Rattle.paragraphs.proofs.PlainParts.{plain_parts_orderly}
 use Rattle.paragraphs.proofs.ShortParts.{not_all_short}
 use Rattle.paragraphs.proofs.WordsKept.{words_kept}
-use Rattle.paragraphs.proofs.text.fill_all.Goals as goal
+use Rattle.paragraphs.proofs.text.fill.Goals as goal
 
 pub returns-clause-too_long : goal.returns-clause-too_long
 returns-clause-too_long g c = λ _.
