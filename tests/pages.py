@@ -13,7 +13,8 @@ For each page:
 - A second run changes nothing.
 - With --browser, the tree that the browser makes of both is the same too, except for soft hyphens in text.
 
-Without pages it also tries the folders in which dictionaries are found by the environment.
+Without pages it also tries the folders in which dictionaries are found by the environment, and that a dictionary is
+opened once for all pages.
 
 html.parser ends some comments and scripts otherwise than the standard does. So it does not read a page whose name
 begins with `odd`.
@@ -229,6 +230,21 @@ def try_folders(program):
             check(found == wanted, f"folders by {sorted(variables)}: {found} soft hyphens, and not {wanted}")
 
 
+def try_once(program):
+    """A dictionary that is found is opened once for all pages: it is a pipe, which gives its text once."""
+    with tempfile.TemporaryDirectory() as top:
+        os.symlink("/dev/stdin", os.path.join(top, "en.txt"))
+        pages = []
+        for number, language in enumerate(("en", "fr", "en-GB", "en")):
+            pages.append(os.path.join(top, f"{number}.html"))
+            with open(pages[-1], "w", encoding="utf-8") as file:
+                file.write(f"<p lang={language}>firkin")
+        dictionary = b"hyphenation 1 standard\nlanguage en\nminima 1 1\ne firkin 3\n"
+        status, written, messages = run(program, ["--dictionaries", top, "--mark", "-", *pages], dictionary)
+        check(status == 0 and written.decode().count("fir-kin") == 3,
+              f"a dictionary that is a pipe: status {status}, {written.decode()!r}: {messages}")
+
+
 def main():
     usage = "%(prog)s [--browser BROWSER] [--option OPTION].. [PAGE..]"
     parser = argparse.ArgumentParser(prog="tests/pages", usage=usage)
@@ -251,6 +267,7 @@ def main():
             try_page(given, path)
     if not given.pages:
         try_folders(given.program)
+        try_once(given.program)
     print(f"{passed} passed, {failed} failed")
     return 1 if failed or not passed else 0
 

@@ -6,5 +6,6 @@ pub mod Requests
 pub mod Runs
 pub mod Given
 pub mod Codes
+pub mod Loaded
 pub mod Served
 pub mod Telling

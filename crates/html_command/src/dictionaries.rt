@@ -1,6 +1,7 @@
-//! The dictionaries of a page: those that the arguments give, and those that folders have.
+//! The dictionaries of a page: those that the arguments give, and those that folders have. Each is loaded for the first page
+//! that needs it, and kept for those after it.
 
-ghost use Rattle.std.specs.Prelude.{◌≡◌, ◌∷◌, ◌++◌, [], IfErr, IfOk, IfSome, OnOk, map};
+ghost use Rattle.std.specs.Prelude.{◌≡◌, ◌≤◌, ◌∷◌, ◌++◌, [], IfErr, IfOk, IfSome, OnOk, map, length, take, drop, position};
 ghost use Rattle.hyphenation_breaks.specs.Borrowed.{texts_now};
 ghost use Rattle.std.specs.List.{list_any};
 ghost use Rattle.std.specs.Option.{option_map};
@@ -9,8 +10,8 @@ ghost use Rattle.html_pieces.specs.Languages.{languages_of};
 ghost use Rattle.language_search.specs.Paths.{paths_of_code};
 ghost use Rattle.language_search.specs.Tags.{codes_of};
 ghost use Rattle.html_command.specs.Dictionaries.{code_of, BeginsWith, HasCodesOf, AreGiven, AddsFound, AreDictionariesFor};
-ghost use Rattle.html_command.specs.Dictionaries.{IsFoundFor, IsServed, AreServed, tags_for};
-ghost use Rattle.html_command.specs.Private.Found.{codes_with, AddsFoundFor};
+ghost use Rattle.html_command.specs.Dictionaries.{IsFoundFor, IsServed, AreServed, folders_for, tags_for};
+ghost use Rattle.html_command.specs.Private.Found.{codes_with, AddsFoundFor, AreFirst, AreLoaded, Takes};
 ghost use Rattle.html_command.specs.Private.Requests.{parsed_dictionary, parsed_options};
 ghost use Rattle.html_command.specs.Private.Runs.{FailsOver, IsRefusedFound};
 ghost use Rattle.command_line.specs.Dictionaries.{IsOfFirst, IsRefusedAmong};
@@ -46,14 +47,13 @@ fn push(all: &mut Vec<LanguageDictionary>, language: LanguageDictionary) -> Resu
     Ok(())
 }
 
-// The dictionaries that the arguments give, in their order.
-#[tactic(auto, using(crate::proofs::Given::codes_of_given, crate::proofs::Refused::given_is_refused))]
-fn load_given<F: NamedFiles>(
+/// Returns the dictionaries that the arguments give, in their order.
+#[tactic(auto, using(crate::proofs::Refused::given_is_refused))]
+pub(crate) fn load_given<F: NamedFiles>(
     files: &F,
     alloc: Global,
     given: &[GivenDictionary<'_>],
 ) -> Result<Vec<LanguageDictionary>, Failure>
-    ensures codes { IfOk result (λ all. map code_of all.items ≡ map (λ one. one.language) given.now) }
     ensures given { IfOk result (λ all. AreGiven (F.bytes files.now) (map parsed_dictionary given.now) all.items) }
     ensures failure { IfErr result
         (IsRefusedAmong (F.bytes files.now) (map (λ one. one.path.now) given.now)) }
@@ -74,9 +74,25 @@ fn has_code(all: &[LanguageDictionary], code: &str) -> bool
     all.iter().any(|one| one.code.as_str() == code)
 }
 
-// Returns the dictionary of a code, from the folders.
+// Returns the place of the first dictionary of a code.
+fn place_of(all: &[LanguageDictionary], code: &str) -> Option<usize>
+    ensures { result ≡ position (λ one. bytes_eq (code_of one) code.now) all.now }
+{
+    all.iter().position(|one| one.code.as_str() == code)
+}
+
+// Takes the dictionary of a code out of others, if it is there.
+fn take_code(others: &mut Vec<LanguageDictionary>, code: &str) -> Option<LanguageDictionary>
+    ensures code { IfSome result (λ one. code_of one ≡ code.now) }
+    ensures taken { Takes others.old.items others.new.items result }
+{
+    let place = place_of(others, code)?;
+    Some(others.remove(place))
+}
+
+// Loads the dictionary of a code, from the folders.
 #[tactic(auto, using(crate::proofs::Refused::found_is_refused))]
-fn find_code<F: NamedFiles>(
+fn load_code<F: NamedFiles>(
     files: &F,
     alloc: Global,
     folders: &[&str],
@@ -95,6 +111,28 @@ fn find_code<F: NamedFiles>(
     Ok(Some(with_code(alloc, language.code(), dictionary)?))
 }
 
+// Returns the dictionary of a code, which is one of the others or else is loaded.
+#[tactic(auto, using(crate::proofs::Loaded::first_left, crate::proofs::Loaded::first_taken))]
+fn find_code<F: NamedFiles>(
+    files: &F,
+    alloc: Global,
+    folders: &[&str],
+    language: &Language,
+    others: &mut Vec<LanguageDictionary>,
+) -> Result<Option<LanguageDictionary>, Failure>
+    requires { AreFirst (F.bytes files.now) (texts_now folders.now) others.old.items }
+    ensures first { IfOk result (λ found. IsOfFirst (F.bytes files.now) (paths_of_code (texts_now folders.now) language.now)
+        (option_map (λ one. one.dictionary) found)) }
+    ensures code { IfOk result (λ found. IfSome found (λ one. code_of one ≡ language.now)) }
+    ensures others { OnOk result (AreFirst (F.bytes files.now) (texts_now folders.now) others.new.items) }
+    ensures failure { IfErr result (IsRefusedFound (F.bytes files.now) (texts_now folders.now)) }
+{
+    if let Some(found) = take_code(others, language.code()) {
+        return Ok(Some(found));
+    }
+    load_code(files, alloc, folders, language)
+}
+
 // Returns the dictionary of a language, from the folders: that of the longest of its codes that has one. `None` if there is
 // none, or it is there already.
 fn find_language<F: NamedFiles>(
@@ -103,10 +141,13 @@ fn find_language<F: NamedFiles>(
     folders: &[&str],
     tag: &str,
     all: &[LanguageDictionary],
+    others: &mut Vec<LanguageDictionary>,
 ) -> Result<Option<LanguageDictionary>, Failure>
+    requires { AreFirst (F.bytes files.now) (texts_now folders.now) others.old.items }
     ensures found { IfOk result (λ found. IfSome found (IsFoundFor (F.bytes files.now) (texts_now folders.now) tag.now)) }
     ensures served { IfOk result (λ found. IsServed (F.bytes files.now) (texts_now folders.now) (codes_with all.now found)
         (codes_of tag.now)) }
+    ensures others { OnOk result (AreFirst (F.bytes files.now) (texts_now folders.now) others.new.items) }
     ensures failure { IfErr result (IsRefusedFound (F.bytes files.now) (texts_now folders.now)) }
 {
     let languages = codes_of(alloc, tag)?;
@@ -114,7 +155,7 @@ fn find_language<F: NamedFiles>(
         if has_code(all, language.code()) {
             return Ok(None);
         }
-        if let Some(found) = find_code(files, alloc, folders, language)? {
+        if let Some(found) = find_code(files, alloc, folders, language, others)? {
             return Ok(Some(found));
         }
     }
@@ -129,13 +170,16 @@ fn add_found<F: NamedFiles>(
     folders: &[&str],
     tag: &str,
     all: &mut Vec<LanguageDictionary>,
+    others: &mut Vec<LanguageDictionary>,
 ) -> Result<(), Failure>
+    requires { AreFirst (F.bytes files.now) (texts_now folders.now) others.old.items }
     ensures found { OnOk result (AddsFoundFor (F.bytes files.now) (texts_now folders.now) tag.now all.old.items all.new.items) }
     ensures served { OnOk result (IsServed (F.bytes files.now) (texts_now folders.now) (map code_of all.new.items)
         (codes_of tag.now)) }
+    ensures others { OnOk result (AreFirst (F.bytes files.now) (texts_now folders.now) others.new.items) }
     ensures failure { IfErr result (IsRefusedFound (F.bytes files.now) (texts_now folders.now)) }
 {
-    let Some(language) = find_language(files, alloc, folders, tag, all)? else {
+    let Some(language) = find_language(files, alloc, folders, tag, all, others)? else {
         return Ok(());
     };
     push(all, language)?;
@@ -150,47 +194,98 @@ fn add_named<F: NamedFiles>(
     language: &str,
     page: &HtmlPage<'_>,
     all: &mut Vec<LanguageDictionary>,
+    others: &mut Vec<LanguageDictionary>,
 ) -> Result<(), Failure>
+    requires { AreFirst (F.bytes files.now) (texts_now folders.now) others.old.items }
     ensures added { OnOk result (BeginsWith (map code_of all.new.items) (map code_of all.old.items)) }
     ensures found { OnOk result (AddsFound (F.bytes files.now) (texts_now folders.now) (language.now ∷ languages_of page.now)
         all.old.items all.new.items) }
     ensures served { OnOk result (AreServed (F.bytes files.now) (texts_now folders.now) (map code_of all.new.items)
         (language.now ∷ languages_of page.now)) }
+    ensures others { OnOk result (AreFirst (F.bytes files.now) (texts_now folders.now) others.new.items) }
     ensures failure { IfErr result (IsRefusedFound (F.bytes files.now) (texts_now folders.now)) }
 {
     let languages = page.languages(alloc)?;
-    add_found(files, alloc, folders, language, all)?;
+    add_found(files, alloc, folders, language, all, others)?;
     for named in &languages {
-        add_found(files, alloc, folders, named, all)?;
+        add_found(files, alloc, folders, named, all, others)?;
     }
     Ok(())
 }
 
-/// Returns the dictionaries for a page: those that the arguments give, and then those that are found.
+// Adds the dictionaries of a page that are searched to those that the arguments give.
+#[tactic(auto, using(crate::proofs::Beginnings::without_given, crate::proofs::Codes::found_in_usual, crate::proofs::Given::codes_of_given, crate::proofs::Refused::of_found))]
+fn add_searched<F: NamedFiles>(
+    files: &F,
+    alloc: Global,
+    options: &Options<'_>,
+    folders: &[&str],
+    page: &HtmlPage<'_>,
+    all: &mut Vec<LanguageDictionary>,
+    others: &mut Vec<LanguageDictionary>,
+) -> Result<(), Failure>
+    requires given { AreGiven (F.bytes files.now) (parsed_options options.now).given all.old.items }
+    requires others { AreFirst (F.bytes files.now) (folders_for (parsed_options options.now) (texts_now folders.now))
+        others.old.items }
+    ensures codes { OnOk result (HasCodesOf (parsed_options options.now) (map code_of all.new.items)) }
+    ensures dictionaries { OnOk result (AreDictionariesFor (F.bytes files.now) (parsed_options options.now)
+        (texts_now folders.now) (tags_for (parsed_options options.now) page.now) all.new.items) }
+    ensures others { OnOk result (AreFirst (F.bytes files.now)
+        (folders_for (parsed_options options.now) (texts_now folders.now)) others.new.items) }
+    ensures failure { IfErr result (FailsOver options.now (F.bytes files.now) folders.now) }
+{
+    let language = options.language;
+    if let Some(folder) = options.folder {
+        add_named(files, alloc, &[folder], language, page, all, others)?;
+        return Ok(());
+    }
+    if options.given.is_empty() {
+        add_named(files, alloc, folders, language, page, all, others)?;
+        return Ok(());
+    }
+    Ok(())
+}
+
+// Leaves the first dictionaries, of this number, and sets aside those after them.
+fn set_aside(
+    all: &mut Vec<LanguageDictionary>,
+    others: &mut Vec<LanguageDictionary>,
+    number: usize,
+) -> Result<(), AllocError>
+    requires { number ≤ length all.old.items }
+    ensures left { OnOk result (all.new.items ≡ take number all.old.items) }
+    ensures set_aside { OnOk result (others.new.items ≡ others.old.items ++ drop number all.old.items) }
+{
+    let mut rest = all.split_off(number)?;
+    others.append(&mut rest)?;
+    Ok(())
+}
+
+/// Puts the dictionaries for a page in place of those of the page before it: those that the arguments give, and then those
+/// that are found. The others are those that were found for pages before alone.
 ///
-/// These are searched in the folder that the arguments name, or else in these folders if no dictionary is given. Each is
-/// of a language that the page names, or of the one that the arguments name for it.
-#[tactic(auto, using(crate::proofs::Beginnings::without_given, crate::proofs::Codes::found_in_usual, crate::proofs::Refused::of_given, crate::proofs::Refused::of_found))]
+/// Dictionaries are searched in the folder that the arguments name, or else in these folders if no dictionary is given. Each
+/// is of a language that the page names, or of the one that the arguments name for it. One that was found for a page before
+/// is taken from the others, and not opened again.
 pub(crate) fn load_for_page<F: NamedFiles>(
     files: &F,
     alloc: Global,
     options: &Options<'_>,
     folders: &[&str],
     page: &HtmlPage<'_>,
-) -> Result<Vec<LanguageDictionary>, Failure>
-    ensures codes { IfOk result (λ all. HasCodesOf (parsed_options options.now) (map code_of all.items)) }
-    ensures dictionaries { IfOk result (λ all. AreDictionariesFor (F.bytes files.now) (parsed_options options.now)
-        (texts_now folders.now) (tags_for (parsed_options options.now) page.now) all.items) }
+    all: &mut Vec<LanguageDictionary>,
+    others: &mut Vec<LanguageDictionary>,
+) -> Result<(), Failure>
+    requires { AreLoaded (F.bytes files.now) (parsed_options options.now) (texts_now folders.now) all.old.items
+        others.old.items }
+    ensures codes { OnOk result (HasCodesOf (parsed_options options.now) (map code_of all.new.items)) }
+    ensures dictionaries { OnOk result (AreDictionariesFor (F.bytes files.now) (parsed_options options.now)
+        (texts_now folders.now) (tags_for (parsed_options options.now) page.now) all.new.items) }
+    ensures loaded { OnOk result (AreLoaded (F.bytes files.now) (parsed_options options.now) (texts_now folders.now)
+        all.new.items others.new.items) }
     ensures failure { IfErr result (FailsOver options.now (F.bytes files.now) folders.now) }
 {
-    let mut all = load_given(files, alloc, &options.given)?;
-    if let Some(folder) = options.folder {
-        add_named(files, alloc, &[folder], options.language, page, &mut all)?;
-        return Ok(all);
-    }
-    if options.given.is_empty() {
-        add_named(files, alloc, folders, options.language, page, &mut all)?;
-        return Ok(all);
-    }
-    Ok(all)
+    set_aside(all, others, options.given.len())?;
+    add_searched(files, alloc, options, folders, page, all, others)?;
+    Ok(())
 }

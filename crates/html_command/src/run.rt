@@ -1,18 +1,18 @@
 //! A run of the program: from pages to results that are written.
 
-ghost use Rattle.std.specs.Prelude.{◌≡◌, ◌⊎◌, false, IfErr, IfOk};
+ghost use Rattle.std.specs.Prelude.{◌≡◌, ◌⊎◌, false, IfErr, IfOk, OnOk};
 ghost use Rattle.std.specs.List.{list_any};
 ghost use Rattle.std.specs.String.{string_bytes};
 ghost use Rattle.command_line.specs.Inputs.{is_standard_input};
 ghost use Rattle.hyphenation_breaks.specs.Borrowed.{texts_now};
-ghost use Rattle.html_command.specs.Private.Runs.{AreResultsBy, FailsBefore, FailsOver, HasResults, IsResultBy};
+ghost use Rattle.html_command.specs.Private.Runs.{AreLoadedBy, AreResultsBy, FailsBefore, FailsOver, HasResults, IsResultBy};
 ghost use Rattle.html_command.specs.Private.Runs.{IsFailureOfRequest, WritesRequest};
 
-use crate::dictionaries::load_for_page;
+use crate::dictionaries::{load_for_page, load_given};
 use crate::notes::{Note, PageNote, note_on, push_note};
 use crate::request::{Options, Request};
 use command_line::{Failure, NamedFiles};
-use hyphenation_html::{HtmlPage, hyphenate_html};
+use hyphenation_html::{HtmlPage, LanguageDictionary, hyphenate_html};
 use std::alloc::Global;
 use std::io::{Read, Write};
 use text_results::files::ReplaceFiles;
@@ -33,32 +33,31 @@ struct Results {
     notes: Vec<PageNote>,
 }
 
-// Returns the result of a page.
+// Returns the result of a page. The dictionaries of the page before become its own, and all that are loaded are kept.
 fn result_of<F: NamedFiles>(
     files: &F,
     alloc: Global,
     options: &Options<'_>,
     folders: &[&str],
     page: &str,
+    all: &mut Vec<LanguageDictionary>,
+    others: &mut Vec<LanguageDictionary>,
 ) -> Result<Marked, Failure>
+    requires { AreLoadedBy options.now (F.bytes files.now) folders.now all.old.items others.old.items }
     ensures result { IfOk result (λ marked.
         IsResultBy options.now (F.bytes files.now) folders.now page.now marked.text marked.note) }
+    ensures loaded { OnOk result (AreLoadedBy options.now (F.bytes files.now) folders.now all.new.items others.new.items) }
     ensures failure { IfErr result (FailsOver options.now (F.bytes files.now) folders.now) }
 {
     let cut = HtmlPage::new(alloc, page)?;
-    let dictionaries = load_for_page(files, alloc, options, folders, &cut)?;
-    let text = hyphenate_html(
-        alloc,
-        &dictionaries,
-        options.language,
-        &options.settings,
-        &cut,
-    )?;
-    let note = note_on(alloc, &dictionaries, options.language, &cut)?;
+    load_for_page(files, alloc, options, folders, &cut, all, others)?;
+    let text = hyphenate_html(alloc, all, options.language, &options.settings, &cut)?;
+    let note = note_on(alloc, all, options.language, &cut)?;
     Ok(Marked { text, note })
 }
 
 // Returns the results of pages.
+#[tactic(auto, using(crate::proofs::Loaded::loaded_given))]
 fn results_of_pages<F: NamedFiles>(
     files: &F,
     alloc: Global,
@@ -70,10 +69,12 @@ fn results_of_pages<F: NamedFiles>(
         AreResultsBy options.now (F.bytes files.now) folders.now pages.now results.texts.items results.notes.items) }
     ensures failure { IfErr result (FailsOver options.now (F.bytes files.now) folders.now) }
 {
+    let mut all = load_given(files, alloc, &options.given)?;
+    let mut others = Vec::new(alloc);
     let mut texts = Vec::new(alloc);
     let mut notes = Vec::new(alloc);
     for page in pages {
-        let one = result_of(files, alloc, options, folders, page)?;
+        let one = result_of(files, alloc, options, folders, page, &mut all, &mut others)?;
         push_note(&mut notes, texts.len(), one.note)?;
         push(&mut texts, one.text)?;
     }
@@ -104,9 +105,10 @@ fn results_of<F: NamedFiles, I: Read>(
 /// Writes the results of all pages of a request, once all of them are made. Returns a note on each page that no dictionary
 /// served.
 ///
-/// The pages are read in their order, and then the dictionaries of each are loaded. The first step that fails gives the
-/// failure. After [`Failure::Output`] a beginning may be written. After [`Failure::Writing`] the files before that one are
-/// replaced, and those from it on are as they were. After any other failure but [`Failure::Memory`] nothing is written.
+/// The pages are read in their order, and then the dictionaries of each are loaded, unless a page before it needed them. So
+/// that of a language is opened once. The first step that fails gives the failure. After [`Failure::Output`] a beginning may
+/// be written. After [`Failure::Writing`] the files before that one are replaced, and those from it on are as they were.
+/// After any other failure but [`Failure::Memory`] nothing is written.
 #[tactic(auto, using(crate::proofs::Runs::fails_before))]
 pub fn run<F: NamedFiles, S: ReplaceFiles, I: Read, O: Write>(
     files: &F,

@@ -1,9 +1,10 @@
 -- The steps of finding dictionaries.
-use Rattle.std.specs.Prelude.{◌≡◌, ℕ, List, [], ◌∷◌, ◌++◌, map, Option, Some, None}
-use Rattle.std.specs.List.{All}
+use Rattle.std.specs.Prelude.{◌≡◌, ◌<◌, ℕ, List, [], ◌∷◌, ◌++◌, length, map, slice_index_or, Option, Some, None}
+use Rattle.std.specs.List.{All, remove}
 use Rattle.command_line.specs.Dictionaries.{KnownFiles}
 use Rattle.hyphenation_html.specs.declared.languages.LanguageDictionary.{LanguageDictionary}
-use Rattle.html_command.specs.Dictionaries.{code_of, IsFoundFor}
+use Rattle.html_command.specs.Arguments.{ParsedOptions}
+use Rattle.html_command.specs.Dictionaries.{code_of, AreGiven, IsFirstFor, IsFoundFor, folders_for}
 
 -- The codes of dictionaries, with that of one that may be found.
 abbrev pub codes_with : List LanguageDictionary → Option LanguageDictionary → List (List ℕ)
@@ -14,3 +15,21 @@ codes_with all (Some found) = map code_of all ++ code_of found ∷ []
 abbrev pub AddsFoundFor : KnownFiles → List (List ℕ) → List ℕ → List LanguageDictionary → List LanguageDictionary → Type 0
 AddsFoundFor bytes_of folders tag before all =
     (rest : List LanguageDictionary) × (all ≡ before ++ rest) × All (IsFoundFor bytes_of folders tag) rest
+
+-- One of some dictionaries is taken out, or none is.
+abbrev pub Takes : List LanguageDictionary → List LanguageDictionary → Option LanguageDictionary → Type 0
+Takes before after None = after ≡ before
+Takes before after (Some one) = (place : ℕ) × (place < length before) × (one ≡ slice_index_or before place one)
+    × (after ≡ remove before place)
+
+-- Each of some dictionaries is the first that folders have for its language.
+abbrev pub AreFirst : KnownFiles → List (List ℕ) → List LanguageDictionary → Type 0
+AreFirst bytes_of folders dictionaries = All (IsFirstFor bytes_of folders) dictionaries
+
+-- The dictionaries of a page begin with those that the arguments give. All that come after, and all others, are the first
+-- that the folders have.
+abbrev pub AreLoaded : KnownFiles → ParsedOptions → List (List ℕ) → List LanguageDictionary → List LanguageDictionary → Type 0
+AreLoaded bytes_of options usual all others =
+    (given : List LanguageDictionary) × AreGiven bytes_of options.given given
+    × ((found : List LanguageDictionary) × (all ≡ given ++ found) × AreFirst bytes_of (folders_for options usual) found)
+    × AreFirst bytes_of (folders_for options usual) others

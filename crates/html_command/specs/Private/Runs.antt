@@ -8,11 +8,13 @@ use Rattle.command_line.specs.declared.failure.Failure.{Failure}
 use Rattle.command_line.specs.declared.failure.Failure.TheVariants as failed
 use Rattle.hyphenation_breaks.specs.Borrowed.{texts_now}
 use Rattle.hyphenation_breaks.specs.Language.{IsCode}
+use Rattle.hyphenation_html.specs.declared.languages.LanguageDictionary.{LanguageDictionary}
 use Rattle.language_search.specs.Paths.{paths_of_code}
 use Rattle.text_results.specs.Files.{WrittenFiles}
 use Rattle.text_results.specs.Written.{WritesResults, IsFailureFor}
 use Rattle.html_command.specs.Arguments.{ParsedArgs}
 use Rattle.html_command.specs.Dictionaries.{IsRefusedFor}
+use Rattle.html_command.specs.Private.Found.{AreLoaded}
 use Rattle.html_command.specs.Private.Requests.{parsed_options, parsed_request}
 use Rattle.html_command.specs.Notes.{MarkedPage, notes_of, texts_of}
 use Rattle.html_command.specs.Written.{AreHyphenated, AreResults, AreTextsOfResults, IsFailureBefore, IsHyphenatedPage}
@@ -30,6 +32,10 @@ IsRefusedFound bytes_of folders failure =
 -- The dictionaries of options fail so.
 abbrev pub FailsOver : Options → KnownFiles → List (Bor (List ℕ)) → Failure → Type 0
 FailsOver options bytes_of folders = IsRefusedFor bytes_of (parsed_options options) (texts_now folders)
+
+-- The dictionaries of a page of a run with these options, and others that are loaded.
+abbrev pub AreLoadedBy : Options → KnownFiles → List (Bor (List ℕ)) → List LanguageDictionary → List LanguageDictionary → Type 0
+AreLoadedBy options bytes_of folders = AreLoaded bytes_of (parsed_options options) (texts_now folders)
 
 -- This string with this note is the result of a page.
 abbrev pub IsResultBy : {Z : Type 0} → Options → KnownFiles → List (Bor (List ℕ)) → List ℕ → String Z → Option Note → Type 0

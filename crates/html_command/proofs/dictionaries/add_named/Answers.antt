@@ -12,13 +12,15 @@ loop-named-init g c =
     let folders = texts_now c.args.folders.now in (
       named_first bytes_of folders c.args.language.now (map string_bytes c.deref-named-items.result.now) c.args.all.now.items c.add_found.new.all.items c.in_ok-add_found.ensures.found,
       served_first bytes_of folders (map code_of c.add_found.new.all.items) c.args.language.now c.in_ok-add_found.ensures.served,
+      c.in_ok-add_found.ensures.others,
     )
 
 pub loop-named-preserved : goal.loop-named-preserved
 loop-named-preserved g c =
-    named_more (g.F.NamedFiles.bytes c.args.files.now) (texts_now c.args.folders.now) c.args.language.now c.deref.result.now c.deref-named-items.result.now c.loop-named.named-index c.named-item.result
+    let more = named_more (g.F.NamedFiles.bytes c.args.files.now) (texts_now c.args.folders.now) c.args.language.now c.deref.result.now c.deref-named-items.result.now c.loop-named.named-index c.named-item.result
     c.args.all.now.items c.loop-named.all.items c.add_found-in-loop-named.new.all.items c.loop-named-test.true c.named-item.is c.deref.ensures
-    c.loop-named.invariant.0 c.loop-named.invariant.1 c.in_ok-add_found-2.ensures.found c.in_ok-add_found-2.ensures.served
+    c.loop-named.invariant.0 c.loop-named.invariant.1 c.in_ok-add_found-2.ensures.found c.in_ok-add_found-2.ensures.served in
+    (more.0, more.1, c.in_ok-add_found-2.ensures.others)
 
 pub returns-clause-added : goal.returns-clause-added
 returns-clause-added g c =

@@ -15,7 +15,7 @@ returns-then-has_code-clause-served g c =
     let there : List (List ℕ) = map code_of c.args.all.now in
     let has : Contains there c.language-item.result =
     has_code_there c.args.all.now c.language-item.result c.code.result.now c.has_code.result c.code.ensures c.has_code.ensures c.if-has_code.true in
-    c.loop-language.invariant there
+    c.loop-language.invariant.0 there
     (served_at (g.F.NamedFiles.bytes c.args.files.now) (texts_now c.args.folders.now) there c.deref-language-items.result.now c.loop-language.language-index c.language-item.result
     c.loop-language-test.true c.language-item.is has)
 
@@ -26,22 +26,24 @@ returns-in-Some-clause-served g c =
     subst (λ (found : Option LanguageDictionary). IfSome found (λ one. code_of one ≡ c.language-item.result)) c.in-Some.is c.in_ok-found.ensures.code in
     let has : Contains there c.language-item.result =
     subst (λ (code : List ℕ). Contains there code) same (Contains-push (map code_of c.args.all.now) (code_of c.in-Some.found)) in
-    c.loop-language.invariant there
+    c.loop-language.invariant.0 there
     (served_at (g.F.NamedFiles.bytes c.args.files.now) (texts_now c.args.folders.now) there c.deref-language-items.result.now c.loop-language.language-index c.language-item.result
     c.loop-language-test.true c.language-item.is has)
 
 pub loop-language-preserved : goal.loop-language-preserved
-loop-language-preserved g c = λ there served.
+loop-language-preserved g c =
     let bytes_of = g.F.NamedFiles.bytes c.args.files.now in
     let folders = texts_now c.args.folders.now in
     let none : IsOfFirst bytes_of (paths_of_code folders c.language-item.result) None =
-    subst (λ (found : Option LanguageDictionary). IsOfFirst bytes_of (paths_of_code folders c.language-item.result) (option_map (λ one. one.dictionary) found)) c.in_default.is c.in_ok-found.ensures.first in
-    c.loop-language.invariant there
-    (served_after bytes_of folders there c.deref-language-items.result.now c.loop-language.language-index c.language-item.result
-    c.loop-language-test.true c.language-item.is none served)
+    subst (λ (found : Option LanguageDictionary). IsOfFirst bytes_of (paths_of_code folders c.language-item.result) (option_map (λ one. one.dictionary) found)) c.in_default.is c.in_ok-found.ensures.first in (
+      λ there served. c.loop-language.invariant.0 there
+          (served_after bytes_of folders there c.deref-language-items.result.now c.loop-language.language-index c.language-item.result
+          c.loop-language-test.true c.language-item.is none served),
+      c.in_ok-found.ensures.others,
+    )
 
 pub returns-clause-served : goal.returns-clause-served
 returns-clause-served g c =
     let there : List (List ℕ) = map code_of c.args.all.now in
-    c.loop-language.invariant there
+    c.loop-language.invariant.0 there
     (served_end (g.F.NamedFiles.bytes c.args.files.now) (texts_now c.args.folders.now) there c.deref-language-items.result.now c.loop-language.language-index c.loop-language-test.false)

@@ -1,8 +1,5 @@
-use Rattle.std.proofs.Common.{◌∙◌, map, subst}
-use Rattle.std.proofs.lemmas.List.{take_all}
-use Rattle.html_command.specs.Dictionaries.{AreGiven}
-use Rattle.html_command.specs.Private.Requests.{parsed_dictionary}
-use Rattle.html_command.proofs.Given.{given_more, codes_of_given}
+use Rattle.std.proofs.Common.{◌∙◌}
+use Rattle.html_command.proofs.Given.{given_more}
 use Rattle.html_command.proofs.dictionaries.load_given.Goals as goal
 
 pub loop-one-preserved : goal.loop-one-preserved
@@ -10,9 +7,3 @@ loop-one-preserved g c =
     given_more (g.F.NamedFiles.bytes c.args.files.now) c.args.given.now c.loop-one.one-index c.one-item.result c.loop-one.all.items c.push.new.all.items
     c.in_ok-language.language c.in_ok-dictionary.dictionary c.loop-one-test.true c.one-item.is c.loop-one.invariant
     (c.in_ok-language.ensures.code ∙ c.code.ensures) c.in_ok-language.ensures.dictionary c.in_ok-dictionary.ensures.loaded c.in_ok-push.ensures.pushed
-
-pub returns-clause-codes : goal.returns-clause-codes
-returns-clause-codes g c =
-    codes_of_given (g.F.NamedFiles.bytes c.args.files.now) c.args.given.now c.loop-one.all.items
-    (subst (λ given. AreGiven (g.F.NamedFiles.bytes c.args.files.now) (map parsed_dictionary given) c.loop-one.all.items)
-    (take_all c.loop-one.one-index c.args.given.now c.loop-one-test.false) c.loop-one.invariant)
