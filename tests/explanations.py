@@ -6,8 +6,8 @@ Usage: explanations.py PROGRAM FOLDER. The last line is `N passed, M failed`.
 Each dictionary is asked about many words at once, as lines for programs and as pictures. The lines must be exactly those
 of this script, which looks each text between two places up among the keys. Some words and keys have control characters,
 which lines have escaped. Each letter of a picture must be below the same
-letter of the frame. Without spaces a picture must have the texts of this script. A document in SVG must be XML with a group
-for each word and a text for each row. Its letters and values must be at the columns and in the classes of this script.
+letter of the frame. Without spaces a picture must have the texts of this script. A document in SVG must be XML with the
+rows of each word and an empty one. Its letters and values must be at the columns and in the classes of this script.
 """
 
 import pathlib
@@ -274,7 +274,7 @@ def shown(text):
 
 
 class Drawing:
-    """The rows of a drawing: for each the pieces, each with its class, its middle or begin in pixels, and its text."""
+    """The rows of a drawing: for each the pieces, each with its class, its begin in pixels, and its text."""
 
     def __init__(self, facts):
         self.facts = facts
@@ -297,11 +297,11 @@ class Drawing:
             at = self.letter[start + place]
             if place in values:
                 kind, value = values[place]
-                made.append((kind, str(12 * (at + 1) - 6 * len(str(value))), str(value)))
-            if c and columns_of(c) == 0 and place > 0 and place not in values:
+                made.append((kind, str(12 * (at + 1 - len(str(value)))), str(value)))
+            if c and columns_of(c) == 0 and place > 0:
                 made[-1] = (*made[-1][:2], made[-1][2] + shown(c))
             elif c:
-                made.append((None, str(12 * (at + 1) + 6 * columns_of(c)), shown(c)))
+                made.append((None, str(12 * (at + 1)), shown(c)))
             place += size(c)
         return made
 
@@ -332,30 +332,29 @@ class Drawing:
         hyphenated = facts.hyphenated()
         noted = self.note(self.note_column(sum(columns_of(c) for c in hyphenated)), decided)
         yield [("word", str(12 * (self.letter[1] + 1)), shown(hyphenated)), *noted]
+        yield []
 
 
 def undrawn(all_facts, document):
     """The faults of a document in SVG."""
     root = xml.etree.ElementTree.fromstring(document)
-    groups = root.findall(SVG + "g")
-    if root.tag != SVG + "svg" or len(groups) != len(all_facts) or root.find(SVG + "title") is None:
-        yield "not a group for each word"
-    above = 0
-    for facts, group in zip(all_facts, groups):
-        rows = [*Drawing(facts).rows()]
-        texts = group.findall(SVG + "text")
-        found = [[(span.get("class"), span.get("x"), span.text or "") for span in text] for text in texts]
-        if found != rows:
-            yield facts.word, found, rows
-        if [text.get("y") for text in texts] != [str(24 * i + 18) for i in range(len(rows))]:
-            yield facts.word, "rows are not below one another"
-        if group.get("transform") != f"translate(0 {24 * above})":
-            yield facts.word, group.get("transform")
-        if group.findtext(SVG + "title") != shown(f"{facts.word}: {facts.hyphenated()}"):
-            yield facts.word, group.findtext(SVG + "title")
-        above += len(rows) + 1
-    if not root.get("viewBox").endswith(f" {24 * above}"):
-        yield "the height", root.get("viewBox")
+    if root.tag != SVG + "svg" or root.find(SVG + "title") is None:
+        yield "not a document with a title"
+    _, _, width, height = map(int, root.get("viewBox").split())
+    found = []
+    for span in root.find(SVG + "text"):
+        if span.get("dy"):
+            found.append([])
+            if (span.attrib, span.text) != ({"x": "0", "dy": "24"}, "\u00a0"):
+                yield "a begin of a row", span.attrib, span.text
+        else:
+            found[-1].append((span.get("class"), span.get("x"), span.text or ""))
+            if int(span.get("x")) + 12 * sum(map(columns_of, span.text or "")) > width:
+                yield "a text is not inside", span.text
+    wanted = [(facts.word, row) for facts in all_facts for row in Drawing(facts).rows()]
+    if len(found) != len(wanted) or height != 24 * len(wanted):
+        yield len(found), "rows, and not", len(wanted), "height", height
+    yield from ((word, row, wanted) for row, (word, wanted) in zip(found, wanted) if row != wanted)
 
 
 def main():

@@ -11,7 +11,7 @@ use Rattle.command_line.specs.Inputs.{IsTextOf}
 use Rattle.hyphenation_breaks.specs.Ascii.{line_feed}
 use Rattle.hyphenation_breaks.specs.Borrowed.{texts_now}
 use Rattle.hyphenation_load.specs.Load.{AppendsTo}
-use Rattle.explanations.specs.Svg.{Drawn, document_of}
+use Rattle.explanations.specs.Svg.{IsDocument}
 use Rattle.explanations.specs.Words.{IsDrawingOf, IsExplanation}
 use Rattle.explanations.specs.declared.style.Style.{Style}
 use Rattle.explanations.specs.declared.style.Style.TheVariants.{Picture, Lines, Svg}
@@ -23,8 +23,8 @@ AreJoined explains words text =
     (texts : List (List ℕ)) × AllZip explains words texts × (text ≡ join_with_byte line_feed texts)
 
 -- The text is one document with a drawing for each word, which explains it, in the order of the words.
-abbrev pub AreDrawn : (List ℕ → Drawn → Type 0) → List (List ℕ) → List ℕ → Type 0
-AreDrawn draws words text = (drawings : List Drawn) × AllZip draws words drawings × (text ≡ document_of drawings)
+abbrev pub AreDrawn : (List ℕ → List ℕ → Type 0) → List (List ℕ) → List ℕ → Type 0
+AreDrawn draws words text = (drawings : List (List ℕ)) × AllZip draws words drawings × IsDocument drawings text
 
 -- The text explains the words in this style, by a dictionary.
 abbrev pub AreExplained : AnyDictionary → Style → List (List ℕ) → List ℕ → Type 0

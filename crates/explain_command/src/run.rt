@@ -8,7 +8,7 @@ ghost use Rattle.explain_command.specs.Explained.{AreDrawn, AreExplained, AreJoi
 ghost use Rattle.explain_command.specs.Explained.{ExplainsGiven, ExplainsInput, Writes};
 ghost use Rattle.explain_command.specs.Private.Joined.{gap_before};
 ghost use Rattle.explain_command.specs.Private.Requests.{parsed_request, BeforeReading};
-ghost use Rattle.explanations.specs.Drawings.{drawn};
+ghost use Rattle.explanations.specs.Svg.{drawn};
 ghost use Rattle.explanations.specs.Words.{IsDrawingOf, IsExplanation};
 ghost use Rattle.hyphenation_breaks.specs.Borrowed.{texts_now};
 

@@ -1,7 +1,6 @@
 pub mod RowsSoFar
 pub mod Prefixes
 pub mod Fielding
-pub mod Escaping
+pub mod EscapedTexts
 pub mod Walks
 pub mod Scores
-pub mod HavingRoom

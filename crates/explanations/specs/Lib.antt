@@ -6,11 +6,9 @@ pub mod Lines
 pub mod Columns
 pub mod Notes
 pub mod Marks
-pub mod Placed
+pub mod Escaping
 pub mod Picture
 pub mod Svg
-pub mod Drawings
-pub mod Room
 pub mod Texts
 pub mod Words
 pub mod Private

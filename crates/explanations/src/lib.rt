@@ -13,6 +13,7 @@
 //! ```
 #![tactic(auto)]
 
+mod escaping;
 mod facts;
 mod fields;
 mod known;
@@ -23,19 +24,14 @@ mod notes;
 mod numbers;
 mod pattern_rows;
 mod picture;
-mod placed;
-mod placed_rows;
-mod room;
 mod style;
 mod svg;
-mod svg_document;
 mod texts;
 
+pub use escaping::texts_of_drawings_are_escaped;
 pub use facts::{Decision, Explanation, explain};
 pub use fields::fields_have_no_control_characters;
 pub use pattern_rows::{Row, rows};
-pub use room::{style_sheets_end_no_element, texts_lie_within_drawings, values_stand_apart};
 pub use style::Style;
-pub use svg::texts_of_drawings_are_escaped;
-pub use svg_document::{Drawing, document};
+pub use svg::{Drawing, document};
 pub use texts::{drawing, explanation};

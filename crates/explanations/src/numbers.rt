@@ -1,7 +1,7 @@
-//! Sums and products that may not fit, numbers in decimal, and items that may not be there. On overflow the error is that of
+//! Sums and products that may not fit, and items that may not be there. On overflow the error is that of
 //! refused memory.
 
-ghost use Rattle.std.specs.Prelude.{◌≡◌, ◌+◌, ◌*◌, ◌++◌, IfOk, OnOk, decimal, slice_index_or};
+ghost use Rattle.std.specs.Prelude.{◌≡◌, ◌+◌, ◌*◌, IfOk, slice_index_or};
 
 use std::alloc::AllocError;
 
@@ -17,14 +17,6 @@ pub(crate) fn product(a: usize, b: usize) -> Result<usize, AllocError>
     ensures { IfOk result (λ product. product ≡ a * b) }
 {
     a.checked_mul(b).ok_or(AllocError)
-}
-
-// Appends a number in decimal.
-pub(crate) fn push_number(text: &mut Vec<u8>, number: usize) -> Result<(), AllocError>
-    ensures { OnOk result (text.new.items ≡ text.old.items ++ decimal number) }
-{
-    let digits = number.to_string(*text.allocator())?;
-    text.extend_from_slice(digits.as_bytes())
 }
 
 // Returns the item at a place, or the other one past the end.

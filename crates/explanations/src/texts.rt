@@ -1,19 +1,16 @@
 //! The text that explains a word, in any style, and its drawing.
 
 ghost use Rattle.std.specs.Prelude.{◌≡◌, IfOk, map};
-ghost use Rattle.explanations.specs.Drawings.{drawn};
 ghost use Rattle.explanations.specs.Private.Drawing.{facts_in};
-ghost use Rattle.explanations.specs.Texts.{Explains, IsDrawn, IsTextOf, drawing_of};
+ghost use Rattle.explanations.specs.Svg.{drawn};
+ghost use Rattle.explanations.specs.Texts.{Explains, IsDrawn, IsTextOf};
 ghost use Rattle.explanations.specs.Words.{IsDrawingOf, IsExplanation};
 
 use crate::known::{Known, known_of};
 use crate::lines::lines_of;
-use crate::numbers::sum;
-use crate::picture::picture_of;
-use crate::placed_rows::picture_rows;
+use crate::picture::push_picture;
 use crate::style::Style;
-use crate::svg::{push_rows, push_title, rows_end};
-use crate::svg_document::{Drawing, document};
+use crate::svg::{Drawing, document, known_drawing};
 use any_dictionary::AnyDictionary;
 use hyphenation_breaks::breaks::Break;
 use hyphenation_breaks::entry::{Listing, Payload};
@@ -21,26 +18,6 @@ use hyphenation_dictionary::dictionary::Dictionary;
 use hyphenation_hyphenator::hyphenator::Hyphenator;
 use hyphenation_segments::Word;
 use std::alloc::{AllocError, Global};
-
-// Returns the drawing of what is known of a word. The only error is out of memory.
-fn known_drawing<C: Payload, B: Listing>(
-    alloc: Global,
-    known: &Known<'_, '_, C, B>,
-) -> Result<Drawing, AllocError>
-    ensures { IfOk result (λ drawing. drawn drawing
-        ≡ drawing_of C.change_of (facts_in C.change_of B.meaning known.now)) }
-{
-    let rows = picture_rows(alloc, known)?;
-    let mut svg = Vec::new(alloc);
-    push_title(&mut svg, known.word, &known.hyphenated)?;
-    push_rows(&mut svg, &rows)?;
-    let width = sum(rows_end(&rows)?, 12)?;
-    Ok(Drawing {
-        rows: rows.len(),
-        width,
-        svg,
-    })
-}
 
 // Returns the text of what is known in a style. The only error is out of memory.
 fn styled<C: Payload, B: Listing>(
@@ -56,8 +33,8 @@ fn styled<C: Payload, B: Listing>(
             Ok(text)
         }
         Style::Picture => {
-            let rows = picture_rows(alloc, known)?;
-            let text = picture_of(alloc, &rows)?;
+            let mut text = Vec::new(alloc);
+            push_picture(&mut text, false, known)?;
             Ok(text)
         }
         Style::Svg => {
@@ -131,7 +108,7 @@ pub fn explanation(
 /// The only error is out of memory.
 ///
 /// ```text
-/// drawing(alloc, &dictionary, "firkins")?.rows      // 8: the lines of the picture drawn above
+/// drawing(alloc, &dictionary, "firkins")?.rows      // 9: the lines of the picture drawn above, and an empty one
 /// ```
 pub fn drawing(alloc: Global, dictionary: &AnyDictionary, word: &str) -> Result<Drawing, AllocError>
     ensures { IfOk result (λ drawing. IsDrawingOf dictionary.now word.now (drawn drawing)) }

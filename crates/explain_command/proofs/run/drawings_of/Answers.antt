@@ -1,5 +1,5 @@
 use Rattle.explanations.specs.Words.{IsDrawingOf}
-use Rattle.explanations.specs.Drawings.{drawn}
+use Rattle.explanations.specs.Svg.{drawn}
 use Rattle.explain_command.proofs.Drawings.{drawn_more}
 use Rattle.explain_command.proofs.run.drawings_of.Goals as goal
 

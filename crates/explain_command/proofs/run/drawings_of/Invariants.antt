@@ -2,7 +2,7 @@ use Rattle.std.proofs.Common.{map, take}
 use Rattle.std.specs.List.{AllZip}
 use Rattle.hyphenation_breaks.specs.Borrowed.{texts_now}
 use Rattle.explanations.specs.Words.{IsDrawingOf}
-use Rattle.explanations.specs.Drawings.{drawn}
+use Rattle.explanations.specs.Svg.{drawn}
 use Rattle.explain_command.proofs.run.drawings_of.Given as goal
 
 abbrev pub invariant-loop-word : goal.invariant-loop-word

@@ -4,7 +4,7 @@ use Rattle.hyphenation_breaks.specs.Break.{Break}
 use Rattle.hyphenation_hyphenator.specs.Fitting.{fitted_breaks_of}
 use Rattle.hyphenation_hyphenator.specs.Opportunities.{own_break, extended_rules}
 use Rattle.hyphenation_score.specs.Scoring.{own_change}
-use Rattle.explanations.specs.Drawings.{drawn}
+use Rattle.explanations.specs.Svg.{drawn}
 use Rattle.explanations.specs.Texts.{IsDrawn}
 use Rattle.explanations.specs.Words.{IsDrawingOf}
 use Rattle.explanations.proofs.texts.drawing.Goals as goal
