@@ -1,10 +1,11 @@
 -- Lists of words as C hands them over, and the places of their breaks, which come back likewise. Both are one list of all
 -- words, with the end of each word in it.
-use Rattle.std.specs.Prelude.{◌≡◌, ◌+◌, ◌<◌, ◌≤◌, zero, suc, ℕ, List, ◌∷◌, length, map, take, slice_index, Option, None, Some}
+use Rattle.std.specs.Prelude.{◌≡◌, ◌+◌, ◌<◌, ◌≤◌, zero, suc, ℕ, List, ◌∷◌, length, map, take, slice_index, Option, Some}
 use Rattle.std.specs.List.{flat_map, range_with_len, slice_range}
 use Rattle.std.specs.Str.{IsUtf8}
 use Rattle.any_dictionary.specs.Dictionaries.{all_places_by}
 use Rattle.any_dictionary.specs.declared.AnyDictionary.{AnyDictionary}
+use Rattle.c_handles.specs.Contents.{Held, Dictionary}
 use Rattle.c_calls.specs.Statuses.{Buffer, AreUnchanged, FillsBoth}
 use Rattle.c_calls.specs.declared.lists.NoList.{NoList}
 use Rattle.c_calls.specs.declared.lists.WordList.{WordList}
@@ -70,7 +71,6 @@ abbrev pub ListsWords : AnyDictionary → WordList → Buffer ℕ → Buffer ℕ
 ListsWords dictionary words b c status = Lists dictionary words.text.now words.ends.now b c status
 
 -- The call for a list of words. 3: the handle holds no dictionary, and all is unchanged.
-abbrev pub WritesLists : Option AnyDictionary → List ℕ → List ℕ → Buffer ℕ → Buffer ℕ → ℕ → Type 0
-WritesLists None text ends b c status = (status ≡ 3) × AreUnchanged b c
-WritesLists (Some dictionary) text ends b c status =
-    Lists dictionary text ends b c status
+abbrev pub WritesLists : Option Held → List ℕ → List ℕ → Buffer ℕ → Buffer ℕ → ℕ → Type 0
+WritesLists (Some (Dictionary dictionary)) text ends b c status = Lists dictionary text ends b c status
+WritesLists _ text ends b c status = (status ≡ 3) × AreUnchanged b c

@@ -7,10 +7,11 @@ use Rattle.std.specs.FinMap as finite
 use Rattle.std.specs.Str.{IsUtf8}
 use Rattle.hyphenation_breaks.specs.Break.{Change}
 use Rattle.hyphenation_breaks.specs.Dictionary.{entries_of_keys}
-use Rattle.hyphenation_score.specs.Scoring.{Scored, own_change, plain_value, scores, values}
+use Rattle.hyphenation_score.specs.Scoring.{Scored, own_change, scores, values}
 use Rattle.any_dictionary.specs.declared.AnyDictionary.{AnyDictionary}
 use Rattle.any_dictionary.specs.declared.AnyDictionary.TheVariants as of
-use Rattle.c_calls.specs.Statuses.{Buffer, AreUnchanged, FillsBoth, FindsBoth}
+use Rattle.c_handles.specs.Contents.{Held, Dictionary}
+use Rattle.c_calls.specs.Statuses.{Buffer, AreUnchanged, FindsBoth}
 use Rattle.c_calls.specs.declared.numbered.NumberedChange.{NumberedChange}
 use Rattle.c_calls.specs.declared.numbered.NumberedChanges.{NumberedChanges}
 
@@ -90,9 +91,9 @@ abbrev pub FindsException : AnyDictionary → List ℕ → Buffer NumberedChange
 FindsException dictionary word b c status = FindsListed (listed_by dictionary word) word b c status
 
 -- The call for the exception of a word. 3: the handle holds no dictionary, and all is unchanged.
-abbrev pub WritesListed : Option AnyDictionary → List ℕ → Buffer NumberedChange → Buffer ℕ → ℕ → Type 0
-WritesListed None word b c status = (status ≡ 3) × AreUnchanged b c
-WritesListed (Some dictionary) word b c status = FindsException dictionary word b c status
+abbrev pub WritesListed : Option Held → List ℕ → Buffer NumberedChange → Buffer ℕ → ℕ → Type 0
+WritesListed (Some (Dictionary dictionary)) word b c status = FindsException dictionary word b c status
+WritesListed _ word b c status = (status ≡ 3) × AreUnchanged b c
 
 -- The scores of a word's places, with their substitutions.
 abbrev pub FindsScores : AnyDictionary → List ℕ → Buffer NumberedChange → Buffer ℕ → ℕ → Type 0
@@ -101,6 +102,6 @@ FindsScores dictionary word b c status =
     status
 
 -- The call for the scores of a word. 3: the handle holds no dictionary, and all is unchanged.
-abbrev pub WritesScores : Option AnyDictionary → List ℕ → Buffer NumberedChange → Buffer ℕ → ℕ → Type 0
-WritesScores None word b c status = (status ≡ 3) × AreUnchanged b c
-WritesScores (Some dictionary) word b c status = FindsScores dictionary word b c status
+abbrev pub WritesScores : Option Held → List ℕ → Buffer NumberedChange → Buffer ℕ → ℕ → Type 0
+WritesScores (Some (Dictionary dictionary)) word b c status = FindsScores dictionary word b c status
+WritesScores _ word b c status = (status ≡ 3) × AreUnchanged b c

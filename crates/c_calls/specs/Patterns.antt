@@ -13,6 +13,7 @@ use Rattle.pattern_results.specs.declared.errors.ConvertError.{ConvertError}
 use Rattle.pattern_results.specs.declared.errors.ConvertError.TheVariants as refusals
 use Rattle.c_calls.specs.declared.patterns.Failure.{Failure}
 use Rattle.c_calls.specs.declared.patterns.Failure.TheVariants.{Memory, NotUtf8, NotCode, Fault}
+use Rattle.c_handles.specs.Contents.{Dictionary}
 use Rattle.c_calls.specs.Statuses.{Loading, kind_numbered}
 
 -- A number up to 255 is a minimum; each greater one leaves the minimum to the file.
@@ -50,7 +51,7 @@ IsFaultAt None place = ⊥
 -- code. No other status comes. From 1 on the handle is unchanged, and the line and the cause are written only with status 5.
 abbrev pub MakesAs : List ℕ → Option (ℕ × FileCause) → AnyDictionary → Loading → ℕ → Type 0
 MakesAs language fault given loading zero =
-    IsCode language × (fault ≡ None) × (loading.new ≡ Some given) × (loading.after ≡ loading.before)
+    IsCode language × (fault ≡ None) × (loading.new ≡ Some (Dictionary given)) × (loading.after ≡ loading.before)
 MakesAs language fault given loading (suc (suc zero)) = (loading.new ≡ loading.old) × (loading.after ≡ loading.before)
 MakesAs language fault given loading (suc (suc (suc (suc zero)))) =
     ¬ IsUtf8 language × (loading.new ≡ loading.old) × (loading.after ≡ loading.before)

@@ -14,6 +14,7 @@ use Rattle.any_dictionary.specs.Dictionaries.{all_places_by, breaks_by, canonica
 use Rattle.any_dictionary.specs.Kinds as kinds
 use Rattle.any_dictionary.specs.declared.AnyDictionary.{AnyDictionary}
 use Rattle.any_dictionary.specs.declared.AnyDictionary.TheVariants as of
+use Rattle.c_handles.specs.Contents.{Held, Dictionary}
 use Rattle.c_calls.specs.Dictionaries.{as_change, texts_of}
 use Rattle.c_calls.specs.declared.changes.BreakChange.{BreakChange}
 
@@ -77,16 +78,16 @@ Finds Good found old new before after _ = ⊥
 
 -- 3: the handle holds no dictionary, and the buffer and the count are unchanged. A handle with a dictionary has the
 -- statuses that are given of this dictionary.
-abbrev pub IfHeld : {T : Type 0} → Option AnyDictionary → List T → List T → ℕ → ℕ → ℕ → (AnyDictionary → Type 0) → Type 0
-IfHeld None old new before after status Says = (status ≡ 3) × IsUnchanged old new before after
-IfHeld (Some dictionary) old new before after status Says = Says dictionary
+abbrev pub IfHeld : {T : Type 0} → Option Held → List T → List T → ℕ → ℕ → ℕ → (AnyDictionary → Type 0) → Type 0
+IfHeld (Some (Dictionary dictionary)) old new before after status Says = Says dictionary
+IfHeld _ old new before after status Says = (status ≡ 3) × IsUnchanged old new before after
 
 -- The places of a word's breaks.
 abbrev pub FindsBreaks : AnyDictionary → List ℕ → List ℕ → List ℕ → ℕ → ℕ → ℕ → Type 0
 FindsBreaks dictionary word old new before after status =
     Finds (IsUtf8 word) (all_places_by dictionary word) old new before after status
 
-abbrev pub WritesBreaks : Option AnyDictionary → List ℕ → List ℕ → List ℕ → ℕ → ℕ → ℕ → Type 0
+abbrev pub WritesBreaks : Option Held → List ℕ → List ℕ → List ℕ → ℕ → ℕ → ℕ → Type 0
 WritesBreaks holds word old new before after status =
     IfHeld holds old new before after status
     (λ dictionary. FindsBreaks dictionary word old new before after status)
@@ -96,7 +97,7 @@ abbrev pub FindsValues : AnyDictionary → List ℕ → List ℕ → List ℕ �
 FindsValues dictionary word old new before after status =
     Finds (IsUtf8 word) (values_by dictionary word) old new before after status
 
-abbrev pub WritesValues : Option AnyDictionary → List ℕ → List ℕ → List ℕ → ℕ → ℕ → ℕ → Type 0
+abbrev pub WritesValues : Option Held → List ℕ → List ℕ → List ℕ → ℕ → ℕ → ℕ → Type 0
 WritesValues holds word old new before after status =
     IfHeld holds old new before after status
     (λ dictionary. FindsValues dictionary word old new before after status)
@@ -106,7 +107,7 @@ abbrev pub FindsMarkedText : AnyDictionary → List ℕ → List ℕ → List �
 FindsMarkedText dictionary text mark old new before after status =
     Finds (IsUtf8 text × IsUtf8 mark) (hyphenated_text (breaks_by dictionary) mark text) old new before after status
 
-abbrev pub WritesMarkedText : Option AnyDictionary → List ℕ → List ℕ → List ℕ → List ℕ → ℕ → ℕ → ℕ → Type 0
+abbrev pub WritesMarkedText : Option Held → List ℕ → List ℕ → List ℕ → List ℕ → ℕ → ℕ → ℕ → Type 0
 WritesMarkedText holds text mark old new before after status =
     IfHeld holds old new before after status
     (λ dictionary. FindsMarkedText dictionary text mark old new before after status)
@@ -119,19 +120,19 @@ FindsLines (of.Standard standard) text columns old new before after status =
     status
 FindsLines (of.Extended extended) text columns old new before after status = (status ≡ 6) × IsUnchanged old new before after
 
-abbrev pub WritesLines : Option AnyDictionary → List ℕ → ℕ → List ℕ → List ℕ → ℕ → ℕ → ℕ → Type 0
+abbrev pub WritesLines : Option Held → List ℕ → ℕ → List ℕ → List ℕ → ℕ → ℕ → ℕ → Type 0
 WritesLines holds text columns old new before after status =
     IfHeld holds old new before after status
     (λ dictionary. FindsLines dictionary text columns old new before after status)
 
 -- The code of the dictionary's language.
-abbrev pub WritesLanguage : Option AnyDictionary → List ℕ → List ℕ → ℕ → ℕ → ℕ → Type 0
+abbrev pub WritesLanguage : Option Held → List ℕ → List ℕ → ℕ → ℕ → ℕ → Type 0
 WritesLanguage holds old new before after status =
     IfHeld holds old new before after status
     (λ dictionary. Finds (Unit {0}) (language_by dictionary) old new before after status)
 
 -- The dictionary's canonical text.
-abbrev pub WritesCanonicalText : Option AnyDictionary → List ℕ → List ℕ → ℕ → ℕ → ℕ → Type 0
+abbrev pub WritesCanonicalText : Option Held → List ℕ → List ℕ → ℕ → ℕ → ℕ → Type 0
 WritesCanonicalText holds old new before after status =
     IfHeld holds old new before after status
     (λ dictionary. Finds (Unit {0}) (canonical_text dictionary) old new before after status)
@@ -139,9 +140,9 @@ WritesCanonicalText holds old new before after status =
 -- ---- The least numbers of characters, in two numbers of the caller's.
 
 -- 0: the numbers are the dictionary's minima. 3: the handle holds no dictionary, and both numbers are unchanged.
-abbrev pub WritesMinima : Option AnyDictionary → ℕ × ℕ → ℕ × ℕ → ℕ → Type 0
-WritesMinima None old new status = (status ≡ 3) × (new ≡ old)
-WritesMinima (Some dictionary) old new status = (status ≡ 0) × (new ≡ minima_by dictionary)
+abbrev pub WritesMinima : Option Held → ℕ × ℕ → ℕ × ℕ → ℕ → Type 0
+WritesMinima (Some (Dictionary dictionary)) old new status = (status ≡ 0) × (new ≡ minima_by dictionary)
+WritesMinima _ old new status = (status ≡ 3) × (new ≡ old)
 
 -- ---- Calls that write into two buffers.
 
@@ -185,9 +186,9 @@ FindChanges dictionary word changes texts status =
     FindsBoth (IsUtf8 word) (map as_change (breaks_by dictionary word)) (texts_of (breaks_by dictionary word)) changes texts
     status
 
-abbrev pub Changes : Option AnyDictionary → List ℕ → Buffer BreakChange → Buffer ℕ → ℕ → Type 0
-Changes None word changes texts status = (status ≡ 3) × AreUnchanged changes texts
-Changes (Some dictionary) word changes texts status = FindChanges dictionary word changes texts status
+abbrev pub Changes : Option Held → List ℕ → Buffer BreakChange → Buffer ℕ → ℕ → Type 0
+Changes (Some (Dictionary dictionary)) word changes texts status = FindChanges dictionary word changes texts status
+Changes _ word changes texts status = (status ≡ 3) × AreUnchanged changes texts
 
 -- ---- Loading, sharing and editing.
 
@@ -196,14 +197,14 @@ abbrev pub IsRefusedAt : Option (ℕ × Cause) → ℕ × ℕ → Type 0
 IsRefusedAt (Some (line, cause)) place = place ≡ (line, cause_number cause)
 IsRefusedAt None place = ⊥
 
--- A line with the number of a cause, and the dictionary of the handle, before and after.
+-- A line with the number of a cause, and what the handle holds, before and after.
 pub record Loading : Type 0 where
-  pub old : Option AnyDictionary
-  pub new : Option AnyDictionary
+  pub old : Option Held
+  pub new : Option Held
   pub before : ℕ × ℕ
   pub after : ℕ × ℕ
 
-abbrev pub loading : Option AnyDictionary → Option AnyDictionary → ℕ × ℕ → ℕ × ℕ → Loading
+abbrev pub loading : Option Held → Option Held → ℕ × ℕ → ℕ × ℕ → Loading
 loading old new before after = record { old = old; new = new; before = before; after = after }
 
 -- 0: the text is accepted, and the handle holds the dictionary that it gives. 2: out of memory. 5: the text is refused at the
@@ -211,7 +212,7 @@ loading old new before after = record { old = old; new = new; before = before; a
 -- are written only with status 5.
 abbrev pub LoadsAs : Kind → List ℕ → Loading → ℕ → Type 0
 LoadsAs kind bytes l zero =
-    (refusal_of kind bytes ≡ None) × (l.new ≡ Some (contents_as kind bytes)) × (l.after ≡ l.before)
+    (refusal_of kind bytes ≡ None) × (l.new ≡ Some (Dictionary (contents_as kind bytes))) × (l.after ≡ l.before)
 LoadsAs kind bytes l (suc (suc zero)) = (l.new ≡ l.old) × (l.after ≡ l.before)
 LoadsAs kind bytes l (suc (suc (suc (suc (suc zero))))) =
     IsRefusedAt (refusal_of kind bytes) l.after × (l.new ≡ l.old)
@@ -224,11 +225,11 @@ Loads (Some kind) bytes l status = LoadsAs kind bytes l status
 
 -- 0: the other handle holds this handle's dictionary. 2: out of memory. 3: this handle holds no dictionary. No other
 -- status comes, and from 1 on the other handle is unchanged.
-abbrev pub Shares : Option AnyDictionary → Option AnyDictionary → Option AnyDictionary → ℕ → Type 0
-Shares None old new status = (status ≡ 3) × (new ≡ old)
-Shares (Some dictionary) old new zero = new ≡ Some dictionary
-Shares (Some dictionary) old new (suc (suc zero)) = new ≡ old
-Shares (Some dictionary) old new _ = ⊥
+abbrev pub Shares : Option Held → Option Held → Option Held → ℕ → Type 0
+Shares (Some (Dictionary dictionary)) old new zero = new ≡ Some (Dictionary dictionary)
+Shares (Some (Dictionary dictionary)) old new (suc (suc zero)) = new ≡ old
+Shares (Some (Dictionary dictionary)) old new _ = ⊥
+Shares _ old new status = (status ≡ 3) × (new ≡ old)
 
 -- 0: the edit is good, and is done. 2: out of memory. 4: the edit is not UTF-8. 5: it is UTF-8, and is refused. No
 -- other status comes, and from 1 on the dictionary is unchanged.
@@ -241,9 +242,9 @@ EditsDictionary old new edit (suc (suc (suc (suc (suc zero))))) =
     IsUtf8 edit × IsFalse (is_good_edit (kind_by old) edit) × (new ≡ old)
 EditsDictionary old new edit _ = ⊥
 
--- 3: the handle holds no dictionary, before and after. A dictionary has the statuses above, and the handle still holds
+-- 3: the handle holds no dictionary, and is unchanged. A dictionary has the statuses above, and the handle still holds
 -- one.
-abbrev pub Edits : Option AnyDictionary → Option AnyDictionary → List ℕ → ℕ → Type 0
-Edits None new edit status = (status ≡ 3) × (new ≡ None)
-Edits (Some old) (Some new) edit status = EditsDictionary old new edit status
-Edits (Some old) None edit status = ⊥
+abbrev pub Edits : Option Held → Option Held → List ℕ → ℕ → Type 0
+Edits (Some (Dictionary old)) (Some (Dictionary new)) edit status = EditsDictionary old new edit status
+Edits (Some (Dictionary old)) _ edit status = ⊥
+Edits old new edit status = (status ≡ 3) × (new ≡ old)

@@ -15,6 +15,7 @@ use Rattle.tex_files.specs.declared.group.File.{File}
 use Rattle.tex_files.specs.declared.group.FileForm.{FileForm}
 use Rattle.tex_files.specs.declared.group.FileForm.TheVariants.{Tex, Plain}
 use Rattle.tex_files.specs.declared.group.Group.TheVariants.{Patterns, Exceptions}
+use Rattle.c_handles.specs.Contents.{Held, Dictionary}
 use Rattle.c_calls.specs.declared.tex.NoDictionary.{NoDictionary}
 use Rattle.c_calls.specs.declared.tex.NoDictionary.TheVariants.{Memory, NotUtf8, NotCode, NoMinima, Fault}
 use Rattle.c_calls.specs.Patterns.{minimum_given, pattern_cause_number}
@@ -46,14 +47,15 @@ IsOfFiles kind language left right files dictionary =
     × IfSome left (λ given. (minima_by dictionary).0 ≡ given) × IfSome right (λ given. (minima_by dictionary).1 ≡ given)
 
 -- The handle holds a dictionary of the files.
-abbrev pub HoldsFiles : Kind → List ℕ → Option ℕ → Option ℕ → List File → Option AnyDictionary → Type 0
-HoldsFiles kind language left right files None = ⊥
-HoldsFiles kind language left right files (Some dictionary) = IsOfFiles kind language left right files dictionary
+abbrev pub HoldsFiles : Kind → List ℕ → Option ℕ → Option ℕ → List File → Option Held → Type 0
+HoldsFiles kind language left right files (Some (Dictionary dictionary)) =
+    IsOfFiles kind language left right files dictionary
+HoldsFiles kind language left right files _ = ⊥
 
 -- 0: the language is a code, the files have no fault, and the handle holds the dictionary that they give. 2: out of
 -- memory. 4: the language is not UTF-8. 5: the files have a fault. 7: the language is no code. 9: a minimum is neither
 -- given nor in a head. No other status comes, and from 1 on the handle is unchanged.
-abbrev pub MakesOfFiles : Kind → List ℕ → Option ℕ → Option ℕ → List File → Option AnyDictionary → Option AnyDictionary → ℕ
+abbrev pub MakesOfFiles : Kind → List ℕ → Option ℕ → Option ℕ → List File → Option Held → Option Held → ℕ
     → Type 0
 MakesOfFiles kind language left right files old new zero =
     IsCode language × (fault_from 0 files ≡ None) × HoldsFiles kind language left right files new
@@ -69,14 +71,14 @@ MakesOfFiles kind language left right files old new _ = ⊥
 
 -- 6: no kind or no form has the number, and the handle is unchanged. Else the statuses above.
 abbrev pub LoadsPatternsOf : Option Kind → Option FileForm → Option ℕ → Option ℕ → List ℕ → Bor (List ℕ) → Bor (List ℕ)
-    → Option AnyDictionary → Option AnyDictionary → ℕ → Type 0
+    → Option Held → Option Held → ℕ → Type 0
 LoadsPatternsOf (Some kind) (Some form) left right language bytes exceptions old new status =
     MakesOfFiles kind language left right (files_of form bytes exceptions) old new status
 LoadsPatternsOf _ _ left right language bytes exceptions old new status = (status ≡ 6) × (new ≡ old)
 
 -- The call, by the numbers of the kind and the form, and by those of the minima.
-abbrev pub LoadsPatterns : ℕ × ℕ → ℕ × ℕ → List ℕ → Bor (List ℕ) → Bor (List ℕ) → Option AnyDictionary
-    → Option AnyDictionary → ℕ → Type 0
+abbrev pub LoadsPatterns : ℕ × ℕ → ℕ × ℕ → List ℕ → Bor (List ℕ) → Bor (List ℕ) → Option Held
+    → Option Held → ℕ → Type 0
 LoadsPatterns kind_and_form minima language bytes exceptions old new status =
     LoadsPatternsOf (kind_numbered kind_and_form.0) (form_numbered kind_and_form.1) (minimum_given minima.0)
     (minimum_given minima.1) language bytes exceptions old new status

@@ -9,15 +9,15 @@ ghost use Rattle.hyphenation_grammar.specs.Judging.{refusal_of};
 ghost use Rattle.hyphenation_reader.specs.Refusals.{IsRefusal};
 ghost use Rattle.hyphenation_hyphenator.specs.Opportunities.{no_change, rules_of, all_breaks_of};
 ghost use Rattle.linefill.specs.Lines.{lines_by};
-ghost use Rattle.c_calls.specs.Dictionaries.{dictionary_of};
+ghost use Rattle.c_handles.specs.Contents.{dictionary_of, held_in, Dictionary};
 ghost use Rattle.c_calls.specs.Statuses.{Finds, FindsBreaks, FindsMarkedText, FindsLines, FindsValues, FindChanges, into};
 
 use crate::buffers::{fill_buffer, fill_buffers};
 use crate::changes::{BreakChange, Changes};
-use crate::loaded::Loaded;
 use crate::statuses::{NOT_UTF8, OTHER_KIND, OUT_OF_MEMORY};
 use crate::utf8::word_of;
 use any_dictionary::AnyDictionary;
+use c_handles::content::{Content, Loaded};
 use hyphenation_dictionary::dictionary::Standard;
 use hyphenation_grammar::form::Kind;
 use hyphenation_load::Load;
@@ -26,13 +26,13 @@ use linefill::fill;
 use std::alloc::{AllocError, Global};
 
 /// Reads a dictionary of a kind into a box. The error is a refusal of the text, or that memory was refused.
-pub fn load(alloc: Global, kind: Kind, bytes: &[u8]) -> Result<Box<Loaded>, Refusal>
+pub fn load(alloc: Global, kind: Kind, bytes: &[u8]) -> Result<Box<Content>, Refusal>
     ensures accepted { OnOk result (refusal_of kind bytes.now ≡ None) }
-    ensures contents { IfOk result (λ loaded. dictionary_of loaded.value ≡ contents_as kind bytes.now) }
+    ensures contents { IfOk result (λ boxed. held_in boxed.value ≡ Dictionary (contents_as kind bytes.now)) }
     ensures refused { IfErr result (λ refusal. IsRefusal refusal (refusal_of kind bytes.now)) }
 {
     let dictionary = AnyDictionary::read(alloc, kind, bytes)?;
-    Ok(Loaded::boxed(alloc, dictionary)?)
+    Ok(Content::of_dictionary(alloc, dictionary)?)
 }
 
 /// Writes the code of the dictionary's language to the front of a buffer, and returns the status.

@@ -1,15 +1,15 @@
 //! The calls of C, as functions of Rattle. The crate `hyphenation_c` exports each of them, by a name of its own.
 //!
-//! A [`handle::Handle`] lies in the caller's memory, and holds one dictionary or none. Each call but [`free`] returns a
-//! status ([`statuses`]). A call writes what it finds into a buffer of the caller's. If the buffer is too short, it stays
-//! unchanged, and the count says how much room is wanted. No memory passes from one side to the other.
+//! A handle ([`c_handles`]) lies in the caller's memory, and holds one dictionary or none. Each call but [`kind_of`]
+//! returns a status ([`statuses`]). A call writes what it finds into a buffer of the caller's. If the buffer is too
+//! short, it stays unchanged, and the count says how much room is wanted. No memory passes from one side to the other.
 //!
 //! The functions here take the dictionary out of its handle and put it back. The modules do the work: [`calls`] and those
 //! below it have a dictionary that is loaded.
 #![tactic(auto)]
 
-ghost use Rattle.std.specs.Prelude.{◌≡◌, None};
-ghost use Rattle.c_calls.specs.Dictionaries.{holds};
+ghost use Rattle.std.specs.Prelude.{◌≡◌};
+ghost use Rattle.c_handles.specs.Contents.{holds};
 ghost use Rattle.c_calls.specs.Lists.{WritesLists};
 ghost use Rattle.c_calls.specs.Numbered.{WritesListed, WritesScores};
 ghost use Rattle.c_calls.specs.Paths.{WritesPaths};
@@ -24,9 +24,7 @@ pub mod calls;
 pub mod changes;
 pub mod edits;
 pub mod exceptions;
-pub mod handle;
 pub mod lists;
-pub mod loaded;
 pub mod numbered;
 pub mod numbers;
 pub mod paths;
@@ -35,8 +33,10 @@ pub mod statuses;
 pub mod tex;
 pub mod utf8;
 
+use c_handles::content::Content;
+use c_handles::handle::Handle;
+use c_handles::lend;
 use changes::BreakChange;
-use handle::Handle;
 use hyphenation_reader::reader::Refusal;
 use lists::WordList;
 use numbered::NumberedChange;
@@ -183,13 +183,6 @@ pub fn load_patterns(
     }
 }
 
-/// Frees the dictionary that the handle holds, if it holds one. The handle holds none afterwards.
-pub fn free(alloc: Global, handle: &mut Handle)
-    ensures empty { holds handle.new ≡ None }
-{
-    drop(handle.take(alloc));
-}
-
 /// Lets another handle hold the same dictionary, for another thread for example. Nothing is copied.
 ///
 /// It takes the place of the dictionary that the other handle held. This handle never changes, and the other one only
@@ -198,18 +191,15 @@ pub fn share(alloc: Global, handle: &mut Handle, other: &mut Handle) -> u32
     ensures unchanged { holds handle.new ≡ holds handle.old }
     ensures shares { Shares (holds handle.old) (holds other.old) (holds other.new) result }
 {
-    let Some(loaded) = handle.take(alloc) else {
-        return NO_DICTIONARY;
-    };
-    let shared = loaded.shared(alloc);
-    *handle = Handle::of(loaded);
-    match shared {
-        Ok(shared) => {
-            other.put(alloc, shared);
-            DONE
+    lend!(handle, alloc, Content::Dictionary(loaded) => {
+        match loaded.shared(alloc) {
+            Ok(shared) => {
+                other.put(alloc, shared);
+                DONE
+            }
+            Err(_) => OUT_OF_MEMORY,
         }
-        Err(_) => OUT_OF_MEMORY,
-    }
+    } else NO_DICTIONARY)
 }
 
 /// Edits the exceptions: `+` and an exception as it is written after `e ` in a dictionary text, or `-` and a word.
@@ -219,11 +209,14 @@ pub fn share(alloc: Global, handle: &mut Handle, other: &mut Handle) -> u32
 pub fn edit(alloc: Global, handle: &mut Handle, edit: &[u8]) -> u32
     ensures edits { Edits (holds handle.old) (holds handle.new) edit.now result }
 {
-    let Some(mut loaded) = handle.take(alloc) else {
+    let Some(mut content) = handle.take(alloc) else {
         return NO_DICTIONARY;
     };
-    let status = edits::edit(&mut loaded, alloc, edit);
-    *handle = Handle::of(loaded);
+    let status = match &mut *content {
+        Content::Dictionary(loaded) => edits::edit(loaded, alloc, edit),
+        Content::Levels(_) => NO_DICTIONARY,
+    };
+    *handle = Handle::of(content);
     status
 }
 
@@ -232,12 +225,9 @@ pub fn write_language(alloc: Global, handle: &mut Handle, code: &mut [u8], count
     ensures unchanged { handle.new.slot.kept ≡ handle.old.slot.kept }
     ensures language { WritesLanguage (holds handle.old) code.old code.new count.old count.new result }
 {
-    let Some(loaded) = handle.take(alloc) else {
-        return NO_DICTIONARY;
-    };
-    let status = calls::write_language(&loaded, code, count);
-    *handle = Handle::of(loaded);
-    status
+    lend!(handle, alloc, Content::Dictionary(loaded) => {
+        calls::write_language(loaded, code, count)
+    } else NO_DICTIONARY)
 }
 
 /// Writes the least numbers of characters of a word before its first break and after its last one.
@@ -245,14 +235,12 @@ pub fn write_minima(alloc: Global, handle: &mut Handle, left: &mut usize, right:
     ensures unchanged { handle.new.slot.kept ≡ handle.old.slot.kept }
     ensures minima { WritesMinima (holds handle.old) (left.old, right.old) (left.new, right.new) result }
 {
-    let Some(loaded) = handle.take(alloc) else {
-        return NO_DICTIONARY;
-    };
-    let minima = loaded.dictionary.minima();
-    *handle = Handle::of(loaded);
-    *left = minima.0;
-    *right = minima.1;
-    DONE
+    lend!(handle, alloc, Content::Dictionary(loaded) => {
+        let minima = loaded.dictionary.minima();
+        *left = minima.0;
+        *right = minima.1;
+        DONE
+    } else NO_DICTIONARY)
 }
 
 /// Writes the places of a word's breaks, in bytes, to the front of a buffer.
@@ -267,12 +255,9 @@ pub fn write_breaks(
     ensures breaks { WritesBreaks (holds handle.old) word.now places.old places.new count.old count.new
         result }
 {
-    let Some(loaded) = handle.take(alloc) else {
-        return NO_DICTIONARY;
-    };
-    let status = calls::write_breaks(&loaded, alloc, word, places, count);
-    *handle = Handle::of(loaded);
-    status
+    lend!(handle, alloc, Content::Dictionary(loaded) => {
+        calls::write_breaks(loaded, alloc, word, places, count)
+    } else NO_DICTIONARY)
 }
 
 /// Writes the places of the breaks of a list of words to one buffer, and the ends of the words' places to another one.
@@ -294,13 +279,10 @@ pub fn write_breaks_of_words(
     ensures list { WritesLists (holds handle.old) text.now ends.now (into list.old list.new count.old count.new)
         (into last.old last.new size.old size.new) result }
 {
-    let Some(loaded) = handle.take(alloc) else {
-        return NO_DICTIONARY;
-    };
-    let words = WordList { text, ends };
-    let status = lists::write_breaks_of_words(&loaded, alloc, words, list, count, last, size);
-    *handle = Handle::of(loaded);
-    status
+    lend!(handle, alloc, Content::Dictionary(loaded) => {
+        let words = WordList { text, ends };
+        lists::write_breaks_of_words(loaded, alloc, words, list, count, last, size)
+    } else NO_DICTIONARY)
 }
 
 /// Writes the values of a word's places, from place 1 on, to the front of a buffer.
@@ -318,12 +300,9 @@ pub fn write_values(
     ensures values { WritesValues (holds handle.old) word.now values.old values.new count.old count.new
         result }
 {
-    let Some(loaded) = handle.take(alloc) else {
-        return NO_DICTIONARY;
-    };
-    let status = calls::write_values(&loaded, alloc, word, values, count);
-    *handle = Handle::of(loaded);
-    status
+    lend!(handle, alloc, Content::Dictionary(loaded) => {
+        calls::write_values(loaded, alloc, word, values, count)
+    } else NO_DICTIONARY)
 }
 
 /// Writes a word's breaks and the changes that they make to one buffer, and the texts of the changes to another one.
@@ -340,12 +319,9 @@ pub fn write_changes(
     ensures changes { Changes (holds handle.old) word.now (into changes.old changes.new count.old count.new)
         (into text.old text.new size.old size.new) result }
 {
-    let Some(loaded) = handle.take(alloc) else {
-        return NO_DICTIONARY;
-    };
-    let status = calls::write_changes(&loaded, alloc, word, changes, count, text, size);
-    *handle = Handle::of(loaded);
-    status
+    lend!(handle, alloc, Content::Dictionary(loaded) => {
+        calls::write_changes(loaded, alloc, word, changes, count, text, size)
+    } else NO_DICTIONARY)
 }
 
 /// Writes the breaks that are listed for a word, and the substitutions of their changes, to the front of two buffers. The
@@ -366,12 +342,9 @@ pub fn write_exception(
     ensures listed { WritesListed (holds handle.old) word.now (into changes.old changes.new count.old count.new)
         (into text.old text.new size.old size.new) result }
 {
-    let Some(loaded) = handle.take(alloc) else {
-        return NO_DICTIONARY;
-    };
-    let status = exceptions::write_exception(&loaded, alloc, word, changes, count, text, size);
-    *handle = Handle::of(loaded);
-    status
+    lend!(handle, alloc, Content::Dictionary(loaded) => {
+        exceptions::write_exception(loaded, alloc, word, changes, count, text, size)
+    } else NO_DICTIONARY)
 }
 
 /// Writes the scores of a word's places, from place 1 on, and the substitutions of their changes to the front of two
@@ -392,12 +365,9 @@ pub fn write_scores(
     ensures scores { WritesScores (holds handle.old) word.now (into changes.old changes.new count.old count.new)
         (into text.old text.new size.old size.new) result }
 {
-    let Some(loaded) = handle.take(alloc) else {
-        return NO_DICTIONARY;
-    };
-    let status = exceptions::write_scores(&loaded, alloc, word, changes, count, text, size);
-    *handle = Handle::of(loaded);
-    status
+    lend!(handle, alloc, Content::Dictionary(loaded) => {
+        exceptions::write_scores(loaded, alloc, word, changes, count, text, size)
+    } else NO_DICTIONARY)
 }
 
 /// Writes a text with the mark at each break of its words to the front of a buffer.
@@ -413,12 +383,9 @@ pub fn write_text(
     ensures text { WritesMarkedText (holds handle.old) text.now mark.now buffer.old buffer.new count.old
         count.new result }
 {
-    let Some(loaded) = handle.take(alloc) else {
-        return NO_DICTIONARY;
-    };
-    let status = calls::write_text(&loaded, alloc, text, mark, buffer, count);
-    *handle = Handle::of(loaded);
-    status
+    lend!(handle, alloc, Content::Dictionary(loaded) => {
+        calls::write_text(loaded, alloc, text, mark, buffer, count)
+    } else NO_DICTIONARY)
 }
 
 /// Writes the lines of a text, each with a line feed after it, to the front of a buffer.
@@ -436,12 +403,9 @@ pub fn write_lines(
     ensures lines { WritesLines (holds handle.old) text.now columns buffer.old buffer.new count.old count.new
         result }
 {
-    let Some(loaded) = handle.take(alloc) else {
-        return NO_DICTIONARY;
-    };
-    let status = calls::write_lines(&loaded, alloc, text, columns, buffer, count);
-    *handle = Handle::of(loaded);
-    status
+    lend!(handle, alloc, Content::Dictionary(loaded) => {
+        calls::write_lines(loaded, alloc, text, columns, buffer, count)
+    } else NO_DICTIONARY)
 }
 
 /// Writes the dictionary's canonical text to the front of a buffer.
@@ -455,12 +419,9 @@ pub fn write_canonical_text(
     ensures canonical { WritesCanonicalText (holds handle.old) buffer.old buffer.new count.old count.new
         result }
 {
-    let Some(loaded) = handle.take(alloc) else {
-        return NO_DICTIONARY;
-    };
-    let status = calls::write_canonical_text(&loaded, alloc, buffer, count);
-    *handle = Handle::of(loaded);
-    status
+    lend!(handle, alloc, Content::Dictionary(loaded) => {
+        calls::write_canonical_text(loaded, alloc, buffer, count)
+    } else NO_DICTIONARY)
 }
 
 /// Writes the paths at which a dictionary is looked for to a buffer, in their order, each with a byte 0 behind it. The

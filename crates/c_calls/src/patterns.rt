@@ -5,11 +5,11 @@ ghost use Rattle.std.specs.Str.{IsUtf8};
 ghost use Rattle.hyphenation_breaks.specs.Language.{IsCode};
 ghost use Rattle.pattern_results.specs.Errors.{IsConvertError};
 ghost use Rattle.libreoffice_files.specs.LibreOffice.{contents_of_dic, dic_fault};
-ghost use Rattle.c_calls.specs.Dictionaries.{dictionary_of};
+ghost use Rattle.c_handles.specs.Contents.{held_in, Dictionary as Held};
 ghost use Rattle.c_calls.specs.Patterns.{dic_given, minimum_given, failure_of, pattern_cause_number, IsFailure};
 
-use crate::loaded::Loaded;
 use any_dictionary::AnyDictionary;
+use c_handles::content::Content;
 use hyphenation_breaks::entry::{Listing, Payload};
 use hyphenation_breaks::language::Language;
 use hyphenation_dictionary::dictionary::Dictionary;
@@ -131,11 +131,11 @@ pub fn load_dic(
     language: &[u8],
     minima: GivenMinima,
     bytes: &[u8],
-) -> Result<Box<Loaded>, Failure>
+) -> Result<Box<Content>, Failure>
     ensures code { OnOk result (IsCode language.now) }
     ensures good { OnOk result (dic_fault bytes.now ≡ None) }
-    ensures contents { IfOk result (λ loaded.
-        dictionary_of loaded.value ≡ dic_given kind language.now minima.left minima.right bytes.now) }
+    ensures contents { IfOk result (λ boxed.
+        held_in boxed.value ≡ Held (dic_given kind language.now minima.left minima.right bytes.now)) }
     ensures failed { IfErr result (λ failure. IsFailure failure language.now (dic_fault bytes.now)) }
 {
     let Ok(code) = std::str::from_utf8(language) else {
@@ -145,7 +145,7 @@ pub fn load_dic(
         return Err(Failure::NotCode);
     };
     match dictionary_of_dic(alloc, kind, language, minima, bytes) {
-        Ok(dictionary) => match Loaded::boxed(alloc, dictionary) {
+        Ok(dictionary) => match Content::of_dictionary(alloc, dictionary) {
             Ok(boxed) => Ok(boxed),
             Err(_) => Err(Failure::Memory),
         },

@@ -1,15 +1,15 @@
 //! Dictionaries that are made of TeX files of patterns, and of plain ones.
 
-ghost use Rattle.std.specs.Prelude.{◌≡◌, ℕ, List, None, IfOk, IfErr, OnOk};
+ghost use Rattle.std.specs.Prelude.{◌≡◌, ℕ, List, None, Some, IfOk, IfErr, OnOk};
 ghost use Rattle.hyphenation_breaks.specs.Language.{IsCode};
 ghost use Rattle.pattern_results.specs.Errors.{IsConvertError};
 ghost use Rattle.tex_files.specs.Converting.{fault_from};
-ghost use Rattle.c_calls.specs.Dictionaries.{dictionary_of};
-ghost use Rattle.c_calls.specs.TexFiles.{form_numbered, files_of, files_given, IsOfFiles, IsNoDictionary};
+ghost use Rattle.c_handles.specs.Contents.{held_in};
+ghost use Rattle.c_calls.specs.TexFiles.{form_numbered, files_of, files_given, HoldsFiles, IsNoDictionary};
 
-use crate::loaded::Loaded;
 use crate::patterns::GivenMinima;
 use any_dictionary::AnyDictionary;
+use c_handles::content::Content;
 use hyphenation_breaks::language::Language;
 use hyphenation_grammar::form::Kind;
 use pattern_results::errors::{ConvertError, FileCause};
@@ -77,10 +77,10 @@ fn boxed_from_files(
     language: Language,
     minima: GivenMinima,
     files: &[File<'_>],
-) -> Result<Box<Loaded>, NoDictionary>
+) -> Result<Box<Content>, NoDictionary>
     ensures good { OnOk result (fault_from 0 files.now ≡ None) }
-    ensures contents { IfOk result (λ loaded.
-        IsOfFiles kind language minima.left minima.right files.now (dictionary_of loaded.value)) }
+    ensures contents { IfOk result (λ boxed.
+        HoldsFiles kind language minima.left minima.right files.now (Some (held_in boxed.value))) }
     ensures refused { (code : List ℕ) → IfErr result (λ why. IsNoDictionary why code minima.left minima.right files.now) }
 {
     let found = minima_for(minima.left, minima.right, files);
@@ -89,7 +89,7 @@ fn boxed_from_files(
             let Some(_) = found else {
                 return Err(NoDictionary::NoMinima);
             };
-            match Loaded::boxed(alloc, dictionary) {
+            match Content::of_dictionary(alloc, dictionary) {
                 Ok(boxed) => Ok(boxed),
                 Err(_) => Err(NoDictionary::Memory),
             }
@@ -112,11 +112,11 @@ pub fn load_patterns(
     form: FileForm,
     bytes: &[u8],
     exceptions: &[u8],
-) -> Result<Box<Loaded>, NoDictionary>
+) -> Result<Box<Content>, NoDictionary>
     ensures code { OnOk result (IsCode code.now) }
     ensures good { OnOk result (fault_from 0 (files_of form bytes.entry exceptions.entry) ≡ None) }
-    ensures contents { IfOk result (λ x. IsOfFiles kind code.now minima.left minima.right
-        (files_of form bytes.entry exceptions.entry) (dictionary_of x.value)) }
+    ensures contents { IfOk result (λ x. HoldsFiles kind code.now minima.left minima.right
+        (files_of form bytes.entry exceptions.entry) (Some (held_in x.value))) }
     ensures no_dictionary { IfErr result (λ why. IsNoDictionary why code.now minima.left minima.right
         (files_of form bytes.entry exceptions.entry)) }
 {

@@ -1,11 +1,11 @@
 //! Hyphenation for C, and for languages that call C: `bindings/c/hyphenation.h` declares and explains the calls.
 //!
 //! Each export calls a function of the crate [`c_calls`], which says more of it and has the same clauses. Those for a
-//! `.dic` with the answers of libhyphen call the crate [`level_calls`].
+//! `.dic` with the answers of libhyphen call the crate [`level_calls`]. A handle frees its dictionary itself.
 #![tactic(auto)]
 
 ghost use Rattle.std.specs.Prelude.{◌≡◌, ◌<◌, None, length};
-ghost use Rattle.c_calls.specs.Dictionaries.{holds};
+ghost use Rattle.c_handles.specs.Contents.{holds};
 ghost use Rattle.c_calls.specs.Lists.{WritesLists};
 ghost use Rattle.c_calls.specs.Numbered.{WritesListed, WritesScores};
 ghost use Rattle.c_calls.specs.Paths.{WritesPaths};
@@ -14,15 +14,14 @@ ghost use Rattle.c_calls.specs.Statuses.{kind_numbered, Loads, Shares, Edits, Wr
 ghost use Rattle.c_calls.specs.Statuses.{kind_named, WritesBreaks, WritesValues, Changes, into, loading};
 ghost use Rattle.c_calls.specs.Statuses.{WritesMarkedText, WritesLines, WritesCanonicalText};
 ghost use Rattle.c_calls.specs.TexFiles.{LoadsPatterns, PlacesFault};
-ghost use Rattle.level_calls.specs.Levels.{holds as holds_levels, Loads as LoadsLevels, minima_given, answer_by};
+ghost use Rattle.level_calls.specs.Levels.{Loads as LoadsLevels, minima_given, answer_by};
 ghost use Rattle.level_calls.specs.Levels.{HasStatus, FillsOne, OneIsShort, Says, WritesText, WritesDigits};
 ghost use Rattle.level_calls.specs.Levels.{digits_in, changes_in, texts_in, made_in};
 
 use c_calls::changes::BreakChange;
-use c_calls::handle::Handle;
 use c_calls::numbered::NumberedChange;
+use c_handles::handle::Handle;
 use level_calls::changes::LevelChange;
-use level_calls::handle::Handle as LevelsHandle;
 use level_calls::head::LevelHead;
 use level_calls::minima::LevelMinima;
 use std::alloc::Global;
@@ -102,7 +101,7 @@ pub extern "C" fn hyphenation_load_patterns(
 pub extern "C" fn hyphenation_free(alloc: Global, handle: &mut Handle)
     ensures empty { holds handle.new ≡ None }
 {
-    c_calls::free(alloc, handle);
+    handle.free(alloc);
 }
 
 /// Lets another handle hold the same dictionary, for another thread for example. Nothing is copied.
@@ -327,20 +326,20 @@ pub extern "C" fn hyphenation_paths(
 pub extern "C" fn hyphenation_levels_load(
     alloc: Global,
     bytes: &[u8],
-    handle: &mut LevelsHandle,
+    handle: &mut Handle,
     head: &mut LevelHead,
 ) -> u32
-    ensures loads { LoadsLevels bytes.now (holds_levels handle.old) (holds_levels handle.new) head.old head.new result }
+    ensures loads { LoadsLevels bytes.now (holds handle.old) (holds handle.new) head.old head.new result }
 {
     level_calls::load(alloc, bytes, handle, head)
 }
 
 /// Frees the dictionary that the handle holds, if it holds one. The handle holds none afterwards.
 #[unsafe(no_mangle)]
-pub extern "C" fn hyphenation_levels_free(alloc: Global, handle: &mut LevelsHandle)
-    ensures empty { holds_levels handle.new ≡ None }
+pub extern "C" fn hyphenation_levels_free(alloc: Global, handle: &mut Handle)
+    ensures empty { holds handle.new ≡ None }
 {
-    level_calls::free(alloc, handle);
+    handle.free(alloc);
 }
 
 /// Writes the digits of a word's characters, the changes of their places, and the texts of the changes, each to a
@@ -348,7 +347,7 @@ pub extern "C" fn hyphenation_levels_free(alloc: Global, handle: &mut LevelsHand
 #[unsafe(no_mangle)]
 pub extern "C" fn hyphenation_levels_word(
     alloc: Global,
-    handle: &mut LevelsHandle,
+    handle: &mut Handle,
     given: bool,
     minima: &LevelMinima,
     text: &[u8],
@@ -362,7 +361,7 @@ pub extern "C" fn hyphenation_levels_word(
     made: &mut bool,
 ) -> u32
     ensures unchanged { handle.new.slot.kept ≡ handle.old.slot.kept }
-    ensures status { HasStatus (holds_levels handle.old) (minima_given given minima.now) text.now size result }
+    ensures status { HasStatus (holds handle.old) (minima_given given minima.now) text.now size result }
     ensures digits { FillsOne (digits_in (answer_by handle.old given minima.now text.now size))
         (into digits.old digits.new count.old count.new) result }
     ensures changes { FillsOne (changes_in (answer_by handle.old given minima.now text.now size))
@@ -384,7 +383,7 @@ pub extern "C" fn hyphenation_levels_word(
 #[unsafe(no_mangle)]
 pub extern "C" fn hyphenation_levels_text(
     alloc: Global,
-    handle: &mut LevelsHandle,
+    handle: &mut Handle,
     given: bool,
     minima: &LevelMinima,
     text: &[u8],
@@ -393,7 +392,7 @@ pub extern "C" fn hyphenation_levels_text(
     count: &mut usize,
 ) -> u32
     ensures unchanged { handle.new.slot.kept ≡ handle.old.slot.kept }
-    ensures text { WritesText (holds_levels handle.old) (minima_given given minima.now) text.now size
+    ensures text { WritesText (holds handle.old) (minima_given given minima.now) text.now size
         (into buffer.old buffer.new count.old count.new) result }
 {
     level_calls::write_text(alloc, handle, given, minima, text, size, buffer, count)
@@ -404,7 +403,7 @@ pub extern "C" fn hyphenation_levels_text(
 #[unsafe(no_mangle)]
 pub extern "C" fn hyphenation_levels_both(
     alloc: Global,
-    handle: &mut LevelsHandle,
+    handle: &mut Handle,
     given: bool,
     minima: &LevelMinima,
     text: &[u8],
@@ -421,7 +420,7 @@ pub extern "C" fn hyphenation_levels_both(
     told: &mut u32,
 ) -> u32
     ensures unchanged { handle.new.slot.kept ≡ handle.old.slot.kept }
-    ensures status { HasStatus (holds_levels handle.old) (minima_given given minima.now) text.now size result }
+    ensures status { HasStatus (holds handle.old) (minima_given given minima.now) text.now size result }
     ensures digits { FillsOne (digits_in (answer_by handle.old given minima.now text.now size))
         (into digits.old digits.new count.old count.new) result }
     ensures changes { FillsOne (changes_in (answer_by handle.old given minima.now text.now size))
@@ -432,7 +431,7 @@ pub extern "C" fn hyphenation_levels_both(
         (length texts.old < total.new) }
     ensures made { Says (made_in (answer_by handle.old given minima.now text.now size)) made.old
         made.new result }
-    ensures text { WritesText (holds_levels handle.old) (minima_given given minima.now) text.now size
+    ensures text { WritesText (holds handle.old) (minima_given given minima.now) text.now size
         (into buffer.old buffer.new bytes.old bytes.new) told.new }
 {
     level_calls::write_both(
@@ -446,13 +445,13 @@ pub extern "C" fn hyphenation_levels_both(
 #[unsafe(no_mangle)]
 pub extern "C" fn hyphenation_levels_digits(
     alloc: Global,
-    handle: &mut LevelsHandle,
+    handle: &mut Handle,
     word: &[u8],
     digits: &mut [u8],
     count: &mut usize,
 ) -> u32
     ensures unchanged { handle.new.slot.kept ≡ handle.old.slot.kept }
-    ensures digits { WritesDigits (holds_levels handle.old) word.now (into digits.old digits.new count.old count.new)
+    ensures digits { WritesDigits (holds handle.old) word.now (into digits.old digits.new count.old count.new)
         result }
 {
     level_calls::write_digits(alloc, handle, word, digits, count)

@@ -1,3 +1,1 @@
-pub mod Boxes
 pub mod Listing
-pub mod Slots

@@ -1,34 +1,25 @@
 -- The statuses of the calls for a .dic of two levels. They say which case each one means, and what a call leaves in the
 -- caller's memory then.
 use Rattle.std.specs.Prelude.{◌≡◌, ◌⊎◌, ◌<◌, ◌≤◌, zero, suc, ℕ, Bool, false, List, [], length, Option, None, Some, IsSome, if◌then◌else◌}
-use Rattle.std.specs.Option.{option_map}
 use Rattle.libhyphen_files.specs.Files.{Rules, rules_of}
 use Rattle.libhyphen_rule.specs.Calls.{Answer, answer_of, text_of_call, plain_digits}
 use Rattle.libhyphen_rule.specs.declared.calls.CallMinima.{CallMinima}
+use Rattle.c_handles.specs.Contents.{Held, Levels, holds}
+use Rattle.c_handles.specs.declared.handle.Handle.{Handle}
 use Rattle.c_calls.specs.Statuses.{Buffer, Fills, Finds, IsUnchanged}
 use Rattle.level_calls.specs.declared.calls.Asked.{Asked}
 use Rattle.level_calls.specs.declared.changes.LevelChange.{LevelChange}
-use Rattle.level_calls.specs.declared.handle.Handle.{Handle}
 use Rattle.level_calls.specs.declared.head.LevelHead.{LevelHead}
-use Rattle.level_calls.specs.declared.loaded.Loaded.{Loaded}
 use Rattle.level_calls.specs.declared.minima.LevelMinima.{LevelMinima}
 use Rattle.level_calls.specs.Changes.{listed_changes, listed_texts}
 use Rattle.level_calls.specs.Head.{head_of}
-
--- The rules of the dictionary that a slot keeps, or none.
-abbrev pub held : Option Loaded → Option Rules
-held kept = option_map (λ loaded. loaded.dictionary) kept
-
--- The rules of the dictionary that a handle holds, or none.
-abbrev pub holds : Handle → Option Rules
-holds handle = held handle.slot.kept
 
 -- ---- Loading.
 
 -- 0: the handle holds the dictionary of the bytes, and its head is written. 2: out of memory, and both are unchanged.
 -- No other status comes.
-abbrev pub Loads : List ℕ → Option Rules → Option Rules → LevelHead → LevelHead → ℕ → Type 0
-Loads bytes old new before after zero = (new ≡ Some (rules_of bytes)) × (after ≡ head_of (rules_of bytes))
+abbrev pub Loads : List ℕ → Option Held → Option Held → LevelHead → LevelHead → ℕ → Type 0
+Loads bytes old new before after zero = (new ≡ Some (Levels (rules_of bytes))) × (after ≡ head_of (rules_of bytes))
 Loads bytes old new before after (suc (suc zero)) = (new ≡ old) × (after ≡ before)
 Loads bytes old new before after _ = ⊥
 
@@ -79,9 +70,9 @@ IsStatus rules given text size (suc (suc (suc (suc (suc (suc (suc (suc zero)))))
 IsStatus rules given text size _ = ⊥
 
 -- 3: the handle holds no dictionary. A handle with a dictionary has the statuses above.
-abbrev pub HasStatus : Option Rules → Option CallMinima → List ℕ → ℕ → ℕ → Type 0
-HasStatus None given text size status = status ≡ 3
-HasStatus (Some rules) given text size status = IsStatus rules given text size status
+abbrev pub HasStatus : Option Held → Option CallMinima → List ℕ → ℕ → ℕ → Type 0
+HasStatus (Some (Levels rules)) given text size status = IsStatus rules given text size status
+HasStatus _ given text size status = status ≡ 3
 
 -- The lists of an answer, which are empty if there is none, and whether a change was made.
 abbrev pub digits_in : Option Answer → List ℕ
@@ -105,9 +96,9 @@ abbrev pub answer_to : Rules → Asked → Option Answer
 answer_to rules asked = answer_of rules asked.minima asked.text.now asked.size
 
 -- The answer of a call, if there is a dictionary.
-abbrev pub answer_if : Option Rules → Option CallMinima → List ℕ → ℕ → Option Answer
-answer_if None given text size = None
-answer_if (Some rules) given text size = answer_of rules given text size
+abbrev pub answer_if : Option Held → Option CallMinima → List ℕ → ℕ → Option Answer
+answer_if (Some (Levels rules)) given text size = answer_of rules given text size
+answer_if _ given text size = None
 
 -- The answer of a call by the dictionary that a handle holds, if it holds one.
 abbrev pub answer_by : Handle → Bool → LevelMinima → List ℕ → ℕ → Option Answer
@@ -133,9 +124,9 @@ FindsText rules given text size b (suc (suc (suc (suc (suc (suc (suc (suc zero))
 FindsText rules given text size b _ = ⊥
 
 -- 3: the handle holds no dictionary, and all is unchanged. A handle with a dictionary has the statuses above.
-abbrev pub WritesText : Option Rules → Option CallMinima → List ℕ → ℕ → Buffer ℕ → ℕ → Type 0
-WritesText None given text size b status = (status ≡ 3) × IsLeft b
-WritesText (Some rules) given text size b status = FindsText rules given text size b status
+abbrev pub WritesText : Option Held → Option CallMinima → List ℕ → ℕ → Buffer ℕ → ℕ → Type 0
+WritesText (Some (Levels rules)) given text size b status = FindsText rules given text size b status
+WritesText _ given text size b status = (status ≡ 3) × IsLeft b
 
 -- ---- The digits of the oldest call.
 
@@ -144,6 +135,6 @@ abbrev pub FindsDigits : Rules → List ℕ → Buffer ℕ → ℕ → Type 0
 FindsDigits rules word b status = Finds (Unit {0}) (plain_digits rules.top word) b.old b.new b.before b.after status
 
 -- 3: the handle holds no dictionary, and all is unchanged. A handle with a dictionary has the statuses above.
-abbrev pub WritesDigits : Option Rules → List ℕ → Buffer ℕ → ℕ → Type 0
-WritesDigits None word b status = (status ≡ 3) × IsLeft b
-WritesDigits (Some rules) word b status = FindsDigits rules word b status
+abbrev pub WritesDigits : Option Held → List ℕ → Buffer ℕ → ℕ → Type 0
+WritesDigits (Some (Levels rules)) word b status = FindsDigits rules word b status
+WritesDigits _ word b status = (status ≡ 3) × IsLeft b

@@ -1,4 +1,3 @@
 pub mod Changes
 pub mod Head
-pub mod Held
 pub mod Levels

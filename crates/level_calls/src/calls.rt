@@ -2,7 +2,6 @@
 
 ghost use Rattle.std.specs.Prelude.{◌≡◌, ◌⊎◌, ◌≤◌, ◌<◌, IfOk, Some, length};
 ghost use Rattle.c_calls.specs.Statuses.{into};
-ghost use Rattle.libhyphen_files.specs.Files.{rules_of};
 ghost use Rattle.libhyphen_rule.specs.Calls.{plain_answer};
 ghost use Rattle.libhyphen_rule.specs.Found.{answer_view};
 ghost use Rattle.level_calls.specs.Changes.{listed_changes, listed_texts};
@@ -11,7 +10,6 @@ ghost use Rattle.level_calls.specs.Levels.{answer_to, digits_in, changes_in, tex
 
 use crate::buffers::{WordFound, WordSaid, fill_word};
 use crate::changes::{LevelChange, listed_changes, listed_texts};
-use crate::loaded::Loaded;
 use c_calls::buffers::fill_buffer;
 use c_calls::statuses::{BAD_ENDS, NOT_UTF8, OUT_OF_MEMORY};
 use libhyphen_files::LevelDictionary;
@@ -30,17 +28,6 @@ pub struct Asked<'t> {
     pub text: &'t [u8],
     /// The length of the word, in bytes.
     pub size: usize,
-}
-
-/// Reads a dictionary into a box. The only error is out of memory.
-pub fn load(alloc: Global, bytes: &[u8]) -> Result<Box<Loaded>, AllocError>
-    ensures { IfOk result (λ loaded. loaded.value.dictionary ≡ rules_of bytes.now) }
-{
-    let dictionary = libhyphen_files::load(alloc, bytes)?;
-    match Box::new(alloc, Loaded { dictionary }) {
-        Ok(boxed) => Ok(boxed),
-        Err(_) => Err(AllocError),
-    }
 }
 
 // Returns the changes of an answer, each with the number of its character. The only error is out of memory.

@@ -1,29 +1,30 @@
 //! The calls of C for a `.dic` of LibreOffice, with the answers of libhyphen. The crate `hyphenation_c` exports each of
 //! them, by a name of its own.
 //!
-//! A [`handle::Handle`] lies in the caller's memory, and holds one dictionary or none. The crate `c_calls` says of its
-//! handles, statuses and buffers what holds here, too. The functions here take the dictionary out of its handle and put it
-//! back; those of [`calls`] have a dictionary that is loaded.
+//! The handles are those of [`c_handles`]. The crate [`c_calls`] says of its statuses and buffers what holds here, too.
+//! The functions here take the dictionary out of its handle and put it back. Those of [`calls`] have a dictionary that
+//! is loaded.
 #![tactic(auto)]
 
-ghost use Rattle.std.specs.Prelude.{◌≡◌, ◌<◌, None, length};
+ghost use Rattle.std.specs.Prelude.{◌≡◌, ◌<◌, length};
 ghost use Rattle.c_calls.specs.Statuses.{into};
-ghost use Rattle.level_calls.specs.Levels.{holds, Loads, minima_given, answer_by, HasStatus, FillsOne, OneIsShort, Says};
+ghost use Rattle.c_handles.specs.Contents.{holds};
+ghost use Rattle.level_calls.specs.Levels.{Loads, minima_given, answer_by, HasStatus, FillsOne, OneIsShort, Says};
 ghost use Rattle.level_calls.specs.Levels.{digits_in, changes_in, texts_in, made_in, WritesText, WritesDigits};
 
 pub mod buffers;
 pub mod calls;
 pub mod changes;
-pub mod handle;
 pub mod head;
-pub mod loaded;
 pub mod minima;
 
 use buffers::WordSaid;
 use c_calls::statuses::{DONE, NO_DICTIONARY, OUT_OF_MEMORY};
+use c_handles::content::Content;
+use c_handles::handle::Handle;
+use c_handles::lend;
 use calls::Asked;
 use changes::LevelChange;
-use handle::Handle;
 use head::LevelHead;
 use minima::LevelMinima;
 use std::alloc::Global;
@@ -34,19 +35,16 @@ use std::alloc::Global;
 pub fn load(alloc: Global, bytes: &[u8], handle: &mut Handle, head: &mut LevelHead) -> u32
     ensures loads { Loads bytes.now (holds handle.old) (holds handle.new) head.old head.new result }
 {
-    let Ok(loaded) = calls::load(alloc, bytes) else {
+    let Ok(dictionary) = libhyphen_files::load(alloc, bytes) else {
         return OUT_OF_MEMORY;
     };
-    *head = head::head_of(&loaded.dictionary);
-    handle.put(alloc, loaded);
+    let found = head::head_of(&dictionary);
+    let Ok(content) = Content::of_levels(alloc, dictionary) else {
+        return OUT_OF_MEMORY;
+    };
+    *head = found;
+    handle.put(alloc, content);
     DONE
-}
-
-/// Frees the dictionary that the handle holds, if it holds one. The handle holds none afterwards.
-pub fn free(alloc: Global, handle: &mut Handle)
-    ensures empty { holds handle.new ≡ None }
-{
-    drop(handle.take(alloc));
 }
 
 /// Writes the digits of a word's characters, the changes of their places, and the texts of the changes, each to a
@@ -83,9 +81,6 @@ pub fn write_word(
     ensures made { Says (made_in (answer_by handle.old given minima.now text.now size)) made.old made.new
         result }
 {
-    let Some(loaded) = handle.take(alloc) else {
-        return NO_DICTIONARY;
-    };
     let asked = Asked {
         minima: minima::minima_given(given, minima),
         text,
@@ -97,9 +92,9 @@ pub fn write_word(
         texts: *total,
         made: *made,
     };
-    let dictionary = &loaded.dictionary;
-    let status = calls::write_word(dictionary, alloc, &asked, digits, changes, texts, &mut said);
-    *handle = Handle::of(loaded);
+    let status = lend!(handle, alloc, Content::Levels(dictionary) => {
+        calls::write_word(dictionary, alloc, &asked, digits, changes, texts, &mut said)
+    } else NO_DICTIONARY);
     *count = said.digits;
     *number = said.changes;
     *total = said.texts;
@@ -124,17 +119,14 @@ pub fn write_text(
     ensures text { WritesText (holds handle.old) (minima_given given minima.now) text.now size
         (into buffer.old buffer.new count.old count.new) result }
 {
-    let Some(loaded) = handle.take(alloc) else {
-        return NO_DICTIONARY;
-    };
     let asked = Asked {
         minima: minima::minima_given(given, minima),
         text,
         size,
     };
-    let status = calls::write_text(&loaded.dictionary, alloc, &asked, buffer, count);
-    *handle = Handle::of(loaded);
-    status
+    lend!(handle, alloc, Content::Levels(dictionary) => {
+        calls::write_text(dictionary, alloc, &asked, buffer, count)
+    } else NO_DICTIONARY)
 }
 
 /// Does what [`write_word`] and [`write_text`] do, and breaks most words only once for both. The result is the status of
@@ -172,10 +164,6 @@ pub fn write_both(
     ensures text { WritesText (holds handle.old) (minima_given given minima.now) text.now size
         (into buffer.old buffer.new bytes.old bytes.new) told.new }
 {
-    let Some(loaded) = handle.take(alloc) else {
-        *told = NO_DICTIONARY;
-        return NO_DICTIONARY;
-    };
     let asked = Asked {
         minima: minima::minima_given(given, minima),
         text,
@@ -187,11 +175,14 @@ pub fn write_both(
         texts: *total,
         made: *made,
     };
-    let dictionary = &loaded.dictionary;
-    let status = calls::write_both(
-        dictionary, alloc, &asked, digits, changes, texts, &mut said, buffer, bytes, told,
-    );
-    *handle = Handle::of(loaded);
+    let status = lend!(handle, alloc, Content::Levels(dictionary) => {
+        calls::write_both(
+            dictionary, alloc, &asked, digits, changes, texts, &mut said, buffer, bytes, told,
+        )
+    } else {
+        *told = NO_DICTIONARY;
+        NO_DICTIONARY
+    });
     *count = said.digits;
     *number = said.changes;
     *total = said.texts;
@@ -211,10 +202,7 @@ pub fn write_digits(
     ensures unchanged { handle.new.slot.kept ≡ handle.old.slot.kept }
     ensures digits { WritesDigits (holds handle.old) word.now (into digits.old digits.new count.old count.new) result }
 {
-    let Some(loaded) = handle.take(alloc) else {
-        return NO_DICTIONARY;
-    };
-    let status = calls::write_digits(&loaded.dictionary, alloc, word, digits, count);
-    *handle = Handle::of(loaded);
-    status
+    lend!(handle, alloc, Content::Levels(dictionary) => {
+        calls::write_digits(dictionary, alloc, word, digits, count)
+    } else NO_DICTIONARY)
 }
