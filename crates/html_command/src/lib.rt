@@ -130,8 +130,8 @@ impl<'w, F: NamedFiles, S: ReplaceFiles, I: Read, O: Write> ProgramSteps<S, I, O
 ///
 /// The pages are read by `files` and `input`. Their results go to `output`, one after the other, or into files that
 /// `store` replaces. All of them are made before the first byte is written. Dictionaries that the arguments don't give are
-/// searched in the folders of the call, for each page those of the languages that it names. That of a language is opened once,
-/// however many pages name it.
+/// searched in the folders of the call, for each page those of the languages that it names. The dictionary of a language is
+/// opened once, however many pages name it.
 ///
 /// | Status | When |
 /// |---|---|
