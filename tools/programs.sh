@@ -2,7 +2,7 @@
 # A script that reads this has set `root`, the folder of the repository, and `called`, its own name.
 # shellcheck shell=bash disable=SC2154
 
-# The programs. The first one's name is that of the launcher, and the others are links to it.
+# The programs. The first one's name is that of the launcher, and the launchers of the others read it.
 programs=(hyphenate hyphenate-canonical hyphenate-convert hyphenate-explain hyphenate-html hyphenate-lines hyphenate-text)
 
 # The files of languages/ that hyphenate-languages needs where it is installed.
