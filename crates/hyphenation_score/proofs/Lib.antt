@@ -11,5 +11,4 @@ pub mod WinnersMet
 pub mod ValuesInOrder
 pub mod ScoredWinners
 pub mod Counting
-pub mod Lanes
 pub mod TabledPass

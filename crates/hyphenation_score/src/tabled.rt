@@ -17,32 +17,10 @@ ghost use Rattle.hyphenation_score.specs.Scoring.{ranks, values};
 use crate::greatest::raise_all;
 use hyphenation_breaks::entry::{Entry, Payload};
 use hyphenation_trie::laws::table_begins;
+use hyphenation_trie::register::{greater, moved, store};
 use hyphenation_trie::table::Table;
 use hyphenation_trie::{Automaton, LookUps};
 use std::simd::prelude::*;
-
-// Moves the lanes by one to the front, with 0 at the end.
-#[inline(always)]
-fn moved(last: u8x16) -> u8x16
-    requires { length last ≡ 16 }
-    ensures lanes { length result ≡ 16 }
-    ensures each { (lane : ℕ) → lane < 16 → slice_index result lane ≡ slice_index last (lane + 1) }
-{
-    last.shuffle(
-        u8x16::splat(0),
-        [1, 2, 3, 4, 5, 6, 7, 8, 9, 10, 11, 12, 13, 14, 15, 16],
-    )
-}
-
-// Returns the greater of two numbers in each lane.
-#[inline(always)]
-fn greater(a: u8x16, b: u8x16) -> u8x16
-    requires lanes { (length a ≡ 16) × (length b ≡ 16) }
-    ensures lanes { length result ≡ 16 }
-    ensures each { (lane : ℕ) → lane < 16 → slice_index result lane ≡ max (slice_index a lane) (slice_index b lane) }
-{
-    a.simd_max(b)
-}
 
 // Moves the ranks so far by one place, and raises them to those of a vector.
 #[inline(always)]
@@ -54,18 +32,6 @@ fn raised(last: u8x16, vector: &[u8; 16]) -> u8x16
         → slice_index result lane ≡ max (slice_index last (lane + 1)) (slice_index vector.now lane) }
 {
     greater(moved(last), u8x16::from_array(*vector))
-}
-
-// Writes 16 ranks to a place of a list.
-#[inline(always)]
-fn store(last: u8x16, list: &mut [u8], at: usize)
-    requires lanes { length last ≡ 16 }
-    requires room { at + 16 ≤ length list.old }
-    ensures written { (lane : ℕ) → lane < 16 → slice_index list.new (at + lane) ≡ slice_index last lane }
-    ensures before { (i : ℕ) → i < at → slice_index list.new i ≡ slice_index list.old i }
-    ensures room { length list.new ≡ length list.old }
-{
-    last.copy_to_slice(&mut list[at..at + 16]);
 }
 
 /// Finds the ranks of a word's places, in one pass over its frame by a table of the keys.

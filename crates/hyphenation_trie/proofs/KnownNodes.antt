@@ -11,7 +11,8 @@ use Rattle.hyphenation_breaks.specs.Ranks.{greatest_rank}
 use Rattle.hyphenation_breaks.specs.declared.entry.Entry.{Entry}
 use Rattle.hyphenation_trie.specs.Links.{IsLongest}
 use Rattle.hyphenation_trie.specs.Private.Known.{AreByDepth, AreKnown, IsKnown, IsKnownNode, IsRaisedBy}
-use Rattle.hyphenation_trie.specs.Private.Vectors.{AreKnownTo, ArePairs, IsKnownAt, IsPairAt, KeepsPairs}
+use Rattle.hyphenation_trie.specs.Pairs.{ArePairs, IsPairAt, KeepsPairs}
+use Rattle.hyphenation_trie.specs.Private.Vectors.{AreKnownTo, IsKnownAt}
 use Rattle.hyphenation_trie.specs.Trie.{Tree, node_text, entries_of_key, IsTrie}
 use Rattle.hyphenation_trie.specs.Vectors.{AreNearEntries, entries_before, keys_at_end}
 use Rattle.hyphenation_trie.proofs.ChainsGrow.{zero_read}

@@ -19,3 +19,4 @@ pub mod TableSteps
 pub mod NumberedSteps
 pub mod TableMade
 pub mod TableRows
+pub mod RegisterLanes

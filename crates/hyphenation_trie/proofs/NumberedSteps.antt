@@ -1,10 +1,9 @@
 -- Steps of a table with a number for each node: what the cell of a row leads to.
-use Rattle.std.proofs.Common.{◌≡◌, ℕ, suc, ◌+◌, ◌*◌, ◌<◌, ◌≤◌, List, [], ◌∷◌, ◌++◌, length, get_or, slice_index, sym, ap, subst, ◌∙◌, arith, inl, inr}
-use Rattle.std.proofs.lemmas.List.{get_or_default}
+use Rattle.std.proofs.Common.{◌≡◌, ℕ, suc, ◌+◌, ◌*◌, ◌<◌, ◌≤◌, List, [], ◌∷◌, ◌++◌, length, slice_index, sym, ap, subst, arith, inl, inr}
 use Rattle.std.proofs.Math.Nat.{mul-le-mul_right, suc-mul}
 use Rattle.hyphenation_trie.specs.Cells.{number_in, place_in}
 use Rattle.hyphenation_trie.specs.Links.{EndsWith, IsLongest}
-use Rattle.hyphenation_trie.specs.Steps.{IsLongestInner, IsCellTo, AreSteps, StandsFor, IsStepOf}
+use Rattle.hyphenation_trie.specs.Steps.{IsLongestInner, IsCellTo, AreSteps, StandsFor, IsStepOf, cell_at}
 use Rattle.hyphenation_trie.specs.Trie.{Tree, node_text, IsTrie}
 use Rattle.hyphenation_trie.specs.declared.table.steps.Steps.{Steps}
 use Rattle.hyphenation_trie.proofs.Suffixes.{Ends-both, Ends-trans, Ends-push, Ends-nil, length-push, parent}
@@ -37,15 +36,12 @@ module _ {E : Type 0} (tree : Tree E) (trie : IsTrie tree) (text : List ℕ) (by
     most = λ k lk child e. then.most k lk child (ends_inner k lk e);
   }
 
--- the cell of a byte in the row of a text
-abbrev cell_of : Steps → ℕ → ℕ → ℕ
-cell_of steps start byte = slice_index steps.cells.items (start * 4 + slice_index steps.classes byte)
-
 -- what the cell of a row at a byte leads to
-step_is : {E : Type 0} (tree : Tree E) → IsTrie tree → (numbers : List ℕ) (steps : Steps) (start : ℕ) (text : List ℕ) (byte cell : ℕ) → byte < 256 → cell ≡ cell_of steps start byte → StandsFor tree numbers steps start text
-    → IsStepOf tree numbers steps (text ++ byte ∷ []) (place_in steps.split cell) (number_in steps.split cell)
-step_is tree trie numbers steps start text byte cell small is on =
-    let there : cell ≡ cell_of steps (on.row * on.quarter) byte = is ∙ ap (λ (r : ℕ). cell_of steps r byte) on.start_is in
+pub step_is : {E : Type 0} (tree : Tree E) → IsTrie tree → (numbers : List ℕ) (steps : Steps) (start : ℕ) (text : List ℕ) (byte : ℕ) → byte < 256 → StandsFor tree numbers steps start text
+    → IsStepOf tree numbers steps (text ++ byte ∷ []) (place_in steps.split (cell_at steps start byte)) (number_in steps.split (cell_at steps start byte))
+step_is tree trie numbers steps start text byte small on =
+    let cell : ℕ = cell_at steps start byte in
+    let there : cell ≡ cell_at steps (on.row * on.quarter) byte = ap (λ (r : ℕ). cell_at steps r byte) on.start_is in
     let node : ℕ = slice_index on.rows on.row in
     let to : IsCellTo tree numbers on.rows on.quarter steps.split (node_text tree node ++ byte ∷ []) cell =
     subst (λ (k : ℕ). IsCellTo tree numbers on.rows on.quarter steps.split (node_text tree node ++ byte ∷ []) k) (sym there) (on.are_steps.cells.each on.row byte on.within small) in
@@ -65,20 +61,12 @@ step_is tree trie numbers steps start text byte cell small is on =
     }
 
 -- the row ends within the cells
-row_in : {E : Type 0} (tree : Tree E) (numbers : List ℕ) (steps : Steps) (start : ℕ) (text : List ℕ) (on : StandsFor tree numbers steps start text) → start * 4 + on.quarter * 4 ≤ length steps.cells.items
-row_in tree numbers steps start text on =
+pub cell_within : {E : Type 0} (tree : Tree E) (numbers : List ℕ) (steps : Steps) (start : ℕ) (text : List ℕ) (byte : ℕ) → byte < 256 → StandsFor tree numbers steps start text
+    → start * 4 + slice_index steps.classes byte < length steps.cells.items
+cell_within tree numbers steps start text byte small on =
     let times = mul-le-mul_right {m = suc on.row} {n = length on.rows} on.quarter (omega (arith, on.within)) in
     let one = suc-mul on.row on.quarter in
-    omega (arith, on.start_is, on.are_steps.cells.room, times, one)
-
--- a cell that was read is that of the row at the byte
-pub step_read : {E : Type 0} (tree : Tree E) → IsTrie tree → (numbers : List ℕ) (steps : Steps) (start : ℕ) (text : List ℕ) (byte cell : ℕ) → byte < 256 → StandsFor tree numbers steps start text
-    → cell ≡ get_or steps.cells.items (start * 4 + slice_index steps.classes byte) cell → IsStepOf tree numbers steps (text ++ byte ∷ []) (place_in steps.split cell) (number_in steps.split cell)
-step_read tree trie numbers steps start text byte cell small on read =
-    let low = on.are_steps.below byte small in
-    let within = row_in tree numbers steps start text on in
-    let is : cell ≡ cell_of steps start byte = read ∙ get_or_default steps.cells.items (start * 4 + slice_index steps.classes byte) cell 0 (omega (arith, low, within)) in
-    step_is tree trie numbers steps start text byte cell small is on
+    omega (arith, on.start_is, on.are_steps.cells.room, times, one, on.are_steps.below byte small)
 
 -- the row of the empty text
 pub first_stands : {E : Type 0} (tree : Tree E) → IsTrie tree → (numbers : List ℕ) (steps : Steps) → AreSteps tree numbers steps → StandsFor tree numbers steps 0 []

@@ -5,11 +5,11 @@ use Rattle.std.proofs.lemmas.Bool.{cases_eq}
 use Rattle.std.proofs.lemmas.List.{length-append, length-drop, length-map, get_or-map, append_assoc, append-nil}
 use Rattle.hyphenation_breaks.specs.Ranks.{greatest_rank}
 use Rattle.hyphenation_breaks.specs.declared.entry.Entry.{Entry}
-use Rattle.hyphenation_trie.specs.Cells.{IsSplit, number_in, place_in}
+use Rattle.hyphenation_trie.specs.Cells.{number_in, place_in}
 use Rattle.hyphenation_trie.specs.Links.{EndsWith}
-use Rattle.hyphenation_trie.specs.Private.Known.{AreClasses, AreKnown}
-use Rattle.hyphenation_trie.specs.Steps.{AreRows, HasChild, IsCellTo, IsLongestInner}
-use Rattle.hyphenation_trie.specs.Tables.{IsStepTo, IsTable, IsTail, cell_at}
+use Rattle.hyphenation_trie.specs.Private.Known.{AreKnown}
+use Rattle.hyphenation_trie.specs.Steps.{AreStepsBy, HasChild, IsCellTo, IsLongestInner, cell_at}
+use Rattle.hyphenation_trie.specs.Tables.{IsStepTo, IsTable, IsTail}
 use Rattle.hyphenation_trie.specs.Trie.{Tree, node_text, entries_of_key, IsTrie}
 use Rattle.hyphenation_trie.specs.Vectors.{AreNear, AreNearEntries, IsVector}
 use Rattle.hyphenation_trie.specs.declared.table.Table.{Table}
@@ -84,7 +84,7 @@ row_text tree rows row lt = get_or-map (node_text tree) rows row 0 [] lt
 
 module _ {C : Type 0} (rank : C → ℕ → ℕ) (tree : Tree (Entry C)) (trie : IsTrie tree) (numbers rows : List ℕ) (quarter : ℕ) (table : Table) (known : AreKnown rank tree numbers table.vectors.items table.counts.items) where
   -- the vector and the count of the longest node that ends a text are those of the text
-  known_step : (text : List ℕ) (cell : ℕ) → IsCellTo tree numbers rows quarter table.split text cell → IsStepTo rank (entries_of_key tree) (row_texts tree rows) quarter table text (place_in table.split cell) (number_in table.split cell)
+  known_step : (text : List ℕ) (cell : ℕ) → IsCellTo tree numbers rows quarter table.steps.split text cell → IsStepTo rank (entries_of_key tree) (row_texts tree rows) quarter table text (place_in table.steps.split cell) (number_in table.steps.split cell)
   known_step text cell to =
       let keys = entries_of_key tree in
       let t : List ℕ = node_text tree to.node in
@@ -105,21 +105,22 @@ module _ {C : Type 0} (rank : C → ℕ → ℕ) (tree : Tree (Entry C)) (trie :
         counted = ap (slice_index table.counts.items) to.number ∙ here.known.counted ∙ sym (count_same keys text t longest.ends none);
       }
 
-  pub table_is : AreClasses tree.texts table.classes quarter → IsSplit table.split → AreRows tree numbers table.classes quarter table.split table.cells.items rows → IsTable rank (entries_of_key tree) (row_texts tree rows) quarter table
-  table_is classes split made =
+  pub table_is : AreStepsBy tree numbers rows quarter table.steps → IsTable rank (entries_of_key tree) (row_texts tree rows) quarter table
+  table_is steps =
+      let made = steps.cells in
       let many : length (row_texts tree rows) ≡ length rows = length-map rows (node_text tree) in
       record {
         near = all_near rank tree numbers table.vectors.items table.counts.items known;
-        classes = classes.all;
-        below = classes.below;
+        classes = steps.classes;
+        below = steps.below;
         counts = known.counts_of;
-        split = split;
+        split = steps.split;
         has_root = omega (arith, made.has_root, many);
         root = row_text tree rows 0 made.has_root ∙ ap (node_text tree) made.root ∙ trie.root;
-        room = subst (λ (n : ℕ). n * quarter * 4 ≤ length table.cells.items) (sym many) made.room;
+        room = subst (λ (n : ℕ). n * quarter * 4 ≤ length table.steps.cells.items) (sym many) made.room;
         steps = λ row byte lt small.
             let within : row < length rows = omega (arith, lt, many) in
-            let cell : ℕ = cell_at table (row * quarter) byte in
-            subst (λ (x : List ℕ). IsStepTo rank (entries_of_key tree) (row_texts tree rows) quarter table (x ++ byte ∷ []) (place_in table.split cell) (number_in table.split cell)) (sym (row_text tree rows row within))
+            let cell : ℕ = cell_at table.steps (row * quarter) byte in
+            subst (λ (x : List ℕ). IsStepTo rank (entries_of_key tree) (row_texts tree rows) quarter table (x ++ byte ∷ []) (place_in table.steps.split cell) (number_in table.steps.split cell)) (sym (row_text tree rows row within))
             (known_step (node_text tree (slice_index rows row) ++ byte ∷ []) cell (made.each row byte within small));
       }

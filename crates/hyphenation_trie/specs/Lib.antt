@@ -7,5 +7,6 @@ pub mod Laws
 pub mod Cells
 pub mod Steps
 pub mod Vectors
+pub mod Pairs
 pub mod Tables
 pub mod Private

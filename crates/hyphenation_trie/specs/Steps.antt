@@ -6,6 +6,10 @@ use Rattle.hyphenation_trie.specs.Trie.{Tree, node_text}
 use Rattle.hyphenation_trie.specs.declared.table.split.Split.{Split}
 use Rattle.hyphenation_trie.specs.declared.table.steps.Steps.{Steps}
 
+-- The cell of a byte in the row that begins there, in units of four cells.
+abbrev pub cell_at : Steps → ℕ → ℕ → ℕ
+cell_at steps start byte = slice_index steps.cells.items (start * 4 + slice_index steps.classes byte)
+
 -- The node has a child.
 abbrev pub HasChild : {E : Type 0} → Tree E → ℕ → Type 0
 HasChild tree node =

@@ -1,8 +1,9 @@
 -- Tables of steps: a row of cells for each text that begins longer keys, and a cell for each class of bytes.
-use Rattle.std.specs.Prelude.{◌≡◌, ℕ, ◌+◌, ◌-◌, ◌*◌, ◌<◌, ◌≤◌, List, [], ◌∷◌, ◌++◌, length, drop, slice_index, slice_index_or, None}
+use Rattle.std.specs.Prelude.{◌≡◌, ℕ, ◌-◌, ◌*◌, ◌<◌, ◌≤◌, List, [], ◌∷◌, ◌++◌, length, drop, slice_index, slice_index_or, None}
 use Rattle.hyphenation_breaks.specs.Dictionary.{Patterns}
 use Rattle.hyphenation_trie.specs.Cells.{IsSplit, number_in, place_in}
 use Rattle.hyphenation_trie.specs.Links.{EndsWith}
+use Rattle.hyphenation_trie.specs.Steps.{cell_at}
 use Rattle.hyphenation_trie.specs.Vectors.{AreNear, IsVector, keys_at_end}
 use Rattle.hyphenation_trie.specs.declared.table.Table.{Table}
 
@@ -27,24 +28,20 @@ pub record IsStepTo {C : Type 0} (rank : C → ℕ → ℕ) (keys : Patterns C) 
   pub vector : IsVector rank keys text (slice_index_or table.vectors.items number [])
   pub counted : slice_index table.counts.items number ≡ keys_at_end keys text
 
--- The cell of a byte in the row that begins there, in units of four cells.
-abbrev pub cell_at : Table → ℕ → ℕ → ℕ
-cell_at table start byte = slice_index table.cells.items (start * 4 + slice_index table.classes byte)
-
 -- The table has one row for each of the texts, and the steps from each are right. The width of a row is four times this number
 -- of cells.
 pub record IsTable {C : Type 0} (rank : C → ℕ → ℕ) (keys : Patterns C) (texts : List (List ℕ)) (quarter : ℕ) (table : Table) : Type 0 where
   pub near : AreNear keys
-  pub classes : length table.classes ≡ 256
-  pub below : (b : ℕ) → b < 256 → slice_index table.classes b < quarter * 4
+  pub classes : length table.steps.classes ≡ 256
+  pub below : (b : ℕ) → b < 256 → slice_index table.steps.classes b < quarter * 4
   pub counts : length table.counts.items ≡ length table.vectors.items
-  pub split : IsSplit table.split
+  pub split : IsSplit table.steps.split
   pub has_root : 0 < length texts
   pub root : slice_index_or texts 0 [] ≡ []
-  pub room : length texts * quarter * 4 ≤ length table.cells.items
+  pub room : length texts * quarter * 4 ≤ length table.steps.cells.items
   pub steps : (row byte : ℕ) → row < length texts → byte < 256
       → IsStepTo rank keys texts quarter table (slice_index_or texts row [] ++ byte ∷ [])
-      (place_in table.split (cell_at table (row * quarter) byte)) (number_in table.split (cell_at table (row * quarter) byte))
+      (place_in table.steps.split (cell_at table.steps (row * quarter) byte)) (number_in table.steps.split (cell_at table.steps (row * quarter) byte))
 
 -- The table is one of these keys, with these ranks of their values.
 abbrev pub IsTableOf : {C : Type 0} → (C → ℕ → ℕ) → Patterns C → Table → Type 0

@@ -35,6 +35,7 @@ pub mod laws;
 mod lists;
 mod look_ups;
 pub mod parts;
+pub mod register;
 mod state;
 pub mod table;
 mod trail;

@@ -11,28 +11,23 @@ ghost use Rattle.hyphenation_trie.specs.Tables.{GoesOn, IsTableOf, ReadsOn};
 ghost use Rattle.hyphenation_trie.specs.Trie.{entries_of_key};
 
 mod classes;
+pub mod pairs;
 mod rows;
 pub mod split;
 pub mod steps;
 mod vectors;
 
 use super::{Automaton, LookUps};
-use classes::classes_of;
 use hyphenation_breaks::entry::{Entry, Payload};
-use rows::cells_of;
-use split::{Split, split_of};
 use std::alloc::{AllocError, Global};
+use steps::{Steps, steps_of};
 use vectors::{Known, known_of_all};
 
 /// A table of steps of an automaton.
 #[derive(Drop)]
 pub struct Table {
-    /// The cells of all rows. A cell holds where the next row begins, in units of four cells, and the number of a vector.
-    pub cells: Vec<u32>,
-    /// How a cell holds these two.
-    pub split: Split,
-    /// The class of each byte.
-    pub classes: [u8; 256],
+    /// The steps from row to row, each with the number of a vector.
+    pub steps: Steps,
     /// The vectors.
     pub vectors: Vec<[u8; 16]>,
     /// For each vector the number of keys that end the texts that it is of.
@@ -59,8 +54,7 @@ impl Table {
         ensures counted { count.new ≡ record count.old { made = count.old.made + 1 } }
     {
         count.look_up();
-        let cell = self.cells[start * 4 + self.classes[byte as usize] as usize];
-        self.split.parts(cell)
+        self.steps.read(start, byte)
     }
 
     /// Returns the vector of a number, and counts one report for each key that ends the texts that it is of.
@@ -91,11 +85,6 @@ pub fn make_table<C: Payload>(
     ensures { IfOk result (λ made. IfSome made (λ table. IsTableOf C.rank_of (entries_of_key automaton.now) table)) }
 {
     automaton.invariant();
-    let Some(found) = classes_of(automaton) else {
-        return Ok(None);
-    };
-    let classes = found.0;
-    let quarter = found.1;
     let order = automaton.nodes_by_depth(alloc)?;
     let Some(known) = known_of_all(alloc, automaton, &order)? else {
         return Ok(None);
@@ -105,14 +94,11 @@ pub fn make_table<C: Payload>(
         vectors,
         counts,
     } = known;
-    let split = split_of(&numbers);
-    let Some(cells) = cells_of(alloc, automaton, &order, &numbers, &classes, quarter, split)? else {
+    let Some(steps) = steps_of(alloc, automaton, &order, &numbers)? else {
         return Ok(None);
     };
     Ok(Some(Table {
-        cells,
-        split,
-        classes,
+        steps,
         vectors,
         counts,
     }))

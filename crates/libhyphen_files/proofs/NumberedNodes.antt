@@ -1,9 +1,10 @@
 -- The numbers of the nodes' vectors, node by node.
-use Rattle.std.proofs.Common.{◌≡◌, ℕ, ◌+◌, ◌<◌, List, [], ◌∷◌, ◌++◌, length, get_or, replicate, refl, sym, ap, subst, ◌∙◌, arith, inl, inr}
+use Rattle.std.proofs.Common.{◌≡◌, ℕ, ◌+◌, ◌-◌, ◌<◌, List, [], ◌∷◌, ◌++◌, length, get_or, replicate, refl, sym, ap, subst, ◌∙◌, arith, inl, inr}
 use Rattle.std.specs.Prelude.{slice_index}
 use Rattle.std.proofs.lemmas.Bool.{cases_lt}
 use Rattle.std.proofs.lemmas.List.{length-append, get_or_append_left, get_or_push, get_or-replicate}
 use Rattle.hyphenation_breaks.specs.Ascii.{digit_zero}
+use Rattle.hyphenation_trie.specs.Pairs.{ArePairs, KeepsPairs}
 use Rattle.hyphenation_trie.specs.Trie.{Tree}
 use Rattle.libhyphen_files.specs.Patterns.{Pattern}
 use Rattle.libhyphen_files.specs.Vectors.{IsNodeVector, IsNumberOf}
@@ -60,3 +61,24 @@ nodes_more tree numbers next vectors new node number pos pushed kept numbered he
             subst (λ (n : ℕ). IsNumberOf tree new n (slice_index next n)) is (subst (λ (n : ℕ). IsNumberOf tree new node n) (sym last) here)
       ];
     }
+
+-- ---- vectors that keep their numbers
+
+pub vectors_kept : (old : List (List ℕ)) (old_counts : List ℕ) (new : List (List ℕ)) (counts : List ℕ) → KeepsPairs old old_counts new counts → KeepsVectors old new
+vectors_kept old old_counts new counts kept = record {
+  more = elim (cases_lt 0 (length old)) [
+    | inl some ↦
+        let last : ℕ = length old - 1 in
+        omega (arith, (kept last (omega arith)).within)
+    | inr none ↦ omega arith
+  ];
+  same = λ number lt. (kept number lt).vector_is;
+}
+
+pub numbered_kept : (old new : List (List ℕ)) (counts : List ℕ) → ArePairs new counts → KeepsVectors old new → AreNumbered old → AreNumbered new
+numbered_kept old new counts pairs kept was = record {
+  few = pairs.few;
+  two = omega (arith, was.two, kept.more);
+  none = kept.same 0 (omega (arith, was.two)) ∙ was.none;
+  unknown = kept.same 1 (omega (arith, was.two)) ∙ was.unknown;
+}

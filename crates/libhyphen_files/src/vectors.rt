@@ -1,15 +1,17 @@
 //! The digits that each node's own pattern gives, as vectors of the last places, and the bytes that begin keys.
 
-ghost use Rattle.std.specs.Prelude.{◌≡◌, ◌+◌, ◌<◌, [], IfErr, IfOk, IfSome, IsFalse, IsTrue, OnOk, Some, length, option_copied};
-ghost use Rattle.std.specs.Prelude.{slice_index, slice_index_or, take};
+ghost use Rattle.std.specs.Prelude.{◌≡◌, ◌+◌, ◌<◌, IfOk, IfSome, IsFalse, IsTrue, Some, length, option_copied};
+ghost use Rattle.std.specs.Prelude.{slice_index, take};
 ghost use Rattle.hyphenation_breaks.specs.Ascii.{digit_zero};
 ghost use Rattle.hyphenation_dictionary.specs.Parts.{patterns_of};
+ghost use Rattle.hyphenation_trie.specs.Pairs.{CanBeFound};
 ghost use Rattle.libhyphen_files.specs.Private.Vectors.{AreNodesNumbered, AreNumbered, HasDigitsOf, IsAt, KeepsVectors};
 ghost use Rattle.libhyphen_files.specs.Vectors.{AreFirst, AreVectors, BeginsNoKey, IsNumberOf, IsVectorOf, pattern_of_node};
 
 use crate::pattern::StoredPattern;
 use hyphenation_dictionary::laws::keys_are_looked_up;
 use hyphenation_trie::laws::keys_have_nodes;
+use hyphenation_trie::table::pairs::Pairs;
 use hyphenation_trie::table::steps::{Steps, make_steps};
 use hyphenation_trie::{Automaton, LookUps};
 use std::alloc::{AllocError, Global};
@@ -32,20 +34,6 @@ pub fn pattern_of_node<'d>(
 
 // A vector that says nothing of its node's pattern.
 const UNKNOWN: [u8; 16] = [255; 16];
-
-// The greatest number of vectors.
-const MOST: usize = 4096;
-
-// The number of slots by which an equal vector is found: twice that of vectors, so that a search soon comes to a free
-// one.
-const SLOTS: usize = 8192;
-
-// The number of slots that a search reads at most. A vector that is not found by then is added once more, which is no
-// error.
-const TRIES: usize = 64;
-
-// A free slot holds this, which is the number of no vector.
-const FREE: u32 = u32::MAX;
 
 /// The vectors of all nodes, with a table of steps. A vector has the digits that a node's own pattern gives to the 16
 /// last places, counted from 0.
@@ -123,66 +111,19 @@ fn vector_of(pattern: &StoredPattern, bytes: usize) -> [u8; 16]
     }
 }
 
-// Returns the slot at which the search for a vector begins: the highest bits of a product, which all bits of the vector
-// change.
-fn first_slot(vector: &[u8; 16]) -> usize
-    ensures { result < 8192 }
-{
-    let bytes = u128::from_le_bytes(*vector);
-    let high = (bytes >> 64) as u64;
-    let low = (bytes % (1 << 64)) as u64;
-    let mixed = low ^ high.wrapping_mul(0x9e3779b97f4a7c15);
-    (mixed.wrapping_mul(0xd6e8feb86659fd93) >> 51) as usize
-}
-
-// Returns the number of an equal vector, or else the slot for a new one. A slot is a hint: the vector that it leads
-// to is compared.
-fn find_vector(vectors: &[[u8; 16]], slots: &[u32], vector: &[u8; 16]) -> Result<usize, usize>
-    requires slots { length slots.now ≡ 8192 }
-    ensures found { IfOk result (λ number.
-        (number < length vectors.now) × (slice_index_or vectors.now number [] ≡ vector.now)) }
-    ensures slot { IfErr result (λ slot. slot < length slots.now) }
-{
-    let first = first_slot(vector);
-    for step in 0..TRIES {
-        let slot = (first + step) % SLOTS;
-        let number = slots[slot] as usize;
-        // The number of no vector is in a free slot.
-        if number >= vectors.len() {
-            return Err(slot);
-        }
-        if vectors[number] == *vector {
-            return Ok(number);
-        }
-    }
-    Err(first)
-}
-
 // Returns the number of a vector, which is added if no vector is equal. Where there are too many, it is the number of
 // the one that says nothing. The only error is out of memory.
-fn find_or_add(
-    vectors: &mut Vec<[u8; 16]>,
-    slots: &mut [u32],
-    vector: &[u8; 16],
-) -> Result<u32, AllocError>
-    requires numbered { AreNumbered vectors.old.items }
-    requires slots { length slots.old ≡ 8192 }
-    ensures slots { length slots.new ≡ length slots.old }
-    ensures numbered { OnOk result (AreNumbered vectors.new.items) }
-    ensures kept { OnOk result (KeepsVectors vectors.old.items vectors.new.items) }
-    ensures found { IfOk result (λ number. IsAt vectors.new.items number vector.now) }
+fn number_at(pairs: &mut Pairs, vector: &[u8; 16]) -> Result<u32, AllocError>
+    requires numbered { AreNumbered pairs.old.vectors.items }
+    requires pairs { CanBeFound pairs.old }
+    ensures pairs { CanBeFound pairs.new }
+    ensures numbered { AreNumbered pairs.new.vectors.items }
+    ensures kept { KeepsVectors pairs.old.vectors.items pairs.new.vectors.items }
+    ensures found { IfOk result (λ number. IsAt pairs.new.vectors.items number vector.now) }
 {
-    match find_vector(vectors, slots, vector) {
-        Ok(number) => Ok(number as u32),
-        Err(slot) => {
-            let number = vectors.len();
-            if number == MOST {
-                return Ok(1);
-            }
-            vectors.push(*vector)?;
-            slots[slot] = number as u32;
-            Ok(number as u32)
-        }
+    match pairs.find_or_add(vector, 0)? {
+        Some(number) => Ok(number),
+        None => Ok(1),
     }
 }
 
@@ -190,22 +131,21 @@ fn find_or_add(
 fn number_of(
     patterns: &Automaton<StoredPattern>,
     node: usize,
-    vectors: &mut Vec<[u8; 16]>,
-    slots: &mut [u32],
+    pairs: &mut Pairs,
 ) -> Result<u32, AllocError>
     requires node { node < length patterns.now.texts }
-    requires numbered { AreNumbered vectors.old.items }
-    requires slots { length slots.old ≡ 8192 }
-    ensures slots { length slots.new ≡ length slots.old }
-    ensures numbered { OnOk result (AreNumbered vectors.new.items) }
-    ensures kept { OnOk result (KeepsVectors vectors.old.items vectors.new.items) }
-    ensures found { IfOk result (λ number. IsNumberOf patterns.now vectors.new.items node number) }
+    requires numbered { AreNumbered pairs.old.vectors.items }
+    requires pairs { CanBeFound pairs.old }
+    ensures pairs { CanBeFound pairs.new }
+    ensures numbered { AreNumbered pairs.new.vectors.items }
+    ensures kept { KeepsVectors pairs.old.vectors.items pairs.new.vectors.items }
+    ensures found { IfOk result (λ number. IsNumberOf patterns.now pairs.new.vectors.items node number) }
 {
     let Some(pattern) = pattern_of_node(patterns, node) else {
         return Ok(0);
     };
     let vector = vector_of(pattern, patterns.depth(node));
-    find_or_add(vectors, slots, &vector)
+    number_at(pairs, &vector)
 }
 
 // The numbers of all nodes, and the vectors.
@@ -225,16 +165,16 @@ fn numbered_vectors(
 {
     patterns.invariant();
     let nodes = patterns.nodes();
-    let mut vectors = Vec::new(alloc);
-    vectors.push([0u8; 16])?;
-    vectors.push(UNKNOWN)?;
-    let mut slots = vec![in alloc; FREE; SLOTS]?;
+    let mut pairs = Pairs::new(alloc)?;
+    pairs.add(&[0; 16], 0)?;
+    pairs.add(&UNKNOWN, 0)?;
     let mut numbers = Vec::with_capacity(alloc, nodes)?;
     numbers.push(0u32)?;
     for node in 1..nodes {
-        let number = number_of(patterns, node, &mut vectors, &mut slots)?;
+        let number = number_of(patterns, node, &mut pairs)?;
         numbers.push(number)?;
     }
+    let Pairs { vectors, .. } = pairs;
     Ok(Numbered { numbers, vectors })
 }
 

@@ -23,7 +23,6 @@ pub mod ForbiddenPlaces
 pub mod FoundSizes
 pub mod Regions
 pub mod ClosedPatterns
-pub mod UnchangedLanes
 pub mod OddLanes
 pub mod UnchangedDigits
 pub mod PassedVectors

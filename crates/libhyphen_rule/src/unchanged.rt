@@ -9,7 +9,7 @@
 //! A vector with a lane above 9 does not tell the node's pattern. The pass goes on then, and its digits are not used.
 //! Such a word, a longer one than 64 bytes, and one of a level without a table are left to the general way.
 
-ghost use Rattle.std.specs.Prelude.{◌≡◌, ℕ, List, ◌+◌, ◌%◌, ◌<◌, ◌≤◌, max, None, IfSome, IsTrue, IsFalse, false, true};
+ghost use Rattle.std.specs.Prelude.{◌≡◌, ℕ, List, ◌+◌, ◌%◌, ◌<◌, ◌≤◌, None, IfSome, IsTrue, IsFalse, false, true};
 ghost use Rattle.std.specs.Prelude.{drop, length, replicate, slice_index, take};
 ghost use Rattle.std.specs.List.{list_any};
 ghost use Rattle.hyphenation_breaks.specs.Ascii.{digit_zero};
@@ -24,45 +24,11 @@ use crate::digits::clear;
 use hyphenation_dictionary::laws::keys_are_looked_up;
 use hyphenation_trie::Automaton;
 use hyphenation_trie::laws::keys_have_nodes;
+use hyphenation_trie::register::{greater, moved, store};
 use libhyphen_files::level::FrozenLevel;
 use libhyphen_files::pattern::StoredPattern;
 use libhyphen_files::vectors::NodeVectors;
 use std::simd::prelude::*;
-
-// Moves the lanes by one to the front, with 0 at the end.
-#[inline(always)]
-fn moved(last: u8x16) -> u8x16
-    requires { length last ≡ 16 }
-    ensures lanes { length result ≡ 16 }
-    ensures each { (lane : ℕ) → lane < 16 → slice_index result lane ≡ slice_index last (lane + 1) }
-{
-    last.shuffle(
-        u8x16::splat(0),
-        [1, 2, 3, 4, 5, 6, 7, 8, 9, 10, 11, 12, 13, 14, 15, 16],
-    )
-}
-
-// Returns the greater of two numbers in each lane.
-#[inline(always)]
-fn greater(a: u8x16, b: u8x16) -> u8x16
-    requires lanes { (length a ≡ 16) × (length b ≡ 16) }
-    ensures lanes { length result ≡ 16 }
-    ensures each { (lane : ℕ) → lane < 16 → slice_index result lane ≡ max (slice_index a lane) (slice_index b lane) }
-{
-    a.simd_max(b)
-}
-
-// Writes 16 digits to a place of a list.
-#[inline(always)]
-fn store(last: u8x16, list: &mut [u8], at: usize)
-    requires lanes { length last ≡ 16 }
-    requires room { at + 16 ≤ length list.old }
-    ensures written { (lane : ℕ) → lane < 16 → slice_index list.new (at + lane) ≡ slice_index last lane }
-    ensures before { (i : ℕ) → i < at → slice_index list.new i ≡ slice_index list.old i }
-    ensures room { length list.new ≡ length list.old }
-{
-    last.copy_to_slice(&mut list[at..at + 16]);
-}
 
 // Reports whether all lanes are digits.
 #[inline(always)]

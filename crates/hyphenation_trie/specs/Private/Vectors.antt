@@ -1,25 +1,9 @@
--- Pairs of a vector and a count, each at its number, and what is known of nodes so far.
-use Rattle.std.specs.Prelude.{◌≡◌, ℕ, ◌<◌, ◌≤◌, List, [], length, slice_index, slice_index_or}
+-- What is known of nodes so far, by numbers of pairs of a vector and a count.
+use Rattle.std.specs.Prelude.{◌≡◌, ℕ, ◌<◌, List, [], length, slice_index, slice_index_or}
 use Rattle.hyphenation_breaks.specs.declared.entry.Entry.{Entry}
+use Rattle.hyphenation_trie.specs.Pairs.{ArePairs}
 use Rattle.hyphenation_trie.specs.Private.Known.{IsKnown, IsKnownNode}
 use Rattle.hyphenation_trie.specs.Trie.{Tree, node_text, entries_of_key}
-
--- There are as many counts as vectors, at most 4096.
-pub record ArePairs (vectors : List (List ℕ)) (counts : List ℕ) : Type 0 where
-  pub counts_of : length counts ≡ length vectors
-  pub few : length vectors ≤ 4096
-
--- The pair has this number.
-pub record IsPairAt (vectors : List (List ℕ)) (counts : List ℕ) (number : ℕ) (vector : List ℕ) (count : ℕ) : Type 0 where
-  pub within : number < length vectors
-  pub vector_is : slice_index_or vectors number [] ≡ vector
-  pub count_is : slice_index counts number ≡ count
-
--- Each pair keeps its number.
-abbrev pub KeepsPairs : List (List ℕ) → List ℕ → List (List ℕ) → List ℕ → Type 0
-KeepsPairs old_vectors old_counts vectors counts =
-    (k : ℕ) → k < length old_vectors
-    → IsPairAt vectors counts k (slice_index_or old_vectors k []) (slice_index old_counts k)
 
 -- The node is known by this number.
 pub record IsKnownAt {C : Type 0} (rank : C → ℕ → ℕ) (tree : Tree (Entry C)) (vectors : List (List ℕ)) (counts : List ℕ) (number node : ℕ)

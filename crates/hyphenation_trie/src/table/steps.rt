@@ -4,8 +4,10 @@
 //! of the longest node with children that ends the row's text with the byte. It also has the number of the longest node
 //! that does, with children or without. The caller chooses the numbers.
 
-ghost use Rattle.std.specs.Prelude.{◌≡◌, ◌<◌, ℕ, List, [], length, slice_index, IfOk, IfSome};
-ghost use Rattle.hyphenation_trie.specs.Steps.{AreSteps, StandsFor, StepsBy};
+ghost use Rattle.std.specs.Prelude.{◌≡◌, ◌+◌, ◌*◌, ◌<◌, ℕ, List, [], length, slice_index, IfOk, IfSome};
+ghost use Rattle.hyphenation_trie.specs.Cells.{IsSplit, number_in, place_in};
+ghost use Rattle.hyphenation_trie.specs.Private.Known.{AreByDepth};
+ghost use Rattle.hyphenation_trie.specs.Steps.{AreSteps, StandsFor, StepsBy, cell_at};
 
 use super::classes::classes_of;
 use super::rows::cells_of;
@@ -25,6 +27,18 @@ pub struct Steps {
 }
 
 impl Steps {
+    // Reads the cell of a byte in a row: returns its place and its number.
+    #[inline(always)]
+    pub(super) fn read(&self, start: usize, byte: u8) -> (usize, usize)
+        requires cell { start * 4 + slice_index self.now.classes byte < length self.now.cells.items }
+        requires split { IsSplit self.now.split }
+        ensures place { result.0 ≡ place_in self.now.split (cell_at self.now start byte) }
+        ensures number { result.1 ≡ number_in self.now.split (cell_at self.now start byte) }
+    {
+        let cell = self.cells[start * 4 + self.classes[byte as usize] as usize];
+        self.split.parts(cell)
+    }
+
     /// Returns where the row of the empty text begins, in units of four cells.
     #[inline(always)]
     pub fn first_row<E: Drop>(&self, automaton: &Automaton<E>) -> usize
@@ -43,9 +57,38 @@ impl Steps {
         ensures { StepsBy automaton.now self.now start byte result.0 result.1 }
     {
         automaton.invariant();
-        let cell = self.cells[start * 4 + self.classes[byte as usize] as usize];
-        self.split.parts(cell)
+        self.read(start, byte)
     }
+}
+
+// Makes a table of steps as [`make_steps`] does, given the nodes by their depths.
+pub(super) fn steps_of<E: Drop>(
+    alloc: Global,
+    automaton: &Automaton<E>,
+    order: &[u32],
+    numbers: &[u32],
+) -> Result<Option<Steps>, AllocError>
+    requires order { AreByDepth automaton.now.texts order.now }
+    requires nodes { length numbers.now ≡ length automaton.now.texts }
+    requires few { (j : ℕ) → j < length automaton.now.texts → slice_index numbers.now j < 4096 }
+    requires root { slice_index numbers.now 0 ≡ 0 }
+    ensures { IfOk result (λ made. IfSome made (λ steps. AreSteps automaton.now numbers.now steps)) }
+{
+    automaton.invariant();
+    let Some(found) = classes_of(automaton) else {
+        return Ok(None);
+    };
+    let classes = found.0;
+    let quarter = found.1;
+    let split = split_of(numbers);
+    let Some(cells) = cells_of(alloc, automaton, order, numbers, &classes, quarter, split)? else {
+        return Ok(None);
+    };
+    Ok(Some(Steps {
+        cells,
+        split,
+        classes,
+    }))
 }
 
 /// Makes a table of the steps of an automaton, with a number for each node. `None` if there can be none of this form.
@@ -63,20 +106,6 @@ pub fn make_steps<E: Drop>(
     requires root { slice_index numbers.now 0 ≡ 0 }
     ensures { IfOk result (λ made. IfSome made (λ steps. AreSteps automaton.now numbers.now steps)) }
 {
-    automaton.invariant();
-    let Some(found) = classes_of(automaton) else {
-        return Ok(None);
-    };
-    let classes = found.0;
-    let quarter = found.1;
     let order = automaton.nodes_by_depth(alloc)?;
-    let split = split_of(numbers);
-    let Some(cells) = cells_of(alloc, automaton, &order, numbers, &classes, quarter, split)? else {
-        return Ok(None);
-    };
-    Ok(Some(Steps {
-        cells,
-        split,
-        classes,
-    }))
+    steps_of(alloc, automaton, &order, numbers)
 }

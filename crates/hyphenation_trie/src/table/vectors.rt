@@ -3,15 +3,16 @@
 //! The keys that end a node's text are the keys that end its link's text, and the node's own text if it is a key. So the vector
 //! of a node is that of its link, raised to the ranks of its own entries.
 
-ghost use Rattle.std.specs.Prelude.{◌≡◌, ◌+◌, ◌<◌, ℕ, drop, length, IfErr, IfOk, IfSome};
+ghost use Rattle.std.specs.Prelude.{◌≡◌, ◌<◌, drop, length, IfOk, IfSome};
 ghost use Rattle.hyphenation_trie.specs.Links.{IsLongest};
+ghost use Rattle.hyphenation_trie.specs.Pairs.{CanBeFound, KeepsPairs};
 ghost use Rattle.hyphenation_trie.specs.Private.Known.{AreByDepth, AreKnown, IsRaisedBy};
-ghost use Rattle.hyphenation_trie.specs.Private.Vectors.{ArePairs, IsKnownAt, IsPairAt, KeepsPairs};
+ghost use Rattle.hyphenation_trie.specs.Private.Vectors.{IsKnownAt};
 ghost use Rattle.hyphenation_trie.specs.Trie.{node_text};
 ghost use Rattle.hyphenation_trie.specs.Vectors.{AreNearEntries};
 
+use super::pairs::Pairs;
 use crate::Automaton;
-use crate::lists::push_both;
 use hyphenation_breaks::entry::{Entry, Payload};
 use std::alloc::{AllocError, Global};
 
@@ -25,18 +26,6 @@ pub(super) struct Known {
     // The number of keys that end the text of a node, for each number.
     pub(super) counts: Vec<u32>,
 }
-
-// The greatest number of pairs of a vector and a count.
-const MOST: usize = 4096;
-
-// The number of slots by which an equal pair is found: twice that of pairs, so that a search soon comes to a free one.
-const SLOTS: usize = 8192;
-
-// The number of slots that a search reads at most. A pair that is not found by then is added once more, which is no error.
-const TRIES: usize = 64;
-
-// A free slot holds this, which is the number of no pair.
-const FREE: u32 = u32::MAX;
 
 // Returns a vector raised to the ranks of the entries of a key with that many bytes. `None` if an entry is more than 15
 // bytes before the key's end, or past it, or has a rank above 255.
@@ -60,80 +49,6 @@ fn raised_by<C: Payload>(vector: &[u8; 16], entries: &[Entry<C>], bytes: usize) 
     Some(raised)
 }
 
-// Returns the slot at which the search for a pair begins: the highest bits of a product, which all bits of the pair change.
-fn first_slot(vector: &[u8; 16], count: u32) -> usize
-    ensures { result < 8192 }
-{
-    let bytes = u128::from_le_bytes(*vector);
-    let high = (bytes >> 64) as u64;
-    let low = (bytes % (1 << 64)) as u64;
-    let mixed = low
-        ^ high
-            .wrapping_mul(0x9e3779b97f4a7c15)
-            .wrapping_add(u64::from(count));
-    (mixed.wrapping_mul(0xd6e8feb86659fd93) >> 51) as usize
-}
-
-// Returns the number of an equal pair, or else the slot for a new one. A slot is a hint: the pair that it leads to is compared.
-fn find_pair(
-    vectors: &[[u8; 16]],
-    counts: &[u32],
-    slots: &[u32],
-    vector: &[u8; 16],
-    count: u32,
-) -> Result<usize, usize>
-    requires counts { length counts.now ≡ length vectors.now }
-    requires slots { length slots.now ≡ 8192 }
-    ensures found { IfOk result (λ number. IsPairAt vectors.now counts.now number vector.now count) }
-    ensures slot { IfErr result (λ slot. slot < length slots.now) }
-{
-    let first = first_slot(vector, count);
-    for step in 0..TRIES {
-        let slot = (first + step) % SLOTS;
-        let number = slots[slot] as usize;
-        // The number of no pair is in a free slot.
-        if number >= vectors.len() {
-            return Err(slot);
-        }
-        if counts[number] == count && vectors[number] == *vector {
-            return Ok(number);
-        }
-    }
-    Err(first)
-}
-
-// Returns the number of a pair, which is added if no pair is equal. `None` if there would be more than 4,096 pairs. The only
-// error is out of memory.
-fn find_or_add(
-    vectors: &mut Vec<[u8; 16]>,
-    counts: &mut Vec<u32>,
-    slots: &mut [u32],
-    vector: &[u8; 16],
-    count: u32,
-) -> Result<Option<u32>, AllocError>
-    requires pairs { ArePairs vectors.old.items counts.old.items }
-    requires slots { length slots.old ≡ 8192 }
-    ensures pairs { IfOk result (λ made. IfSome made (λ number. ArePairs vectors.new.items counts.new.items)) }
-    ensures slots { length slots.new ≡ length slots.old }
-    ensures kept { IfOk result (λ made. IfSome made
-        (λ number. KeepsPairs vectors.old.items counts.old.items vectors.new.items counts.new.items)) }
-    ensures found { IfOk result (λ made. IfSome made
-        (λ number. IsPairAt vectors.new.items counts.new.items number vector.now count)) }
-{
-    match find_pair(vectors, counts, slots, vector, count) {
-        Ok(number) => Ok(Some(number as u32)),
-        Err(slot) => {
-            let number = vectors.len();
-            if number == MOST {
-                return Ok(None);
-            }
-            push_both(vectors, *vector, counts, count)?;
-            slots[slot] = number as u32;
-            Ok(Some(number as u32))
-        }
-    }
-}
-
 // Returns the link of a node.
 fn link_of<C: Payload>(automaton: &Automaton<Entry<C>>, node: usize) -> usize
     requires { node < length automaton.now.texts }
@@ -150,34 +65,30 @@ fn number_of<C: Payload>(
     node: usize,
     link: usize,
     number: u32,
-    vectors: &mut Vec<[u8; 16]>,
-    counts: &mut Vec<u32>,
-    slots: &mut [u32],
+    pairs: &mut Pairs,
 ) -> Result<Option<u32>, AllocError>
     requires node { (0 < node) × (node < length automaton.now.texts) }
     requires link { IsLongest automaton.now.texts (drop 1 (node_text automaton.now node)) link }
-    requires known { IsKnownAt C.rank_of automaton.now vectors.old.items counts.old.items number link }
-    requires pairs { ArePairs vectors.old.items counts.old.items }
-    requires slots { length slots.old ≡ 8192 }
-    ensures pairs { IfOk result (λ made. IfSome made (λ number. ArePairs vectors.new.items counts.new.items)) }
-    ensures slots { length slots.new ≡ length slots.old }
-    ensures kept { IfOk result (λ made. IfSome made
-        (λ number. KeepsPairs vectors.old.items counts.old.items vectors.new.items counts.new.items)) }
+    requires known { IsKnownAt C.rank_of automaton.now pairs.old.vectors.items pairs.old.counts.items number link }
+    requires pairs { CanBeFound pairs.old }
+    ensures pairs { CanBeFound pairs.new }
+    ensures kept { KeepsPairs pairs.old.vectors.items pairs.old.counts.items pairs.new.vectors.items
+        pairs.new.counts.items }
     ensures known { IfOk result (λ made. IfSome made
-        (λ number. IsKnownAt C.rank_of automaton.now vectors.new.items counts.new.items number node)) }
+        (λ number. IsKnownAt C.rank_of automaton.now pairs.new.vectors.items pairs.new.counts.items number node)) }
 {
     automaton.invariant();
     let Some(entries) = automaton.trie.entries(node) else {
         return Ok(Some(number));
     };
     let number = number as usize;
-    let Some(count) = counts[number].checked_add(1) else {
+    let Some(count) = pairs.counts[number].checked_add(1) else {
         return Ok(None);
     };
-    let Some(raised) = raised_by(&vectors[number], entries, automaton.depth(node)) else {
+    let Some(raised) = raised_by(&pairs.vectors[number], entries, automaton.depth(node)) else {
         return Ok(None);
     };
-    find_or_add(vectors, counts, slots, &raised, count)
+    pairs.find_or_add(&raised, count)
 }
 
 // Returns the vectors of all nodes, given the nodes by their depths. `None` if an entry is more than 15 bytes before
@@ -194,28 +105,23 @@ pub(super) fn known_of_all<C: Payload>(
 {
     automaton.invariant();
     let mut numbers = vec![in alloc; 0u32; automaton.trie.count()]?;
-    let mut vectors = Vec::new(alloc);
-    let mut counts = Vec::new(alloc);
-    push_both(&mut vectors, [0u8; 16], &mut counts, 0u32)?;
-    // The root's pair needs no slot: the count of a key is not 0.
-    let mut slots = vec![in alloc; FREE; SLOTS]?;
+    let mut pairs = Pairs::new(alloc)?;
+    // The root's pair need not be found again: the count of a key is not 0.
+    pairs.add(&[0; 16], 0)?;
     for node in order {
         let node = *node as usize;
         let link = link_of(automaton, node);
         let number = numbers[link];
-        match number_of(
-            automaton,
-            node,
-            link,
-            number,
-            &mut vectors,
-            &mut counts,
-            &mut slots,
-        )? {
+        match number_of(automaton, node, link, number, &mut pairs)? {
             Some(number) => numbers[node] = number,
             None => return Ok(None),
         }
     }
+    let Pairs {
+        vectors,
+        counts,
+        ..
+    } = pairs;
     Ok(Some(Known {
         numbers,
         vectors,

@@ -1,24 +1,23 @@
-use Rattle.std.proofs.Common.{ℕ, List, [], ◌∷◌, ◌++◌, length, replicate, ap, ◌∙◌, arith}
-use Rattle.std.proofs.lemmas.List.{with_items_is}
+use Rattle.std.proofs.Common.{ℕ, List, [], ◌∷◌, ◌++◌, replicate, ap, ◌∙◌, arith}
 use Rattle.libhyphen_files.proofs.NumberedNodes.{nodes_start, nodes_more}
 use Rattle.libhyphen_files.proofs.vectors.numbered_vectors.Goals as goal
 
 pub loop-node-init : goal.loop-node-init
 loop-node-init c = record {
-  slots = omega (arith, c.in_ok-slots.ensures.len, c.in_ok-slots.slots.ok.0);
-  numbered = nodes_start c.args.patterns.now c.push-3.new.self.items c.push-2.new.self.items
-      (c.in_ok-push-3.ensures.items ∙ ap (λ (ns : List ℕ). ns ++ 0 ∷ []) c.in_ok-numbers.ensures.items)
-      (c.in_ok-push-2.ensures.items ∙ ap (λ (vs : List (List ℕ)). vs ++ replicate 16 255 ∷ [])
-      (c.in_ok-push.ensures.items ∙ ap (λ (vs : List (List ℕ)). vs ++ replicate 16 0 ∷ []) c.new-vectors.ensures.items));
+  pairs = c.add-2.ensures.found;
+  numbered = nodes_start c.args.patterns.now c.push.new.self.items c.add-2.new.self.vectors.items
+      (c.in_ok-push.ensures.items ∙ ap (λ (ns : List ℕ). ns ++ 0 ∷ []) c.in_ok-numbers.ensures.items)
+      (c.in_ok-add-2.ensures.vectors ∙ ap (λ (vs : List (List ℕ)). vs ++ replicate 16 255 ∷ [])
+      (c.in_ok-add.ensures.vectors ∙ ap (λ (vs : List (List ℕ)). vs ++ replicate 16 0 ∷ []) c.in_ok-pairs.ensures.none.0));
 }
 
 pub loop-node-preserved : goal.loop-node-preserved
 loop-node-preserved c =
     let l = c.loop-node in
-    let same = c.number_of.ensures.slots ∙ c.deref_mut.ensures.len in
     let number = c.in_ok-number in
+    let made = c.number_of.ensures in
     record {
-      slots = ap length (with_items_is l.slots c.number_of.new.slots same) ∙ c.number_of.ensures.slots ∙ ap length c.deref_mut.ensures.value ∙ l.invariant.slots;
-      numbered = nodes_more c.args.patterns.now l.numbers.items c.push-in-loop-node.new.self.items l.vectors.items c.number_of.new.vectors.items l.node number.number (omega arith)
-          c.in_ok-push-4.ensures.items number.ensures.kept number.ensures.numbered number.ensures.found l.invariant.numbered;
+      pairs = made.pairs;
+      numbered = nodes_more c.args.patterns.now l.numbers.items c.push-in-loop-node.new.self.items l.pairs.vectors.items c.number_of.new.pairs.vectors.items l.node number.number (omega arith)
+          c.in_ok-push-2.ensures.items made.kept made.numbered number.ensures.found l.invariant.numbered;
     }

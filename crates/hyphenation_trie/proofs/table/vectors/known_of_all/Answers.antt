@@ -1,18 +1,18 @@
-use Rattle.std.proofs.Common.{◌≡◌, ℕ, List, length, slice_index, sym, ap, subst, ◌∙◌, arith}
+use Rattle.std.proofs.Common.{◌≡◌, ℕ, List, length, slice_index, sym, subst, ◌∙◌, arith}
 use Rattle.std.specs.Prelude.{IfSome}
-use Rattle.std.proofs.lemmas.List.{get_or_default, with_items_is}
-use Rattle.hyphenation_trie.specs.Private.Vectors.{ArePairs, IsKnownAt, KeepsPairs}
+use Rattle.std.proofs.lemmas.List.{get_or_default}
+use Rattle.hyphenation_trie.specs.Private.Vectors.{IsKnownAt}
 use Rattle.hyphenation_trie.proofs.KnownNodes.{known_all, known_more, known_start, link_known}
 use Rattle.hyphenation_trie.proofs.table.vectors.known_of_all.Goals as goal
 
 pub loop-node-init : goal.loop-node-init
 loop-node-init g c = record {
-  slots = omega (arith, c.in_ok-slots.ensures.len, c.in_ok-slots.slots.ok.0);
+  pairs = c.add.ensures.found;
   known =
       let tree = c.args.automaton.now in
       let nodes : c.count.result ≡ length tree.texts = subst (λ t. c.count.result ≡ length t.texts) c.automaton.view_is c.count.ensures in
-      known_start g.C.Payload.rank_of tree c.invariant.ensures c.args.order.now c.in_ok-numbers.numbers.items c.new-vectors.result.items c.push_both.new.firsts.items c.count.result c.new-counts.result.items c.push_both.new.seconds.items nodes
-      (c.in_ok-numbers.ensures.items_if_clones_equal (λ y e. e)) c.new-vectors.ensures.items c.in_ok-push_both.ensures.firsts c.new-counts.ensures.items c.in_ok-push_both.ensures.seconds;
+      known_start g.C.Payload.rank_of tree c.invariant.ensures c.args.order.now c.in_ok-numbers.numbers.items c.in_ok-pairs.pairs.vectors.items c.add.new.self.vectors.items c.count.result c.in_ok-pairs.pairs.counts.items c.add.new.self.counts.items nodes
+      (c.in_ok-numbers.ensures.items_if_clones_equal (λ y e. e)) c.in_ok-pairs.ensures.none.0 c.in_ok-add.ensures.vectors c.in_ok-pairs.ensures.none.1 c.in_ok-add.ensures.counts;
 }
 
 pub index-number-requires : goal.index-number-requires
@@ -24,12 +24,12 @@ number_of-requires-clause-known g c =
     let tree = c.args.automaton.now in
     let l = c.loop-node in
     let link : ℕ = c.link_of-link.result in
-    let known = link_known rank tree c.invariant.ensures c.args.order.now c.requires.order l.numbers.items l.vectors.items l.counts.items l.node-index link c.loop-node-test.true c.link_of-link.ensures l.invariant.known in
+    let known = link_known rank tree c.invariant.ensures c.args.order.now c.requires.order l.numbers.items l.pairs.vectors.items l.pairs.counts.items l.node-index link c.loop-node-test.true c.link_of-link.ensures l.invariant.known in
     let read : c.index-number.result.now ≡ slice_index l.numbers.items link = c.index-number.ensures ∙ get_or_default l.numbers.items link c.index-number.result.now 0 (omega (arith, c.link_of-link.ensures.within, l.invariant.known.nodes)) in
-    subst (λ (k : ℕ). IsKnownAt rank tree l.vectors.items l.counts.items k link) (sym read) (record { within = known.within; known = known.known })
+    subst (λ (k : ℕ). IsKnownAt rank tree l.pairs.vectors.items l.pairs.counts.items k link) (sym read) (record { within = known.within; known = known.known })
 
 pub number_of-requires-clause-pairs : goal.number_of-requires-clause-pairs
-number_of-requires-clause-pairs g c = c.loop-node.invariant.known.pairs
+number_of-requires-clause-pairs g c = c.loop-node.invariant.pairs
 
 pub index_mut-requires : goal.index_mut-requires
 index_mut-requires g c =
@@ -41,17 +41,14 @@ loop-node-preserved g c =
     let rank = g.C.Payload.rank_of in
     let tree = c.args.automaton.now in
     let l = c.loop-node in
-    let vectors : List (List ℕ) = c.number_of.new.vectors.items in
-    let counts : List ℕ = c.number_of.new.counts.items in
+    let vectors : List (List ℕ) = c.number_of.new.pairs.vectors.items in
+    let counts : List ℕ = c.number_of.new.pairs.counts.items in
     let node : ℕ = slice_index c.args.order.now l.node-index in
-    let kept : KeepsPairs l.vectors.items l.counts.items vectors counts = subst (λ o. IfSome o (λ number. KeepsPairs l.vectors.items l.counts.items vectors counts)) c.in-Some.is c.in_ok-number.ensures.kept in
-    let pairs : ArePairs vectors counts = subst (λ o. IfSome o (λ number. ArePairs vectors counts)) c.in-Some.is c.in_ok-number.ensures.pairs in
     let known : IsKnownAt rank tree vectors counts c.in-Some.number node = subst (λ o. IfSome o (λ number. IsKnownAt rank tree vectors counts number node)) c.in-Some.is c.in_ok-number.ensures.known in
-    let same = c.number_of.ensures.slots ∙ c.deref_mut.ensures.len in
     record {
-      slots = ap length (with_items_is l.slots c.number_of.new.slots same) ∙ c.number_of.ensures.slots ∙ ap length c.deref_mut.ensures.value ∙ l.invariant.slots;
-      known = known_more rank tree c.invariant.ensures c.args.order.now c.requires.order l.numbers.items l.vectors.items vectors l.counts.items counts l.node-index c.in-Some.number c.loop-node-test.true kept pairs known l.invariant.known;
+      pairs = c.number_of.ensures.pairs;
+      known = known_more rank tree c.invariant.ensures c.args.order.now c.requires.order l.numbers.items l.pairs.vectors.items vectors l.pairs.counts.items counts l.node-index c.in-Some.number c.loop-node-test.true c.number_of.ensures.kept c.number_of.ensures.pairs.are_pairs known l.invariant.known;
     }
 
 pub returns : goal.returns
-returns g c = known_all g.C.Payload.rank_of c.args.automaton.now c.invariant.ensures c.args.order.now c.requires.order c.loop-node.numbers.items c.loop-node.vectors.items c.loop-node.counts.items c.loop-node.node-index c.loop-node-test.false c.loop-node.invariant.known
+returns g c = known_all g.C.Payload.rank_of c.args.automaton.now c.invariant.ensures c.args.order.now c.requires.order c.loop-node.numbers.items c.loop-node.pairs.vectors.items c.loop-node.pairs.counts.items c.loop-node.node-index c.loop-node-test.false c.loop-node.invariant.known

@@ -1,8 +1,8 @@
 use Rattle.std.proofs.Common.{false, cond, ltb, length, get_or, ap, ◌∙◌, arith, w8}
 use lib.Lanes.{zip2, sel_l}
 use Rattle.std.proofs.lemmas.Simd.{tops_compared, length-zip2, length-sel_l, get_or-sel_l, get_or-zip2}
-use Rattle.hyphenation_score.proofs.Lanes.{max_is}
-use Rattle.hyphenation_score.proofs.tabled.greater.Goals as goal
+use Rattle.hyphenation_trie.proofs.RegisterLanes.{max_is}
+use Rattle.hyphenation_trie.proofs.register.greater.Goals as goal
 
 pub returns-clause-each : goal.returns-clause-each
 returns-clause-each c = λ i lt.

@@ -2,7 +2,7 @@ use Rattle.std.proofs.Common.{ℕ, List}
 use Rattle.hyphenation_trie.specs.Private.Known.{AreClasses}
 use Rattle.hyphenation_trie.specs.Steps.{AreRows}
 use Rattle.hyphenation_trie.specs.declared.table.steps.Steps.{Steps}
-use Rattle.hyphenation_trie.proofs.table.steps.make_steps.Goals as goal
+use Rattle.hyphenation_trie.proofs.table.steps.steps_of.Goals as goal
 
 pub returns : goal.returns
 returns g c =
