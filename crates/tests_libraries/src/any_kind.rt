@@ -1,11 +1,11 @@
 //! Dictionaries whose kind is known only from their texts: edited and written, and asked for the places of breaks.
 
+use crate::support::dictionaries::load;
+use crate::support::expect;
 use any_dictionary::AnyDictionary;
 use hyphenation_load::Load;
 use std::alloc::Global;
 use std::test::Fail;
-use test_support::dictionaries::load;
-use test_support::expect;
 
 const STANDARD: &str = "hyphenation 1 standard\nlanguage en-us\nminima 2 3\np y1p\ne other 2\n";
 

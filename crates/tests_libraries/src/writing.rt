@@ -1,5 +1,9 @@
 //! Dictionaries that are written: to writers that fail, after edits, and as `Debug` shows their parts.
 
+use crate::support::dictionaries::{SMALLEST, load};
+use crate::support::io_errors::{BROKEN_PIPE, OUT_OF_MEMORY, has_code};
+use crate::support::writers::failing_at;
+use crate::support::{expect, expect_text};
 use any_dictionary::AnyDictionary;
 use hyphenation_breaks::language::Language;
 use hyphenation_dictionary::dictionary::Standard;
@@ -8,10 +12,6 @@ use hyphenation_load::{Error, Load};
 use pattern_results::notes::NoteKind;
 use std::alloc::Global;
 use std::test::Fail;
-use test_support::dictionaries::{SMALLEST, load};
-use test_support::io_errors::{BROKEN_PIPE, OUT_OF_MEMORY, has_code};
-use test_support::writers::failing_at;
-use test_support::{expect, expect_text};
 
 // Whether writing a dictionary to a writer that fails at this write returns its error, after the bytes before it.
 fn stops_at_write(

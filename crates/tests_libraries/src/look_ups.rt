@@ -1,11 +1,11 @@
 //! The numbers of look-ups and of reports that a score takes by a table.
 
+use crate::support::dictionaries::load;
+use crate::support::expect_equal_in;
 use hyphenation_dictionary::dictionary::Standard;
 use hyphenation_score::{LookUps, Score};
 use std::alloc::Global;
 use std::test::Fail;
-use test_support::dictionaries::load;
-use test_support::expect_equal_in;
 
 // The numbers of look-ups and of reports of scoring a word by the table of the dictionary of a text.
 fn counts_by_table(alloc: Global, text: &str, word: &str) -> Result<(u128, u128), Fail> {

@@ -1,5 +1,7 @@
 //! Each caller of the crate `callers`, called once.
 
+use crate::support::dictionaries::{dictionary, load};
+use crate::support::{expect, expect_text};
 use callers::discretionaries::{Discretionary, discretionaries};
 use callers::line_filler::break_to_fit;
 use callers::marked_word::marked_word;
@@ -11,8 +13,6 @@ use hyphenation::load::Error;
 use hyphenation::{Hyphenator, Standard};
 use std::alloc::{AllocError, Global};
 use std::test::Fail;
-use test_support::dictionaries::{dictionary, load};
-use test_support::{expect, expect_text};
 
 // The breaks of `hyphenation`, in American English.
 const ENGLISH: &str = "hyphenation 1 standard\nlanguage en-us\nminima 2 3\ne hyphenation 2 6 7\n";

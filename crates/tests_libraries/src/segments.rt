@@ -8,6 +8,8 @@ ghost use Rattle.hyphenation_segments.specs.Fits.{Fits};
 ghost use Rattle.hyphenation_segments.specs.Segments.{segments, marked_segments};
 ghost use Rattle.hyphenation_segments.specs.Laws.{with_marks};
 
+use crate::support::dictionaries::extended;
+use crate::support::{CallError, expect, expect_equal};
 use hyphenation_dictionary::dictionary::Extended;
 use hyphenation_hyphenator::hyphenator::Hyphenator;
 use hyphenation_segments::Word;
@@ -16,8 +18,6 @@ use std::alloc::{AllocError, Global};
 use std::iter::Copied;
 use std::slice;
 use std::test::Fail;
-use test_support::dictionaries::extended;
-use test_support::{CallError, expect, expect_equal};
 
 // Callers of the iterators, which are proved with the tests.
 

@@ -1,10 +1,10 @@
 //! Words in small letters, with the way back to the word as it is written.
 
+use crate::support::{expect, expect_equal, expect_equal_in};
 use hyphenation_hyphenator::case_folding::{Shift, realign, refold};
 use std::alloc::{AllocError, Global};
 use std::borrow::CowStr;
 use std::test::Fail;
-use test_support::{expect, expect_equal, expect_equal_in};
 use ucd_age::Age;
 
 // Whether a word folds to a text with these shifts, and is borrowed where this says so.

@@ -1,11 +1,11 @@
 //! Which dictionaries have a table.
 
+use crate::support::dictionaries::load;
+use crate::support::expect_equal_in;
 use any_dictionary::AnyDictionary;
 use hyphenation_dictionary::search::patterns_of;
 use std::alloc::Global;
 use std::test::Fail;
-use test_support::dictionaries::load;
-use test_support::expect_equal_in;
 
 // Each row has its sentence, the text of a dictionary, and whether the dictionary has a table.
 const HAS_TABLE: &[(&str, &str, bool)] = &[

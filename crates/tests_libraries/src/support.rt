@@ -1,5 +1,4 @@
 //! Assertions of tests, readers and writers that fail, and dictionaries that several tests use.
-#![tactic(auto)]
 
 pub mod dictionaries;
 pub mod files;

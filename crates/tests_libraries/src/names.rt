@@ -1,5 +1,7 @@
 //! Names of lower crates that users have in `hyphenation`, each called once by its path there.
 
+use crate::support::dictionaries::{DOUBLED, FIRKIN, dictionary};
+use crate::support::{expect, expect_text};
 use hyphenation::case_folding::{Shift, realign, refold};
 use hyphenation::extended::{Extended, Subregion};
 use hyphenation::grammar::{Kind, apply_edit};
@@ -10,8 +12,6 @@ use hyphenation::score::{LookUps, Score};
 use hyphenation::{Standard, hyphenate_text};
 use std::alloc::{AllocError, Global};
 use std::test::Fail;
-use test_support::dictionaries::{DOUBLED, FIRKIN, dictionary};
-use test_support::{expect, expect_text};
 
 // Whether `İẞab` folds to `ißab`, and the place 3 of that is 5 of the word.
 fn is_folded(alloc: Global) -> bool {

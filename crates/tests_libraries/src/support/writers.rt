@@ -1,6 +1,6 @@
 //! Writers that take one byte a write, and fail once.
 
-use crate::io_errors::io_error;
+use crate::support::io_errors::io_error;
 use std::alloc::Global;
 use std::io;
 use std::io::Write;

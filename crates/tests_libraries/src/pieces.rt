@@ -1,8 +1,8 @@
 //! Texts in pieces between word bounds, as the kit's iterator gives them, and pieces that are passed.
 
+use crate::support::expect;
 use std::alloc::Global;
 use std::test::Fail;
-use test_support::expect;
 use unicode_segmentation::UnicodeSegmentation;
 use word_pieces::WordPieceIndices;
 

@@ -1,5 +1,10 @@
 //! Dictionaries that are loaded: from readers that fail or give few bytes a read, from the result of a read, and from files.
 
+use crate::support::dictionaries::SMALLEST;
+use crate::support::files::new_file;
+use crate::support::io_errors::{CONNECTION_RESET, INTERRUPTED, OUT_OF_MEMORY, has_code, io_error};
+use crate::support::readers::{failing_from, failing_once};
+use crate::support::{expect_equal, expect_equal_in};
 use hyphenation_breaks::language::Language;
 use hyphenation_dictionary::dictionary::{Extended, Standard};
 use hyphenation_load::{Error, Load};
@@ -8,11 +13,6 @@ use std::fs::remove_file;
 use std::io;
 use std::io::Read;
 use std::test::Fail;
-use test_support::dictionaries::SMALLEST;
-use test_support::files::new_file;
-use test_support::io_errors::{CONNECTION_RESET, INTERRUPTED, OUT_OF_MEMORY, has_code, io_error};
-use test_support::readers::{failing_from, failing_once};
-use test_support::{expect_equal, expect_equal_in};
 
 // An extended text of 61 bytes.
 const EXTENDED: &[u8] = b"hyphenation 1 extended\nlanguage hu\nminima 2 2\np a1b 1,1,0,1,x";

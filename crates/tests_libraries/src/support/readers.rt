@@ -2,7 +2,7 @@
 
 ghost use Rattle.std.specs.Prelude.{◌≤◌, length};
 
-use crate::io_errors::io_error;
+use crate::support::io_errors::io_error;
 use std::io;
 use std::io::Read;
 

@@ -1,5 +1,7 @@
 //! Exceptions that callers add and remove, with the lists that they replace, and breaks that fit a word.
 
+use crate::support::dictionaries::{FIRKIN, extended, load};
+use crate::support::{expect, expect_equal, expect_equal_in};
 use hyphenation_dictionary::dictionary::{Extended, Standard};
 use hyphenation_hyphenator::hyphenator::Hyphenator;
 use hyphenation_segments::Word;
@@ -7,8 +9,6 @@ use hyphenation_segments::iter::Iter;
 use std::alloc::{AllocError, Global};
 use std::borrow::CowStr;
 use std::test::Fail;
-use test_support::dictionaries::{FIRKIN, extended, load};
-use test_support::{expect, expect_equal, expect_equal_in};
 
 // Lists a place for `firkins`, or removes the word, and returns the first place of the list that it had.
 fn replaced(

@@ -1,17 +1,17 @@
 //! Runs whose readers or writer fail once: each error is returned as it was, and nothing is written before it is known. An
 //! interrupted read or write is made again.
 
+use crate::support::dictionaries::AMERICAN;
+use crate::support::expect;
+use crate::support::io_errors::{BROKEN_PIPE, CONNECTION_RESET, INTERRUPTED, OUT_OF_MEMORY};
+use crate::support::readers::failing_once;
+use crate::support::writers::failing_at;
 use hyphenation::Language;
 use hyphenation::engine::{Kind, Marking, RunError, run, run_score};
 use hyphenation::load::Error;
 use linefill::run_fill;
 use std::alloc::Global;
 use std::test::Fail;
-use test_support::dictionaries::AMERICAN;
-use test_support::expect;
-use test_support::io_errors::{BROKEN_PIPE, CONNECTION_RESET, INTERRUPTED, OUT_OF_MEMORY};
-use test_support::readers::failing_once;
-use test_support::writers::failing_at;
 
 // The task of a run.
 #[derive(Clone, Copy)]

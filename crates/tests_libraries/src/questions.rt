@@ -1,14 +1,14 @@
 //! Questions to a hyphenator that no program asks: of breaks within bounds, and of exceptions as they are listed.
 
 use crate::questions::Question::{Allowed, Exception, Listed, Opportunities};
+use crate::support::dictionaries::extended;
+use crate::support::expect;
 use hyphenation_breaks::breaks::Break;
 use hyphenation_breaks::extended::Subregion;
 use hyphenation_dictionary::dictionary::Extended;
 use hyphenation_hyphenator::hyphenator::Hyphenator;
 use std::alloc::{AllocError, Global};
 use std::test::Fail;
-use test_support::dictionaries::extended;
-use test_support::expect;
 
 // A question to a dictionary. Bounds are numbers of bytes.
 #[derive(Clone, Copy)]

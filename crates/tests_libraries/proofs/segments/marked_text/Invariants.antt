@@ -2,7 +2,7 @@ use Rattle.std.proofs.Common.{◌≡◌, ◌++◌}
 use Rattle.std.specs.List.{concat}
 use Rattle.std.specs.String.{string_bytes}
 use Rattle.hyphenation_segments.specs.Segments.{marked_segments}
-use Rattle.tests_dictionaries.proofs.segments.marked_text.Given as goal
+use Rattle.tests_libraries.proofs.segments.marked_text.Given as goal
 
 abbrev pub invariant-loop-item : goal.invariant-loop-item
 invariant-loop-item g l =
