@@ -1,4 +1,4 @@
--- What is known of nodes so far, by numbers of pairs of a vector and a count.
+-- The facts that are known of nodes so far, by numbers of pairs of a vector and a count.
 use Rattle.std.specs.Prelude.{◌≡◌, ℕ, ◌<◌, List, [], length, slice_index, slice_index_or}
 use Rattle.hyphenation_breaks.specs.declared.entry.Entry.{Entry}
 use Rattle.hyphenation_trie.specs.Pairs.{ArePairs}
