@@ -1,5 +1,5 @@
 -- The first tag to which the front of a page leads is found in its pieces, in either form.
-use Rattle.std.proofs.Common.{◌≡◌, ℕ, ◌==◌, ◌||◌, ◌&&◌, List, [], ◌∷◌, ◌++◌, refl, ap, sym, ◌∙◌, append_assoc, append-nil, subst, Option, Some, None, Bool, true, false, not, nat_lt, nat_le, if◌then◌else◌, arith, nat_eq, codes, inl, inr, ◌⊎◌, true≢false}
+use Rattle.std.proofs.Common.{◌≡◌, ℕ, ◌==◌, ◌||◌, ◌&&◌, List, [], ◌∷◌, ◌++◌, refl, ap, sym, ◌∙◌, append_assoc, append-nil, subst, Option, Some, None, Bool, true, false, not, nat_lt, nat_le, if◌then◌else◌, eqb-true, arith, nat_eq, codes, inl, inr, ◌⊎◌, true≢false}
 use Rattle.std.specs.Option.{option_map_or, unwrap_or}
 use Rattle.std.proofs.lemmas.Bool.Decides.{nat_tests}
 use Rattle.std.specs.Cmp.Lexicographic.{pointwise}
@@ -149,20 +149,15 @@ value_on b =
 unquoted_on : (b : ℕ) → OnTag (in_unquoted_value b)
 unquoted_on b = on_if (is_white_space b) _ _ (record { on = refl }) (on_if (b == 62) _ _ (record { on = tt }) (record { on = refl }))
 
+go_in : (form : PageForm) (state : State) → InTag state → GoTo form state (Some state)
+go_in form Data i = absurd (cc i)
+go_in form Plaintext i = tt
+go_in form TagEnd i = refl
+go_in form EmptyTagEnd i = refl
+go_in form state i = (cc, cc)
+
 go_tag : (form : PageForm) (state : State) → OnTag state → Go form state (Some state)
-go_tag form TagEnd p = record { to = refl }
-go_tag form EmptyTagEnd p = record { to = refl }
-go_tag form TagName p = record { to = (refl, refl) }
-go_tag form BeforeAttributeName p = record { to = (refl, refl) }
-go_tag form AttributeName p = record { to = (refl, refl) }
-go_tag form AfterAttributeName p = record { to = (refl, refl) }
-go_tag form BeforeAttributeValue p = record { to = (refl, refl) }
-go_tag form DoubleQuotedValue p = record { to = (refl, refl) }
-go_tag form SingleQuotedValue p = record { to = (refl, refl) }
-go_tag form UnquotedValue p = record { to = (refl, refl) }
-go_tag form AfterQuotedValue p = record { to = (refl, refl) }
-go_tag form SelfClosingTag p = record { to = (refl, refl) }
-go_tag form state p = absurd (cc p.on)
+go_tag form state p = record { to = go_in form state p.on }
 
 quoted : (form : PageForm) (c : Bool) (state : State) → OnTag state → Go form (unwrap_or (if c then Some AfterQuotedValue else Some state) state) (if c then Some AfterQuotedValue else Some state)
 quoted form true state p = go_tag form AfterQuotedValue (record { on = refl })
@@ -173,20 +168,26 @@ closing form true state p = go_tag form EmptyTagEnd (record { on = tt })
 closing form false state p = go_tag form state p
 
 -- after "<"
-opened : (form : PageForm) (a p q r e d i : Bool)
-    → Go form (if a then TagName else if e || (a || p || q || r) then Plaintext else if d then MarkupDeclarationOpen else if i then ProcessingInstruction else Plaintext)
+opened : (form : PageForm) (a p q r e d i : Bool) → d ≡ false → i ≡ false
+    → Go form (if a then TagName else if d then MarkupDeclarationOpen else if i then ProcessingInstruction else Plaintext)
     (if (if is_xml form then a || p || q || r else a) then Some TagName else if e then Some EndTagOpen else if d then Some MarkupDeclarationOpen else if i then Some (if is_xml form then ProcessingInstruction else BogusComment) else None)
-opened Html true p q r e d i = record { to = (refl, refl) }
-opened Xml true p q r e d i = record { to = (refl, refl) }
-opened form false p q r true d i = record { to = tt }
-opened form false true q r false d i = record { to = tt }
-opened form false false true r false d i = record { to = tt }
-opened form false false false true false d i = record { to = tt }
-opened Html false false false false false true i = record { to = (refl, refl) }
-opened Xml false false false false false true i = record { to = (refl, refl) }
-opened Html false false false false false false true = record { to = (refl, refl) }
-opened Xml false false false false false false true = record { to = (refl, refl) }
-opened form false false false false false false false = record { to = tt }
+opened form a p q r e true i x y = absurd (cc x)
+opened form a p q r e false true x y = absurd (cc y)
+opened form false p q r e false false x y = record { to = tt }
+opened Html true p q r e false false x y = record { to = (refl, refl) }
+opened Xml true p q r e false false x y = record { to = (refl, refl) }
+
+abbrev Opens : PageForm → List ℕ → ℕ → Type 0
+Opens form front b = Go form (front_after TagOpen b) (next form false TagOpen front b)
+
+open_cases : (form : PageForm) (front : List ℕ) (b : ℕ) (d i : Bool) → b == 33 ≡ d → b == 63 ≡ i → Opens form front b
+unfolding front_after next
+open_cases Html front b true i e f = subst (Opens Html front) (sym (eqb-true b 33 e)) (record { to = (refl, refl) })
+open_cases Xml front b true i e f = subst (Opens Xml front) (sym (eqb-true b 33 e)) (record { to = (refl, refl) })
+open_cases Html front b false true e f = subst (Opens Html front) (sym (eqb-true b 63 f)) (record { to = (refl, refl) })
+open_cases Xml front b false true e f = subst (Opens Xml front) (sym (eqb-true b 63 f)) (record { to = (refl, refl) })
+open_cases Html front b false false e f = opened Html (is_alpha b) (b == 58) (b == 95) (nat_le 195 b) (b == 47) (b == 33) (b == 63) e f
+open_cases Xml front b false false e f = opened Xml (is_alpha b) (b == 58) (b == 95) (nat_le 195 b) (b == 47) (b == 33) (b == 63) e f
 
 -- in a declaration, and in an instruction as HTML has it
 declared : (form : PageForm) (g s x : Bool)
@@ -240,8 +241,7 @@ ended form false false false = record { to = (refl, refl) }
 
 go : (form : PageForm) (state : State) (front : List ℕ) (b : ℕ) → is_within state ≡ true → Go form (front_after state b) (next form false (state_at state form) front b)
 unfolding front_after next
-go Html TagOpen front b w = opened Html (is_alpha b) (b == 58) (b == 95) (nat_le 195 b) (b == 47) (b == 33) (b == 63)
-go Xml TagOpen front b w = opened Xml (is_alpha b) (b == 58) (b == 95) (nat_le 195 b) (b == 47) (b == 33) (b == 63)
+go form TagOpen front b w = open_cases form front b (b == 33) (b == 63) refl refl
 go form MarkupDeclarationOpen front b w = go_if (b == 45) _ _ _ _ (record { to = (refl, refl) }) (go_if (b == 62) _ _ _ _ at_data (record { to = (refl, refl) }))
 go form MarkupDeclarationDash front b w = go_if (b == 45) _ _ _ _ (record { to = (refl, refl) }) (go_if (b == 62) _ _ _ _ at_data (record { to = (refl, refl) }))
 go form BogusComment front b w = declared form (b == 62) (b == 91) (pointwise nat_eq front (codes "<![CDATA"))
@@ -284,30 +284,11 @@ Meets form front state =
     ⊎ (((front ≡ at_front) × (is_between state ≡ true)) ⊎ ((is_within front.state ≡ true) × (state ≡ state_at front.state form)))
 
 within_not_data : (state : State) (form : PageForm) → is_within state ≡ true → (is_data state ≡ false) × (is_data (state_at state form) ≡ false) × (is_past_front state ≡ false) × (is_tag_end state ≡ false)
-within_not_data TagOpen form w = (refl, refl, refl, refl)
-within_not_data MarkupDeclarationOpen form w = (refl, refl, refl, refl)
-within_not_data MarkupDeclarationDash form w = (refl, refl, refl, refl)
-within_not_data BogusComment form w = (refl, refl, refl, refl)
 within_not_data ProcessingInstruction Html w = (refl, refl, refl, refl)
 within_not_data ProcessingInstruction Xml w = (refl, refl, refl, refl)
 within_not_data ProcessingInstructionMark Html w = (refl, refl, refl, refl)
 within_not_data ProcessingInstructionMark Xml w = (refl, refl, refl, refl)
-within_not_data CommentStart form w = (refl, refl, refl, refl)
-within_not_data CommentStartDash form w = (refl, refl, refl, refl)
-within_not_data Comment form w = (refl, refl, refl, refl)
-within_not_data CommentEndDash form w = (refl, refl, refl, refl)
-within_not_data CommentEnd form w = (refl, refl, refl, refl)
-within_not_data TagName form w = (refl, refl, refl, refl)
-within_not_data BeforeAttributeName form w = (refl, refl, refl, refl)
-within_not_data AttributeName form w = (refl, refl, refl, refl)
-within_not_data AfterAttributeName form w = (refl, refl, refl, refl)
-within_not_data BeforeAttributeValue form w = (refl, refl, refl, refl)
-within_not_data DoubleQuotedValue form w = (refl, refl, refl, refl)
-within_not_data SingleQuotedValue form w = (refl, refl, refl, refl)
-within_not_data UnquotedValue form w = (refl, refl, refl, refl)
-within_not_data AfterQuotedValue form w = (refl, refl, refl, refl)
-within_not_data SelfClosingTag form w = (refl, refl, refl, refl)
-within_not_data state form w = absurd (cc w)
+within_not_data state form w = (cc, cc, cc, cc)
 
 -- the front with a byte more, where it is within a piece
 pub with_more : (front : Front) (b : ℕ) → is_past_front front.state ≡ false

@@ -1,10 +1,10 @@
 -- The form of a page: HTML, or XML as in XHTML and e-books. It is told by the front of the page alone.
 -- Source: Extensible Markup Language 1.0, 2.8 (the XML declaration); HTML Living Standard, 14.2 (XML documents have the
 -- namespace of XHTML on their root).
-use Rattle.std.specs.Prelude.{ℕ, ◌==◌, ◌||◌, ◌&&◌, ◌++◌, Bool, true, false, List, [], ◌∷◌, drop, slice_index, nat_eq, codes, if◌then◌else◌}
+use Rattle.std.specs.Prelude.{ℕ, ◌==◌, ◌&&◌, ◌++◌, Bool, true, false, List, [], ◌∷◌, drop, slice_index, nat_eq, codes, if◌then◌else◌}
 use Rattle.std.specs.Option.{is_some, unwrap_or}
 use Rattle.std.specs.List.{starts_with}
-use Rattle.html_pieces.specs.Bytes.{is_white_space, is_alpha, is_continuation, is_name_start}
+use Rattle.html_pieces.specs.Bytes.{is_white_space, is_alpha, is_continuation}
 use Rattle.html_pieces.specs.Pieces.{next}
 use Rattle.html_pieces.specs.Tags.{attributes_of, value_of}
 use Rattle.html_pieces.specs.declared.bytes.PageForm.{PageForm}
@@ -58,10 +58,8 @@ is_past_front state = is_tag_end state
 -- in XML. At anything else the front is past, without a tag: `Plaintext`. The tag after it is read as in all pages.
 unfoldable pub front_after : State → ℕ → State
 front_after Data b = if b == 60 then TagOpen else Data
--- No end tag, nor a name that begins one in XML alone.
 front_after TagOpen b =
     if is_alpha b then TagName
-    else if b == 47 || is_name_start Xml b then Plaintext
     else if b == 33 then MarkupDeclarationOpen
     else if b == 63 then ProcessingInstruction
     else Plaintext

@@ -7,8 +7,13 @@ ghost use Rattle.html_pieces.specs.Forms.{is_data, is_tag_end, is_past_front, fr
 ghost use Rattle.html_pieces.specs.declared.tokenizer.State.TheVariants.{TagOpen, CommentEnd};
 ghost use Rattle.html_pieces.specs.Forms.{root_tag, has_namespace, form_of};
 
-use crate::bytes::{PageForm, is_alpha, is_continuation, is_name_start, is_white_space};
+use crate::bytes::{PageForm, is_alpha, is_continuation, is_white_space};
 use crate::tags::{attributes, value_of};
+use crate::tokenizer::State::{
+    BogusComment, Comment, CommentEnd, CommentEndDash, CommentStart, CommentStartDash, Data,
+    EmptyTagEnd, MarkupDeclarationDash, MarkupDeclarationOpen, Plaintext, ProcessingInstruction,
+    ProcessingInstructionMark, TagEnd, TagName, TagOpen,
+};
 use crate::tokenizer::{Piece, PieceKind, State, next, pieces};
 use std::alloc::{AllocError, Global};
 
@@ -59,13 +64,13 @@ pub(crate) const fn is_start(kind: PieceKind) -> bool
 const fn is_data(state: State) -> bool
     ensures { result ≡ is_data state }
 {
-    matches!(state, State::Data)
+    matches!(state, Data)
 }
 
 const fn is_tag_end(state: State) -> bool
     ensures { result ≡ is_tag_end state }
 {
-    matches!(state, State::TagEnd | State::EmptyTagEnd)
+    matches!(state, TagEnd | EmptyTagEnd)
 }
 
 // Reports whether the first tag has ended, or something came that belongs to no front.
@@ -75,7 +80,7 @@ const fn is_past_front(state: State) -> bool
     matches!(state, State::TagEnd | State::EmptyTagEnd | State::Plaintext)
 }
 
-// The state after a byte and that after another one, or else a third.
+// One state after a byte, another one after a second byte, and a third after all others.
 const fn by_byte(
     byte: u8,
     first: u8,
@@ -101,17 +106,15 @@ fn after_tag_open(byte: u8) -> State
     ensures { result ≡ front_after TagOpen byte }
 {
     if is_alpha(byte) {
-        State::TagName
-    } else if byte == b'/' || is_name_start(PageForm::Xml, byte) {
-        State::Plaintext
+        TagName
     } else {
         by_byte(
             byte,
             b'!',
-            State::MarkupDeclarationOpen,
+            MarkupDeclarationOpen,
             b'?',
-            State::ProcessingInstruction,
-            State::Plaintext,
+            ProcessingInstruction,
+            Plaintext,
         )
     }
 }
@@ -122,16 +125,9 @@ fn after_dashes(byte: u8) -> State
     ensures { result ≡ front_after CommentEnd byte }
 {
     if byte == b'>' {
-        State::Data
+        Data
     } else {
-        by_byte(
-            byte,
-            b'!',
-            State::Plaintext,
-            b'-',
-            State::CommentEnd,
-            State::Comment,
-        )
+        by_byte(byte, b'!', Plaintext, b'-', CommentEnd, Comment)
     }
 }
 
@@ -141,79 +137,43 @@ fn front_after(state: State, byte: u8) -> State
     ensures { result ≡ front_after state byte }
 {
     match state {
-        State::Data => if byte == b'<' {
-            State::TagOpen
-        } else {
-            State::Data
-        },
-        State::TagOpen => after_tag_open(byte),
-        State::MarkupDeclarationOpen => by_byte(
+        Data => if byte == b'<' { TagOpen } else { Data },
+        TagOpen => after_tag_open(byte),
+        MarkupDeclarationOpen => by_byte(
             byte,
             b'-',
-            State::MarkupDeclarationDash,
+            MarkupDeclarationDash,
             b'>',
-            State::Data,
-            State::BogusComment,
+            Data,
+            BogusComment,
         ),
-        State::MarkupDeclarationDash => by_byte(
-            byte,
-            b'-',
-            State::CommentStart,
-            b'>',
-            State::Data,
-            State::BogusComment,
-        ),
-        State::BogusComment => by_byte(
+        MarkupDeclarationDash => by_byte(byte, b'-', CommentStart, b'>', Data, BogusComment),
+        BogusComment => by_byte(byte, b'>', Data, b'[', Plaintext, BogusComment),
+        ProcessingInstruction => by_byte(
             byte,
             b'>',
-            State::Data,
-            b'[',
-            State::Plaintext,
-            State::BogusComment,
-        ),
-        State::ProcessingInstruction => by_byte(
-            byte,
-            b'>',
-            State::Plaintext,
+            Plaintext,
             b'?',
-            State::ProcessingInstructionMark,
-            State::ProcessingInstruction,
+            ProcessingInstructionMark,
+            ProcessingInstruction,
         ),
-        State::ProcessingInstructionMark => by_byte(
+        ProcessingInstructionMark => by_byte(
             byte,
             b'>',
-            State::Data,
+            Data,
             b'?',
-            State::ProcessingInstructionMark,
-            State::ProcessingInstruction,
+            ProcessingInstructionMark,
+            ProcessingInstruction,
         ),
-        State::CommentStart => by_byte(
-            byte,
-            b'-',
-            State::CommentStartDash,
-            b'>',
-            State::Plaintext,
-            State::Comment,
-        ),
-        State::CommentStartDash => by_byte(
-            byte,
-            b'-',
-            State::CommentEnd,
-            b'>',
-            State::Plaintext,
-            State::Comment,
-        ),
-        State::Comment => if byte == b'-' {
-            State::CommentEndDash
+        CommentStart => by_byte(byte, b'-', CommentStartDash, b'>', Plaintext, Comment),
+        CommentStartDash => by_byte(byte, b'-', CommentEnd, b'>', Plaintext, Comment),
+        Comment => if byte == b'-' {
+            CommentEndDash
         } else {
-            State::Comment
+            Comment
         },
-        State::CommentEndDash => if byte == b'-' {
-            State::CommentEnd
-        } else {
-            State::Comment
-        },
-        State::CommentEnd => after_dashes(byte),
+        CommentEndDash => if byte == b'-' { CommentEnd } else { Comment },
+        CommentEnd => after_dashes(byte),
         _ => next(PageForm::Xml, false, state, &[], byte).unwrap_or(state),
     }
 }
@@ -233,7 +193,7 @@ fn front_state(state: State, byte: u8) -> State
 fn root_tag(page: &[u8]) -> &[u8]
     ensures { result.now ≡ root_tag page.now }
 {
-    let mut state = State::Data;
+    let mut state = Data;
     let mut start = 0;
     for i in 0..page.len() {
         state = front_state(state, page[i]);
