@@ -6,7 +6,8 @@ use Rattle.std.specs.List.{starts_with}
 use Rattle.html_pieces.specs.declared.bytes.PageForm.{PageForm}
 use Rattle.html_pieces.specs.declared.bytes.PageForm.TheVariants.{Html, Xml}
 use Rattle.html_pieces.specs.declared.tokenizer.State.TheVariants.{TagOpen, MarkupEnd, BogusComment, CdataSection, DoctypeSubset, ProcessingInstruction, ProcessingInstructionMark}
-use Rattle.html_pieces.specs.declared.tokenizer.PieceKind.TheVariants.{Text, Other}
+use Rattle.html_pieces.specs.declared.tokenizer.PieceKind.{PieceKind}
+use Rattle.html_pieces.specs.declared.tokenizer.PieceKind.TheVariants.{Text}
 use Rattle.std.specs.Cmp.Lexicographic.{pointwise}
 use Rattle.html_pieces.specs.Bytes.{is_white_space, is_continuation}
 use Rattle.html_pieces.specs.Forms.{begins_with_order_mark, begins_with_declaration, has_declaration}
@@ -14,7 +15,7 @@ use Rattle.html_pieces.specs.Pieces.{Piece, pieces_from, pieces_of, next, begin,
 use Rattle.html_pieces.specs.Laws.{joined_pieces, IsOtherText, IsAlike, HaveOtherTexts, KeepsOrderMark}
 use Rattle.html_pieces.proofs.NamesEqual.{and_left}
 use Rattle.html_pieces.proofs.PieceSteps.{pieces_on}
-use Rattle.html_pieces.proofs.RootTags.{FirstOther, first_other}
+use Rattle.html_pieces.proofs.Fronts.{is_text, FirstMarkup, first_markup}
 
 -- ---- declarations
 
@@ -39,7 +40,7 @@ shape bytes e =
 -- the first piece begins with a declaration
 abbrev pub DeclaresFirst : List Piece → Type 0
 DeclaresFirst [] = ⊥
-DeclaresFirst (p ∷ ps) = (p.kind ≡ Other) × (begins_with_declaration p.bytes ≡ true)
+DeclaresFirst (p ∷ ps) = (is_text p.kind ≡ false) × (begins_with_declaration p.bytes ≡ true)
 
 -- so it does, or so does the second one after a byte order mark
 pub record DeclaresSecond (p : Piece) (ps : List Piece) : Type 0 where
@@ -55,8 +56,8 @@ as_first : (ps : List Piece) → DeclaresFirst ps → Declares ps
 as_first [] d = d
 as_first (p ∷ ps) d = inl d
 
-declares_first : (w : ℕ) (ps : List Piece) → is_white_space w ≡ true → FirstOther (declaration w []) ps → DeclaresFirst ps
-declares_first w ps white f = subst DeclaresFirst (sym f.is) (refl, white)
+declares_first : (w : ℕ) (ps : List Piece) → is_white_space w ≡ true → FirstMarkup (declaration w []) ps → DeclaresFirst ps
+declares_first w ps white f = subst DeclaresFirst (sym f.is) (f.kind_is, white)
 
 not_end : (w : ℕ) → is_white_space w ≡ true → w == 62 ≡ false
 not_end w e = grind (arith, nat_tests)
@@ -85,11 +86,11 @@ unfolding next
 declared_first Html w more white =
     let front = 60 ∷ 63 ∷ 120 ∷ 109 ∷ 108 ∷ [] in
     let on = html_stays (is_continuation w) (w == 62) (w == 91) (pointwise nat_eq front (codes "<![CDATA")) (not_end w white) (not_bracket w white) in
-    subst DeclaresFirst (sym (pieces_on Html 0 BogusComment BogusComment front w more on)) (declares_first w _ white (first_other Html BogusComment (declaration w []) more refl))
+    subst DeclaresFirst (sym (pieces_on Html 0 BogusComment BogusComment front w more on)) (declares_first w _ white (first_markup Html 0 BogusComment (declaration w []) more refl))
 declared_first Xml w more white =
     let front = 60 ∷ 63 ∷ 120 ∷ 109 ∷ 108 ∷ [] in
     let on = xml_stays (is_continuation w) (w == 63) (not_question w white) in
-    subst DeclaresFirst (sym (pieces_on Xml 0 ProcessingInstruction ProcessingInstruction front w more on)) (declares_first w _ white (first_other Xml ProcessingInstruction (declaration w []) more refl))
+    subst DeclaresFirst (sym (pieces_on Xml 0 ProcessingInstruction ProcessingInstruction front w more on)) (declares_first w _ white (first_markup Xml 0 ProcessingInstruction (declaration w []) more refl))
 
 declares_plain : (form : PageForm) (w : ℕ) (more : List ℕ) → is_white_space w ≡ true → Declares (pieces_of form (declaration w more))
 unfolding begin
@@ -133,20 +134,24 @@ declares_joined (p ∷ (q ∷ qs)) (inr d) = ap (λ xs. has_declaration (xs ++ (
 
 -- ---- other texts
 
-other_stays : (p other : Piece) → IsAlike p other → p.kind ≡ Other → other.bytes ≡ p.bytes
-other_stays p other a e = subst (λ k. IsOtherText k p.bytes other.bytes) e a.bytes
+kind_stays : (kind : PieceKind) (bytes other : List ℕ) → IsOtherText kind bytes other → is_text kind ≡ false → other ≡ bytes
+kind_stays Text bytes other u e = absurd (cc e)
+kind_stays kind bytes other u e = u
+
+other_stays : (p other : Piece) → IsAlike p other → is_text p.kind ≡ false → other.bytes ≡ p.bytes
+other_stays p other a e = kind_stays p.kind p.bytes other.bytes a.bytes e
 
 first_on : (ps others : List Piece) → HaveOtherTexts ps others → DeclaresFirst ps → DeclaresFirst others
 first_on [] others m d = absurd d
 first_on (p ∷ ps) [] m d = absurd m
-first_on (p ∷ ps) (q ∷ qs) m d = (m.0.kind ∙ d.0, ap begins_with_declaration (other_stays p q m.0 d.0) ∙ d.1)
+first_on (p ∷ ps) (q ∷ qs) m d = (ap is_text m.0.kind ∙ d.0, ap begins_with_declaration (other_stays p q m.0 d.0) ∙ d.1)
 
 first_back : (ps others : List Piece) → HaveOtherTexts ps others → DeclaresFirst others → DeclaresFirst ps
 first_back [] [] m d = d
 first_back [] (q ∷ qs) m d = absurd m
 first_back (p ∷ ps) [] m d = absurd m
 first_back (p ∷ ps) (q ∷ qs) m d =
-    let kind : p.kind ≡ Other = sym m.0.kind ∙ d.0 in
+    let kind : is_text p.kind ≡ false = sym (ap is_text m.0.kind) ∙ d.0 in
     (kind, sym (ap begins_with_declaration (other_stays p q m.0 kind)) ∙ d.1)
 
 pub declares_on : (ps others : List Piece) → HaveOtherTexts ps others → KeepsOrderMark ps others → Declares ps → Declares others

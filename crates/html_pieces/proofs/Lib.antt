@@ -6,7 +6,8 @@ pub mod AttributeSteps
 pub mod WholePages
 pub mod Limits
 pub mod OtherTexts
-pub mod RootTags
+pub mod Fronts
+pub mod FrontSteps
 pub mod Declarations
 pub mod SameForm
 pub mod QuietBytes

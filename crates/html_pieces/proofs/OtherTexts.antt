@@ -14,17 +14,14 @@ use Rattle.html_pieces.specs.declared.tokenizer.RawElement.TheVariants.{Script}
 use Rattle.std.specs.List.{ends_with}
 use Rattle.std.specs.Cmp.Lexicographic.{pointwise}
 use Rattle.html_pieces.specs.Pieces.{Piece, piece, pieces_from, pieces_of, state_after, next, in_tag, in_attribute, before_value, in_unquoted_value, ends_tag, is_script, in_raw, in_escaped, in_double_escaped, begin, content_after, depth_after, kind_of}
+use Rattle.html_pieces.specs.Forms.{is_data}
 use Rattle.html_pieces.specs.Laws.{joined_pieces, ends_text, IsPlain, begins_alike, IsOtherText, IsAlike, HaveOtherTexts}
 use Rattle.html_pieces.proofs.PieceSteps.{after_piece, pieces_on, pieces_anew}
 
 -- ---- states
 
-abbrev is_data : State → Bool
-is_data Data = true
-is_data _ = false
-
 -- the states in which a piece may end before a byte
-abbrev may_end : State → Bool
+abbrev pub may_end : State → Bool
 may_end CharacterReference = true
 may_end ReferenceName = true
 may_end ReferenceEnd = true
@@ -38,15 +35,15 @@ may_end ScriptDoubleEscaped = true
 may_end _ = false
 
 -- from a state that is not that of text: it ends, if it may, or leads to another such state
-record NotData (state : State) : Type 0 where
-  is : is_data state ≡ false
+pub record NotData (state : State) : Type 0 where
+  pub is : is_data state ≡ false
 
-abbrev LeadsTo : State → Option State → Type 0
+abbrev pub LeadsTo : State → Option State → Type 0
 LeadsTo state None = may_end state ≡ true
 LeadsTo state (Some after) = NotData after
 
-record Leads (state : State) (after : Option State) : Type 0 where
-  is : LeadsTo state after
+pub record Leads (state : State) (after : Option State) : Type 0 where
+  pub is : LeadsTo state after
 
 leads_if : {state : State} (c : Bool) (x y : Option State) → Leads state x → Leads state y → Leads state (if c then x else y)
 leads_if true x y p q = p
@@ -141,7 +138,7 @@ next_leads form foreign TagEnd front b h = record { is = refl }
 next_leads form foreign EmptyTagEnd front b h = record { is = refl }
 next_leads form foreign MarkupEnd front b h = record { is = refl }
 
-after_leads : (form : PageForm) (foreign : Bool) (state : State) (front : List ℕ) (b : ℕ) → is_data state ≡ false → Leads state (state_after form foreign state front b)
+pub after_leads : (form : PageForm) (foreign : Bool) (state : State) (front : List ℕ) (b : ℕ) → is_data state ≡ false → Leads state (state_after form foreign state front b)
 after_leads form foreign state front b h =
     leads_if (is_continuation b) (Some state) (next form foreign state front b) (leads_on (record { is = h })) (next_leads form foreign state front b h)
 
@@ -184,7 +181,7 @@ markup_begins : (b : ℕ) → ends_text b ≡ true → is_data (begin Data b) �
 unfolding begin
 markup_begins b e = markup_in_data (b == 60) (b == 38) e
 
-begins_data : (b : ℕ) → ends_text b ≡ false → begin Data b ≡ Data
+pub begins_data : (b : ℕ) → ends_text b ≡ false → begin Data b ≡ Data
 unfolding begin
 begins_data b e = data_in_data (b == 60) (b == 38) e
 

@@ -1,8 +1,11 @@
 -- Elements grouped by what they end where their end tags are left out. In HTML an element may end where another one begins.
 -- Source: HTML Living Standard, 13.1.2 (void elements), 13.1.2.4 (optional tags), 13.2.4.2 (scopes of open elements); 13.2.6.4.4
 -- and 13.2.6.4.7 to 16 (the start tags that close open elements).
-use Rattle.std.specs.Prelude.{ℕ, Bool, true, false, not, List, [], ◌∷◌, codes, if◌then◌else◌}
+use Rattle.std.specs.Prelude.{ℕ, ◌||◌, Bool, true, false, not, List, [], ◌∷◌, codes, if◌then◌else◌}
+use Rattle.std.specs.List.{list_any}
 use Rattle.html_pieces.specs.Bytes.{is_same_name, is_one_of}
+use Rattle.html_pieces.specs.contracts.groups.ElementGroupPartialEq.TheImpl.{ghosts}
+use Rattle.html_pieces.specs.declared.groups.TheConstants.{VOID_GROUPS, TABLE_PARTS, ENDS_OF_PARAGRAPHS, ENDS_OF_CHOICES, ENDS_OF_CHOICE_GROUPS, ENDS_OF_ROWS, ENDS_OF_ROW_GROUPS, ENDS_OF_COLUMNS, PARTS_OF_HEADS, ITEMS, PASSED_BY_ITEMS, BOUNDARIES, NO_SPECIAL_GROUPS, SCOPES, TABLE_SCOPES}
 use Rattle.html_pieces.specs.declared.groups.ElementGroup.{ElementGroup}
 use Rattle.html_pieces.specs.declared.groups.ElementGroup.TheVariants.{Ordinary, Formatting, Paragraph, Division, Heading, Listing, Block, Rule, Item, Term, Choice, Choices, Ruby, Cell, Row, Rows, Caption, Columns, Column, Table, Scope, Root, Head, HeadContent, HeadVoid, Template, Void}
 
@@ -80,206 +83,65 @@ group_of name =
     else if is_one_of formatting_names name then Formatting
     else Ordinary
 
+-- Two groups are the same.
+abbrev pub is_same_group : ElementGroup → ElementGroup → Bool
+is_same_group a b = ghosts.eq a b
+
+-- A group is one of some.
+abbrev pub is_in : List ElementGroup → ElementGroup → Bool
+is_in groups group = list_any (λ other. is_same_group other group) groups
+
 -- Elements without content.
 abbrev pub is_void : ElementGroup → Bool
-is_void Rule = true
-is_void Column = true
-is_void HeadVoid = true
-is_void Void = true
-is_void _ = false
-
--- They end a paragraph.
-abbrev pub ends_paragraph : ElementGroup → Bool
-ends_paragraph Paragraph = true
-ends_paragraph Division = true
-ends_paragraph Heading = true
-ends_paragraph Listing = true
-ends_paragraph Block = true
-ends_paragraph Rule = true
-ends_paragraph Item = true
-ends_paragraph Term = true
-ends_paragraph Table = true
-ends_paragraph _ = false
-
--- They are in a head.
-abbrev pub is_in_head : ElementGroup → Bool
-is_in_head HeadContent = true
-is_in_head HeadVoid = true
-is_in_head Template = true
-is_in_head _ = false
+is_void group = is_in VOID_GROUPS group
 
 -- They are parts of a table that are in a row group, or hold rows or columns: each ends a caption.
 abbrev pub is_table_part : ElementGroup → Bool
-is_table_part Cell = true
-is_table_part Row = true
-is_table_part Rows = true
-is_table_part Caption = true
-is_table_part Columns = true
-is_table_part Column = true
-is_table_part _ = false
-
--- They are no cells, and so end a row.
-abbrev pub ends_row : ElementGroup → Bool
-ends_row Row = true
-ends_row Rows = true
-ends_row Caption = true
-ends_row Columns = true
-ends_row Column = true
-ends_row _ = false
-
--- They are neither cells nor rows, and so end a row group.
-abbrev pub ends_rows : ElementGroup → Bool
-ends_rows Rows = true
-ends_rows Caption = true
-ends_rows Columns = true
-ends_rows Column = true
-ends_rows _ = false
-
--- They end a group of columns: all parts of a table but its columns.
-abbrev pub ends_columns : ElementGroup → Bool
-ends_columns Cell = true
-ends_columns Row = true
-ends_columns Rows = true
-ends_columns Caption = true
-ends_columns Columns = true
-ends_columns _ = false
-
--- It is an item of a list.
-abbrev pub is_item : ElementGroup → Bool
-is_item Item = true
-is_item _ = false
-
--- It is a term, or what is said of one.
-abbrev pub is_term : ElementGroup → Bool
-is_term Term = true
-is_term _ = false
-
--- They end an option.
-abbrev pub ends_choice : ElementGroup → Bool
-ends_choice Choice = true
-ends_choice Choices = true
-ends_choice Rule = true
-ends_choice _ = false
-
--- They end a group of options.
-abbrev pub ends_choices : ElementGroup → Bool
-ends_choices Choices = true
-ends_choices Rule = true
-ends_choices _ = false
-
--- It is a reading, or a parenthesis around one.
-abbrev pub is_ruby : ElementGroup → Bool
-is_ruby Ruby = true
-is_ruby _ = false
+is_table_part group = is_in TABLE_PARTS group
 
 -- An element of the first group that begins ends an open one of the second: the end tag of that one may be left out.
 unfoldable pub ends : ElementGroup → ElementGroup → Bool
-ends new Paragraph = ends_paragraph new
-ends new Item = is_item new
-ends new Term = is_term new
-ends new Choice = ends_choice new
-ends new Choices = ends_choices new
-ends new Ruby = is_ruby new
+ends new Paragraph = is_in ENDS_OF_PARAGRAPHS new
+ends new Item = is_same_group new Item
+ends new Term = is_same_group new Term
+ends new Choice = is_in ENDS_OF_CHOICES new
+ends new Choices = is_in ENDS_OF_CHOICE_GROUPS new
+ends new Ruby = is_same_group new Ruby
 ends new Cell = is_table_part new
-ends new Row = ends_row new
-ends new Rows = ends_rows new
+ends new Row = is_in ENDS_OF_ROWS new
+ends new Rows = is_in ENDS_OF_ROW_GROUPS new
 ends new Caption = is_table_part new
-ends new Columns = ends_columns new
-ends new Head = not (is_in_head new)
+ends new Columns = is_in ENDS_OF_COLUMNS new
+ends new Head = not (is_in PARTS_OF_HEADS new)
 ends new _ = false
-
--- Tables and their parts, and the elements that hold a scope of their own.
-abbrev pub is_boundary : ElementGroup → Bool
-is_boundary Table = true
-is_boundary Cell = true
-is_boundary Row = true
-is_boundary Rows = true
-is_boundary Caption = true
-is_boundary Columns = true
-is_boundary Scope = true
-is_boundary Root = true
-is_boundary Template = true
-is_boundary _ = false
-
--- The search for an item of a list goes on past them.
-abbrev pub is_passed_by_items : ElementGroup → Bool
-is_passed_by_items Ordinary = true
-is_passed_by_items Formatting = true
-is_passed_by_items Division = true
-is_passed_by_items Choice = true
-is_passed_by_items Choices = true
-is_passed_by_items Ruby = true
-is_passed_by_items _ = false
 
 -- How far an element of the first group that begins looks for those that it ends. It does not look past an open one of the
 -- second. Items and terms do not look past an item's contents, and paragraphs and parts of tables not past a boundary. All
 -- others look only at the innermost elements.
 unfoldable pub stops : ElementGroup → ElementGroup → Bool
-stops Item other = not (is_passed_by_items other)
-stops Term other = not (is_passed_by_items other)
-stops Paragraph other = is_boundary other
-stops Division other = is_boundary other
-stops Heading other = is_boundary other
-stops Listing other = is_boundary other
-stops Block other = is_boundary other
-stops Rule other = is_boundary other
-stops Table other = is_boundary other
-stops Cell other = is_boundary other
-stops Row other = is_boundary other
-stops Rows other = is_boundary other
-stops Caption other = is_boundary other
-stops Columns other = is_boundary other
-stops Column other = is_boundary other
-stops _ other = true
-
--- It is a table or a part of one.
-abbrev pub is_table : ElementGroup → Bool
-is_table Table = true
-is_table g = is_table_part g
-
--- Where the scope of tables ends.
-abbrev pub ends_table_scope : ElementGroup → Bool
-ends_table_scope Table = true
-ends_table_scope Root = true
-ends_table_scope Template = true
-ends_table_scope _ = false
-
--- Where the scope of other elements ends.
-abbrev pub ends_scope : ElementGroup → Bool
-ends_scope Table = true
-ends_scope Cell = true
-ends_scope Caption = true
-ends_scope Scope = true
-ends_scope Root = true
-ends_scope Template = true
-ends_scope _ = false
-
--- Where the scope of an item of a list ends too.
-abbrev pub ends_item_scope : ElementGroup → Bool
-ends_item_scope Listing = true
-ends_item_scope other = ends_scope other
+stops new other =
+    if is_in ITEMS new then not (is_in PASSED_BY_ITEMS other)
+    else if is_in ENDS_OF_PARAGRAPHS new || is_table_part new then is_in BOUNDARIES other
+    else true
 
 -- The special elements: no end tag of an ordinary element closes one.
 abbrev pub is_special : ElementGroup → Bool
-is_special Ordinary = false
-is_special Formatting = false
-is_special Ruby = false
-is_special Choice = false
-is_special Choices = false
-is_special _ = true
+is_special group = not (is_in NO_SPECIAL_GROUPS group)
+
+-- Where the scope of other elements ends than tables.
+abbrev pub ends_scope : ElementGroup → Bool
+ends_scope group = is_in SCOPES group
 
 -- How far an end tag of the first group looks for its element: not past an open one of the second.
 unfoldable pub bounds : ElementGroup → ElementGroup → Bool
 bounds Ordinary other = is_special other
-bounds Item other = ends_item_scope other
-bounds tag other = if is_table tag then ends_table_scope other else ends_scope other
+bounds Item other = is_same_group other Listing || ends_scope other
+bounds tag other = if is_same_group tag Table || is_table_part tag then is_in TABLE_SCOPES other else ends_scope other
 
 -- It is a heading.
 abbrev pub is_heading : ElementGroup → Bool
-is_heading Heading = true
-is_heading _ = false
+is_heading group = is_same_group group Heading
 
 -- The end tags of "body" and "html" close nothing: what is after them belongs to the body.
 abbrev pub is_root : ElementGroup → Bool
-is_root Root = true
-is_root _ = false
+is_root group = is_same_group group Root

@@ -1,12 +1,9 @@
 -- Statements that are true of all pages.
-use Rattle.std.specs.Prelude.{◌≡◌, ℕ, ◌==◌, ◌||◌, ◌&&◌, Bool, true, false, List, [], ◌∷◌, map, IsUtf8}
+use Rattle.std.specs.Prelude.{◌≡◌, ℕ, ◌==◌, ◌||◌, Bool, true, false, List, [], ◌∷◌, map, IsUtf8}
 use Rattle.std.specs.List.{concat}
 use Rattle.html_pieces.specs.declared.bytes.PageForm.{PageForm}
-use Rattle.html_pieces.specs.declared.bytes.PageForm.TheVariants.{Xml}
-use Rattle.html_pieces.specs.Elements.{Element, page_element}
-use Rattle.html_pieces.specs.Forms.{begins_with_order_mark, is_start, form_of}
+use Rattle.html_pieces.specs.Forms.{begins_with_order_mark, form_of}
 use Rattle.html_pieces.specs.Pieces.{Piece, pieces_of}
-use Rattle.html_pieces.specs.Readings.{is_xml_alike}
 use Rattle.html_pieces.specs.declared.tokenizer.PieceKind.{PieceKind}
 use Rattle.html_pieces.specs.declared.tokenizer.PieceKind.TheVariants.{Text}
 
@@ -56,25 +53,17 @@ abbrev pub AreCutAlike : Type 0
 AreCutAlike = (form : PageForm) (page : List ℕ) (others : List Piece) → HaveOtherTexts (pieces_of form page) others
     → pieces_of form (joined_pieces others) ≡ others
 
--- The pieces of a page of XML, up to its first start tag, are read alike by all parsers. `page` is what is around all elements.
-abbrev pub have_alike_front : Element → List Piece → Bool
-have_alike_front page [] = false
-have_alike_front page (p ∷ ps) = is_xml_alike page p.kind p.bytes && (is_start p.kind || have_alike_front page ps)
-
 -- The first of other pieces begins with U+FEFF where the first piece of a page does, and is then the same.
 abbrev pub KeepsOrderMark : List Piece → List Piece → Type 0
 KeepsOrderMark (p ∷ ps) (other ∷ others) =
     (begins_with_order_mark other.bytes ≡ begins_with_order_mark p.bytes) × (begins_with_order_mark p.bytes ≡ true → other.bytes ≡ p.bytes)
 KeepsOrderMark _ _ = Unit {0}
 
--- Pieces leave the form of a page. Its texts alone are others, and a byte order mark stays. All parsers read a page of XML alike
--- up to its first start tag.
-pub record LeaveTheForm (language page : List ℕ) (others : List Piece) : Type 0 where
+-- Pieces leave the form of a page: its texts alone are others, and a byte order mark stays.
+pub record LeaveTheForm (page : List ℕ) (others : List Piece) : Type 0 where
   pub texts : HaveOtherTexts (pieces_of (form_of page) page) others
   pub mark : KeepsOrderMark (pieces_of (form_of page) page) others
-  pub front : form_of page ≡ Xml → have_alike_front (page_element language) (pieces_of Xml page) ≡ true
 
 -- Where pieces leave the form of a page, the page that they join to has it too.
 abbrev pub FormStays : Type 0
-FormStays = (language page : List ℕ) (others : List Piece) → IsUtf8 page → IsUtf8 (joined_pieces others)
-    → LeaveTheForm language page others → form_of (joined_pieces others) ≡ form_of page
+FormStays = (page : List ℕ) (others : List Piece) → LeaveTheForm page others → form_of (joined_pieces others) ≡ form_of page

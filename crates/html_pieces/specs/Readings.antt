@@ -10,7 +10,8 @@ use Rattle.html_pieces.specs.Names.{name_of, raw_element, raw_end_tag, is_foreig
 use Rattle.html_pieces.specs.Forms.{after_order_mark, is_start}
 use Rattle.html_pieces.specs.Pieces.{Piece, is_script}
 use Rattle.html_pieces.specs.References.{has_ampersand}
-use Rattle.html_pieces.specs.Groups.{heading_names, ends, stops, bounds, is_table_part, is_heading, is_root, is_special, is_void}
+use Rattle.html_pieces.specs.Groups.{heading_names, ends, stops, bounds, is_in, is_same_group, is_table_part, is_heading, is_root, is_special, is_void}
+use Rattle.html_pieces.specs.declared.groups.TheConstants.{WITHOUT_TEXT, WITHOUT_END_TAGS, CHOICES, AROUND_CELLS, AROUND_ROWS, AROUND_ROW_GROUPS, AROUND_COLUMNS, CLOSING_NO_BLOCKS}
 use Rattle.html_pieces.specs.Elements.{Element, as_elements, innermost, before_new, elements_by, group_by, depth_limit}
 use Rattle.html_pieces.specs.declared.bytes.PageForm.{PageForm}
 use Rattle.html_pieces.specs.declared.groups.ElementGroup.{ElementGroup}
@@ -137,44 +138,13 @@ is_read_raw name = is_some (raw_element name) || is_same_name name (codes "plain
 
 -- Text in such an element is elsewhere in the tree (13.2.6.1, foster parents; 13.2.6.4.4, "in head").
 abbrev pub holds_no_text : ElementGroup → Bool
-holds_no_text Table = true
-holds_no_text Rows = true
-holds_no_text Row = true
-holds_no_text Columns = true
-holds_no_text Head = true
-holds_no_text _ = false
-
--- The end tag of an element of a group may be left out.
-abbrev pub may_be_left_out : ElementGroup → Bool
-may_be_left_out Paragraph = true
-may_be_left_out Item = true
-may_be_left_out Term = true
-may_be_left_out Choice = true
-may_be_left_out Choices = true
-may_be_left_out Ruby = true
-may_be_left_out Cell = true
-may_be_left_out Row = true
-may_be_left_out Rows = true
-may_be_left_out Caption = true
-may_be_left_out Columns = true
-may_be_left_out Head = true
-may_be_left_out _ = false
-
--- The element is a paragraph.
-abbrev pub is_paragraph : ElementGroup → Bool
-is_paragraph Paragraph = true
-is_paragraph _ = false
-
--- The element is a table.
-abbrev pub is_whole_table : ElementGroup → Bool
-is_whole_table Table = true
-is_whole_table _ = false
+holds_no_text group = is_in WITHOUT_TEXT group
 
 -- The end tag of an open element may be left out where one of the first group begins. A table ends a paragraph only by the
 -- document type of HTML.
 abbrev pub is_left_out_before : Bool → ElementGroup → ElementGroup → Bool
 is_left_out_before standard new other =
-    may_be_left_out other && (standard || not (is_paragraph other && is_whole_table new))
+    is_in WITHOUT_END_TAGS other && (standard || not (is_same_group other Paragraph && is_same_group new Table))
 
 -- All that an element of a group ends where it begins, among the `left` next ones, has end tags that may be left out. So it is
 -- with those up to the last one that it ends (`so_far`), and with all that were looked at (`all`).
@@ -237,61 +207,18 @@ abbrev pub odd_names : List (List ℕ)
 odd_names =
     codes "frameset" ∷ codes "image" ∷ codes "malignmark" ∷ codes "mglyph" ∷ codes "rb" ∷ codes "rtc" ∷ []
 
--- The element is an option, or a group of them.
-abbrev pub is_choice : ElementGroup → Bool
-is_choice Choice = true
-is_choice Choices = true
-is_choice _ = false
-
 -- Elements may begin that are no parts of tables or selections. `around` is the innermost element before what the new one ends,
 -- and `within` the one after it.
 abbrev pub takes_content : Element → Element → Bool
 takes_content around within =
-    not (is_choice around.group) && not (holds_no_text within.group) && not (is_same_name within.name (codes "select"))
-
--- It is a template.
-abbrev pub is_template : ElementGroup → Bool
-is_template Template = true
-is_template _ = false
-
--- It is the element of a head.
-abbrev pub is_head : ElementGroup → Bool
-is_head Head = true
-is_head _ = false
+    not (is_in CHOICES around.group) && not (holds_no_text within.group) && not (is_same_name within.name (codes "select"))
 
 -- An element that a head may have may begin: where content may, in a head, and some in a table.
 abbrev pub takes_head_content : Element → Element → ElementGroup → List ℕ → Bool
 takes_head_content around within new name =
-    not (is_choice around.group) && not (is_same_name within.name (codes "select"))
-    && (not (holds_no_text within.group) || is_head within.group || is_template new || is_same_name name (codes "script")
+    not (is_in CHOICES around.group) && not (is_same_name within.name (codes "select"))
+    && (not (holds_no_text within.group) || is_same_group within.group Head || is_same_group new Template || is_same_name name (codes "script")
     || is_same_name name (codes "style"))
-
--- Where cells, rows, row groups or captions, groups of columns, and columns may begin.
-abbrev pub takes_cells : ElementGroup → Bool
-takes_cells Table = true
-takes_cells Rows = true
-takes_cells Row = true
-takes_cells Template = true
-takes_cells _ = false
-
--- Where a row may begin.
-abbrev pub takes_rows : ElementGroup → Bool
-takes_rows Table = true
-takes_rows Rows = true
-takes_rows Template = true
-takes_rows _ = false
-
--- Where a row group or a caption may begin.
-abbrev pub takes_row_groups : ElementGroup → Bool
-takes_row_groups Table = true
-takes_row_groups Template = true
-takes_row_groups _ = false
-
--- Where a column may begin.
-abbrev pub takes_columns : ElementGroup → Bool
-takes_columns Table = true
-takes_columns Columns = true
-takes_columns _ = false
 
 -- Nothing has come but a document type, comments and white space.
 abbrev pub is_before_root : Phase → Bool
@@ -339,12 +266,12 @@ is_expected phase around within elements Head name = is_before_head phase && is_
 is_expected phase around within elements HeadContent name = takes_head_content around within HeadContent name
 is_expected phase around within elements HeadVoid name = takes_head_content around within HeadVoid name
 is_expected phase around within elements Template name = takes_head_content around within Template name
-is_expected phase around within elements Cell name = takes_cells within.group
-is_expected phase around within elements Row name = takes_rows within.group
-is_expected phase around within elements Rows name = takes_row_groups within.group
-is_expected phase around within elements Caption name = takes_row_groups within.group
-is_expected phase around within elements Columns name = is_whole_table within.group
-is_expected phase around within elements Column name = takes_columns within.group
+is_expected phase around within elements Cell name = is_in AROUND_CELLS within.group
+is_expected phase around within elements Row name = is_in AROUND_ROWS within.group
+is_expected phase around within elements Rows name = is_in AROUND_ROW_GROUPS within.group
+is_expected phase around within elements Caption name = is_in AROUND_ROW_GROUPS within.group
+is_expected phase around within elements Columns name = is_same_group within.group Table
+is_expected phase around within elements Column name = is_in AROUND_COLUMNS within.group
 is_expected phase around within elements Choice name = not (holds_no_text within.group)
 is_expected phase around within elements Choices name = is_same_name within.name (codes "select")
 is_expected phase around within elements Ruby name = is_same_name within.name (codes "ruby")
@@ -385,27 +312,7 @@ is_start_alike page reading new tag =
 
 -- An end tag of the group closes paragraphs, items and terms that are in its element: "generate implied end tags".
 abbrev pub closes_blocks : ElementGroup → Bool
-closes_blocks Root = false
-closes_blocks Head = false
-closes_blocks HeadContent = false
-closes_blocks HeadVoid = false
-closes_blocks Columns = false
-closes_blocks tag = is_special tag
-
--- An end tag of the group closes cells; rows too; row groups, captions and groups of columns too.
-abbrev pub closes_cells : ElementGroup → Bool
-closes_cells Row = true
-closes_cells Rows = true
-closes_cells Table = true
-closes_cells Template = true
-closes_cells _ = false
-
--- An end tag of the group closes rows.
-abbrev pub closes_rows : ElementGroup → Bool
-closes_rows Rows = true
-closes_rows Table = true
-closes_rows Template = true
-closes_rows _ = false
+closes_blocks tag = not (is_in CLOSING_NO_BLOCKS tag) && is_special tag
 
 -- An end tag of the first group closes an element of the second that is in its own and has no end tag.
 unfoldable pub is_left_out_in : ElementGroup → ElementGroup → Bool
@@ -415,11 +322,11 @@ is_left_out_in tag Choices = true
 is_left_out_in tag Paragraph = closes_blocks tag
 is_left_out_in tag Item = closes_blocks tag
 is_left_out_in tag Term = closes_blocks tag
-is_left_out_in tag Cell = closes_cells tag
-is_left_out_in tag Row = closes_rows tag
-is_left_out_in tag Rows = takes_row_groups tag
-is_left_out_in tag Caption = takes_row_groups tag
-is_left_out_in tag Columns = takes_row_groups tag
+is_left_out_in tag Cell = is_in AROUND_CELLS tag
+is_left_out_in tag Row = is_in AROUND_ROWS tag
+is_left_out_in tag Rows = is_in AROUND_ROW_GROUPS tag
+is_left_out_in tag Caption = is_in AROUND_ROW_GROUPS tag
+is_left_out_in tag Columns = is_in AROUND_ROW_GROUPS tag
 is_left_out_in tag _ = false
 
 -- All that an end tag closes in its element, among the `left` next ones, has no end tag by these rules; none where its element
@@ -436,7 +343,7 @@ closes_alike_from name tag left all (e ∷ es) =
 -- where none may be.
 abbrev pub is_passed_by : Element → ElementGroup → List ℕ → List Element → Bool
 is_passed_by around tag name elements =
-    not (is_table_part tag) && not (is_same_name name (codes "br")) && not (is_paragraph tag && holds_no_text around.group)
+    not (is_table_part tag) && not (is_same_name name (codes "br")) && not (is_same_group tag Paragraph && holds_no_text around.group)
     && not (is_open name tag elements)
 
 -- An element is read otherwise with scripting than without, or is in a template: what it holds begins no body.

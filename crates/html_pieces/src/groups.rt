@@ -1,12 +1,10 @@
 //! Elements grouped by what they end where their end tags are left out.
 
 ghost use Rattle.std.specs.Prelude.{◌≡◌};
-ghost use Rattle.html_pieces.specs.Groups.{group_of, is_void};
-ghost use Rattle.html_pieces.specs.Groups.{ends_paragraph, is_in_head, is_table_part, ends_row, ends_rows};
-ghost use Rattle.html_pieces.specs.Groups.{ends_columns, ends_choice, ends_choices, ends, is_boundary};
-ghost use Rattle.html_pieces.specs.Groups.{is_passed_by_items, stops, is_table, ends_table_scope, ends_scope};
-ghost use Rattle.html_pieces.specs.Groups.{ends_item_scope, is_special, bounds, is_heading, is_root};
+ghost use Rattle.html_pieces.specs.Groups.{group_of, is_void, is_table_part, ends, stops, is_special, ends_scope};
+ghost use Rattle.html_pieces.specs.Groups.{bounds, is_heading, is_root};
 
+use self::ElementGroup::*;
 use crate::bytes::{is_one_of, is_same_name};
 
 /// A group of elements, by the elements that they end and those that end them, where end tags are left out.
@@ -124,168 +122,158 @@ pub fn group_of(name: &[u8]) -> ElementGroup
     ensures { result ≡ group_of name.now }
 {
     if is_same_name(name, b"p") {
-        ElementGroup::Paragraph
+        Paragraph
     } else if is_same_name(name, b"div")
         || is_same_name(name, b"address")
         || is_same_name(name, b"dialog")
     {
-        ElementGroup::Division
+        Division
     } else if is_same_name(name, b"li") {
-        ElementGroup::Item
+        Item
     } else if is_same_name(name, b"dt") || is_same_name(name, b"dd") {
-        ElementGroup::Term
+        Term
     } else if is_same_name(name, b"td") || is_same_name(name, b"th") {
-        ElementGroup::Cell
+        Cell
     } else if is_same_name(name, b"tr") {
-        ElementGroup::Row
+        Row
     } else if is_same_name(name, b"thead")
         || is_same_name(name, b"tbody")
         || is_same_name(name, b"tfoot")
     {
-        ElementGroup::Rows
+        Rows
     } else if is_same_name(name, b"table") {
-        ElementGroup::Table
+        Table
     } else if is_same_name(name, b"caption") {
-        ElementGroup::Caption
+        Caption
     } else if is_same_name(name, b"colgroup") {
-        ElementGroup::Columns
+        Columns
     } else if is_same_name(name, b"col") {
-        ElementGroup::Column
+        Column
     } else if is_same_name(name, b"hr") {
-        ElementGroup::Rule
+        Rule
     } else if is_same_name(name, b"option") {
-        ElementGroup::Choice
+        Choice
     } else if is_same_name(name, b"optgroup") {
-        ElementGroup::Choices
+        Choices
     } else if is_same_name(name, b"rt") || is_same_name(name, b"rp") {
-        ElementGroup::Ruby
+        Ruby
     } else if is_same_name(name, b"head") {
-        ElementGroup::Head
+        Head
     } else if is_same_name(name, b"body") || is_same_name(name, b"html") {
-        ElementGroup::Root
+        Root
     } else if is_same_name(name, b"template") {
-        ElementGroup::Template
+        Template
     } else if is_one_of(name, &VOID_NAMES) {
-        ElementGroup::Void
+        Void
     } else if is_one_of(name, &HEAD_VOID_NAMES) {
-        ElementGroup::HeadVoid
+        HeadVoid
     } else if is_one_of(name, &HEAD_NAMES) {
-        ElementGroup::HeadContent
+        HeadContent
     } else if is_one_of(name, &SCOPE_NAMES) {
-        ElementGroup::Scope
+        Scope
     } else if is_one_of(name, &SECTION_NAMES) {
-        ElementGroup::Block
+        Block
     } else if is_one_of(name, &HEADING_NAMES) {
-        ElementGroup::Heading
+        Heading
     } else if is_same_name(name, b"ol") || is_same_name(name, b"ul") {
-        ElementGroup::Listing
+        Listing
     } else if is_one_of(name, &BLOCK_NAMES) {
-        ElementGroup::Block
+        Block
     } else if is_one_of(name, &FORMATTING_NAMES) {
-        ElementGroup::Formatting
+        Formatting
     } else {
-        ElementGroup::Ordinary
+        Ordinary
     }
 }
 
+/// Elements without content.
+pub const VOID_GROUPS: [ElementGroup; 4] = [Rule, Column, HeadVoid, Void];
+
+/// Parts of tables.
+pub const TABLE_PARTS: [ElementGroup; 6] = [Cell, Row, Rows, Caption, Columns, Column];
+
+/// The groups whose elements end a paragraph where they begin.
+pub const ENDS_OF_PARAGRAPHS: [ElementGroup; 9] = [
+    Paragraph, Division, Heading, Listing, Block, Rule, Item, Term, Table,
+];
+
+/// Those that end an option.
+pub const ENDS_OF_CHOICES: [ElementGroup; 3] = [Choice, Choices, Rule];
+
+/// Those that end a group of options.
+pub const ENDS_OF_CHOICE_GROUPS: [ElementGroup; 2] = [Choices, Rule];
+
+/// Those that end a row: they are no cells.
+pub const ENDS_OF_ROWS: [ElementGroup; 5] = [Row, Rows, Caption, Columns, Column];
+
+/// Those that end a row group: they are neither cells nor rows.
+pub const ENDS_OF_ROW_GROUPS: [ElementGroup; 4] = [Rows, Caption, Columns, Column];
+
+/// Those that end a group of columns: all parts of a table but its columns.
+pub const ENDS_OF_COLUMNS: [ElementGroup; 5] = [Cell, Row, Rows, Caption, Columns];
+
+/// Those that a head may have. All others end it.
+pub const PARTS_OF_HEADS: [ElementGroup; 3] = [HeadContent, HeadVoid, Template];
+
+/// Items of lists, terms and what is said of terms.
+pub const ITEMS: [ElementGroup; 2] = [Item, Term];
+
+/// The groups past whose elements an item looks for one that it ends.
+pub const PASSED_BY_ITEMS: [ElementGroup; 6] = [
+    Ordinary, Formatting, Division, Choice, Choices, Ruby,
+];
+
+/// Tables and their parts, and the elements that hold a scope of their own.
+pub const BOUNDARIES: [ElementGroup; 9] = [
+    Table, Cell, Row, Rows, Caption, Columns, Scope, Root, Template,
+];
+
+/// The groups whose elements are not special.
+pub const NO_SPECIAL_GROUPS: [ElementGroup; 5] = [Ordinary, Formatting, Ruby, Choice, Choices];
+
+/// Where the scope of tables and their parts ends.
+pub const TABLE_SCOPES: [ElementGroup; 3] = [Table, Root, Template];
+
+/// Where the scope of other elements ends.
+pub const SCOPES: [ElementGroup; 6] = [Table, Cell, Caption, Scope, Root, Template];
+
+/// The groups whose elements hold no text: it is elsewhere in the tree.
+pub const WITHOUT_TEXT: [ElementGroup; 5] = [Table, Rows, Row, Columns, Head];
+
+/// The groups whose end tags may be left out.
+pub const WITHOUT_END_TAGS: [ElementGroup; 12] = [
+    Paragraph, Item, Term, Choice, Choices, Ruby, Cell, Row, Rows, Caption, Columns, Head,
+];
+
+/// Options, and groups of them.
+pub const CHOICES: [ElementGroup; 2] = [Choice, Choices];
+
+/// Where a cell may begin. The end tags of these groups close cells.
+pub const AROUND_CELLS: [ElementGroup; 4] = [Table, Rows, Row, Template];
+
+/// Where a row may begin. The end tags of these groups close rows.
+pub const AROUND_ROWS: [ElementGroup; 3] = [Table, Rows, Template];
+
+/// Where a row group or a caption may begin. The end tags of these groups close them, and groups of columns.
+pub const AROUND_ROW_GROUPS: [ElementGroup; 2] = [Table, Template];
+
+/// Where a column may begin.
+pub const AROUND_COLUMNS: [ElementGroup; 2] = [Table, Columns];
+
+/// The special groups whose end tags close no paragraphs, items and terms.
+pub const CLOSING_NO_BLOCKS: [ElementGroup; 5] = [Root, Head, HeadContent, HeadVoid, Columns];
+
 /// Reports whether the elements of a group have no content.
-pub const fn is_void(group: ElementGroup) -> bool
+pub fn is_void(group: ElementGroup) -> bool
     ensures { result ≡ is_void group }
 {
-    matches!(
-        group,
-        ElementGroup::Rule | ElementGroup::Column | ElementGroup::HeadVoid | ElementGroup::Void
-    )
+    VOID_GROUPS.contains(&group)
 }
 
-const fn ends_paragraph(new: ElementGroup) -> bool
-    ensures { result ≡ ends_paragraph new }
+pub(crate) fn is_table_part(group: ElementGroup) -> bool
+    ensures { result ≡ is_table_part group }
 {
-    matches!(
-        new,
-        ElementGroup::Paragraph
-            | ElementGroup::Division
-            | ElementGroup::Heading
-            | ElementGroup::Listing
-            | ElementGroup::Block
-            | ElementGroup::Rule
-            | ElementGroup::Item
-            | ElementGroup::Term
-            | ElementGroup::Table
-    )
-}
-
-const fn is_in_head(new: ElementGroup) -> bool
-    ensures { result ≡ is_in_head new }
-{
-    matches!(
-        new,
-        ElementGroup::HeadContent | ElementGroup::HeadVoid | ElementGroup::Template
-    )
-}
-
-pub(crate) const fn is_table_part(new: ElementGroup) -> bool
-    ensures { result ≡ is_table_part new }
-{
-    matches!(
-        new,
-        ElementGroup::Cell
-            | ElementGroup::Row
-            | ElementGroup::Rows
-            | ElementGroup::Caption
-            | ElementGroup::Columns
-            | ElementGroup::Column
-    )
-}
-
-const fn ends_row(new: ElementGroup) -> bool
-    ensures { result ≡ ends_row new }
-{
-    matches!(
-        new,
-        ElementGroup::Row
-            | ElementGroup::Rows
-            | ElementGroup::Caption
-            | ElementGroup::Columns
-            | ElementGroup::Column
-    )
-}
-
-const fn ends_rows(new: ElementGroup) -> bool
-    ensures { result ≡ ends_rows new }
-{
-    matches!(
-        new,
-        ElementGroup::Rows | ElementGroup::Caption | ElementGroup::Columns | ElementGroup::Column
-    )
-}
-
-const fn ends_columns(new: ElementGroup) -> bool
-    ensures { result ≡ ends_columns new }
-{
-    matches!(
-        new,
-        ElementGroup::Cell
-            | ElementGroup::Row
-            | ElementGroup::Rows
-            | ElementGroup::Caption
-            | ElementGroup::Columns
-    )
-}
-
-const fn ends_choice(new: ElementGroup) -> bool
-    ensures { result ≡ ends_choice new }
-{
-    matches!(
-        new,
-        ElementGroup::Choice | ElementGroup::Choices | ElementGroup::Rule
-    )
-}
-
-const fn ends_choices(new: ElementGroup) -> bool
-    ensures { result ≡ ends_choices new }
-{
-    matches!(new, ElementGroup::Choices | ElementGroup::Rule)
+    TABLE_PARTS.contains(&group)
 }
 
 /// Reports whether an element of a group that begins ends an open one: the end tag of that one may be left out.
@@ -294,50 +282,17 @@ pub fn ends(new: ElementGroup, other: ElementGroup) -> bool
     ensures { result ≡ ends new other }
 {
     match other {
-        ElementGroup::Paragraph => ends_paragraph(new),
-        ElementGroup::Item => matches!(new, ElementGroup::Item),
-        ElementGroup::Term => matches!(new, ElementGroup::Term),
-        ElementGroup::Choice => ends_choice(new),
-        ElementGroup::Choices => ends_choices(new),
-        ElementGroup::Ruby => matches!(new, ElementGroup::Ruby),
-        ElementGroup::Cell | ElementGroup::Caption => is_table_part(new),
-        ElementGroup::Row => ends_row(new),
-        ElementGroup::Rows => ends_rows(new),
-        ElementGroup::Columns => ends_columns(new),
-        ElementGroup::Head => !is_in_head(new),
+        Paragraph => ENDS_OF_PARAGRAPHS.contains(&new),
+        Item | Term | Ruby => new == other,
+        Choice => ENDS_OF_CHOICES.contains(&new),
+        Choices => ENDS_OF_CHOICE_GROUPS.contains(&new),
+        Cell | Caption => is_table_part(new),
+        Row => ENDS_OF_ROWS.contains(&new),
+        Rows => ENDS_OF_ROW_GROUPS.contains(&new),
+        Columns => ENDS_OF_COLUMNS.contains(&new),
+        Head => !PARTS_OF_HEADS.contains(&new),
         _ => false,
     }
-}
-
-const fn is_boundary(other: ElementGroup) -> bool
-    ensures { result ≡ is_boundary other }
-{
-    matches!(
-        other,
-        ElementGroup::Table
-            | ElementGroup::Cell
-            | ElementGroup::Row
-            | ElementGroup::Rows
-            | ElementGroup::Caption
-            | ElementGroup::Columns
-            | ElementGroup::Scope
-            | ElementGroup::Root
-            | ElementGroup::Template
-    )
-}
-
-const fn is_passed_by_items(other: ElementGroup) -> bool
-    ensures { result ≡ is_passed_by_items other }
-{
-    matches!(
-        other,
-        ElementGroup::Ordinary
-            | ElementGroup::Formatting
-            | ElementGroup::Division
-            | ElementGroup::Choice
-            | ElementGroup::Choices
-            | ElementGroup::Ruby
-    )
 }
 
 /// Reports whether an element of a group that begins looks no further than an open one for those that it ends.
@@ -345,71 +300,25 @@ const fn is_passed_by_items(other: ElementGroup) -> bool
 pub fn stops(new: ElementGroup, other: ElementGroup) -> bool
     ensures { result ≡ stops new other }
 {
-    match new {
-        ElementGroup::Item | ElementGroup::Term => !is_passed_by_items(other),
-        ElementGroup::Paragraph
-        | ElementGroup::Division
-        | ElementGroup::Heading
-        | ElementGroup::Listing
-        | ElementGroup::Block
-        | ElementGroup::Rule
-        | ElementGroup::Table
-        | ElementGroup::Cell
-        | ElementGroup::Row
-        | ElementGroup::Rows
-        | ElementGroup::Caption
-        | ElementGroup::Columns
-        | ElementGroup::Column => is_boundary(other),
-        _ => true,
+    if ITEMS.contains(&new) {
+        !PASSED_BY_ITEMS.contains(&other)
+    } else if ENDS_OF_PARAGRAPHS.contains(&new) || is_table_part(new) {
+        BOUNDARIES.contains(&other)
+    } else {
+        true
     }
 }
 
-const fn is_table(tag: ElementGroup) -> bool
-    ensures { result ≡ is_table tag }
+pub(crate) fn is_special(group: ElementGroup) -> bool
+    ensures { result ≡ is_special group }
 {
-    matches!(tag, ElementGroup::Table) || is_table_part(tag)
+    !NO_SPECIAL_GROUPS.contains(&group)
 }
 
-const fn ends_table_scope(other: ElementGroup) -> bool
-    ensures { result ≡ ends_table_scope other }
+fn ends_scope(group: ElementGroup) -> bool
+    ensures { result ≡ ends_scope group }
 {
-    matches!(
-        other,
-        ElementGroup::Table | ElementGroup::Root | ElementGroup::Template
-    )
-}
-
-const fn ends_scope(other: ElementGroup) -> bool
-    ensures { result ≡ ends_scope other }
-{
-    matches!(
-        other,
-        ElementGroup::Table
-            | ElementGroup::Cell
-            | ElementGroup::Caption
-            | ElementGroup::Scope
-            | ElementGroup::Root
-            | ElementGroup::Template
-    )
-}
-
-const fn ends_item_scope(other: ElementGroup) -> bool
-    ensures { result ≡ ends_item_scope other }
-{
-    matches!(other, ElementGroup::Listing) || ends_scope(other)
-}
-
-pub(crate) const fn is_special(other: ElementGroup) -> bool
-    ensures { result ≡ is_special other }
-{
-    !matches!(
-        other,
-        ElementGroup::Ordinary
-            | ElementGroup::Formatting
-            | ElementGroup::Ruby
-            | ElementGroup::Choice
-            | ElementGroup::Choices
-    )
+    SCOPES.contains(&group)
 }
 
 /// Reports whether an end tag of a group looks no further than an open element for its own.
@@ -418,11 +327,11 @@ pub fn bounds(tag: ElementGroup, other: ElementGroup) -> bool
     ensures { result ≡ bounds tag other }
 {
     match tag {
-        ElementGroup::Ordinary => is_special(other),
-        ElementGroup::Item => ends_item_scope(other),
+        Ordinary => is_special(other),
+        Item => other == Listing || ends_scope(other),
         _ => {
-            if is_table(tag) {
-                ends_table_scope(other)
+            if tag == Table || is_table_part(tag) {
+                TABLE_SCOPES.contains(&other)
             } else {
                 ends_scope(other)
             }
@@ -431,15 +340,15 @@ pub fn bounds(tag: ElementGroup, other: ElementGroup) -> bool
 }
 
 /// Reports whether the elements of a group are headings.
-pub const fn is_heading(group: ElementGroup) -> bool
+pub fn is_heading(group: ElementGroup) -> bool
     ensures { result ≡ is_heading group }
 {
-    matches!(group, ElementGroup::Heading)
+    group == Heading
 }
 
 /// Reports whether the end tags of a group close nothing.
-pub const fn is_root(tag: ElementGroup) -> bool
+pub fn is_root(tag: ElementGroup) -> bool
     ensures { result ≡ is_root tag }
 {
-    matches!(tag, ElementGroup::Root)
+    tag == Root
 }

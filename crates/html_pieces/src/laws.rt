@@ -30,9 +30,8 @@ pub fn other_texts_are_cut_alike()
 
 /// A page with other texts in the places of its texts has the form of the page.
 ///
-/// The other texts are those of [`other_texts_are_cut_alike`], and a byte order mark stays. A page of XML is read alike by
-/// all parsers up to its first start tag. So HTML and XML find the same tag there, which tells the form. It is a law of all
-/// pages, and the call does nothing.
+/// The other texts are those of [`other_texts_are_cut_alike`], and a byte order mark stays. It is a law of all pages, and
+/// the call does nothing.
 pub fn other_texts_leave_the_form()
     ensures { FormStays }
 {}

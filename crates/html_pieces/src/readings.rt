@@ -7,14 +7,14 @@ ghost use Rattle.html_pieces.specs.Readings.{as_reading, at_start, has_text, may
 ghost use Rattle.html_pieces.specs.Readings.{begins_with_word, mentions, begins_with_letter, has_content};
 ghost use Rattle.html_pieces.specs.Readings.{ends_at_first, quote_after, has_closed_quotes, is_doctype, is_html_doctype};
 ghost use Rattle.html_pieces.specs.Readings.{has_odd_end, is_comment_alike, is_other_alike, is_sign, is_open, is_in_svg, is_read_raw};
-ghost use Rattle.html_pieces.specs.Readings.{holds_no_text, may_be_left_out, is_paragraph, is_whole_table, is_left_out_before};
+ghost use Rattle.html_pieces.specs.Readings.{holds_no_text, is_left_out_before};
 ghost use Rattle.html_pieces.specs.Readings.{ends_alike, ends_alike_from, may_hold_html};
 ghost use Rattle.html_pieces.specs.Readings.{is_leaving};
-ghost use Rattle.html_pieces.specs.Readings.{is_foreign_start_alike, is_choice, takes_content, is_template, is_head};
-ghost use Rattle.html_pieces.specs.Readings.{takes_head_content, takes_cells, takes_rows, takes_row_groups, takes_columns};
+ghost use Rattle.html_pieces.specs.Readings.{is_foreign_start_alike, takes_content};
+ghost use Rattle.html_pieces.specs.Readings.{takes_head_content};
 ghost use Rattle.html_pieces.specs.Readings.{is_before_root, is_before_head, is_before_body, takes_root, is_alone, is_expected};
-ghost use Rattle.html_pieces.specs.Readings.{is_content_alike, is_html_start_alike, is_start_alike, closes_blocks, closes_cells};
-ghost use Rattle.html_pieces.specs.Readings.{closes_rows, is_left_out_in, closes_alike_from, is_passed_by, is_hidden};
+ghost use Rattle.html_pieces.specs.Readings.{is_content_alike, is_html_start_alike, is_start_alike, closes_blocks};
+ghost use Rattle.html_pieces.specs.Readings.{is_left_out_in, closes_alike_from, is_passed_by, is_hidden};
 ghost use Rattle.html_pieces.specs.Readings.{is_html_end_alike, is_end_alike, is_content_here, is_odd_section, is_html_other_alike};
 ghost use Rattle.html_pieces.specs.Readings.{is_html_alike, stays_raw, is_xml_start_alike, is_xml_empty_alike, is_xml_other_alike};
 ghost use Rattle.html_pieces.specs.Readings.{is_xml_alike, is_in_raw_noscript, stays_in_noscript, is_alike_by, body_unless, head_from};
@@ -26,9 +26,11 @@ ghost use Rattle.html_pieces.specs.Pieces.{as_piece, is_script};
 use crate::bytes::{PageForm, is_alpha, is_one_of, is_same_name, is_white_space};
 use crate::elements::{DEPTH_LIMIT, Element, before_new, group_by, innermost};
 use crate::forms::{after_order_mark, is_start};
+use crate::groups::ElementGroup::*;
 use crate::groups::{
-    ElementGroup, HEADING_NAMES, bounds, ends, is_heading, is_root, is_special, is_table_part,
-    is_void, stops,
+    AROUND_CELLS, AROUND_COLUMNS, AROUND_ROW_GROUPS, AROUND_ROWS, CHOICES, CLOSING_NO_BLOCKS,
+    ElementGroup, HEADING_NAMES, WITHOUT_END_TAGS, WITHOUT_TEXT, bounds, ends, is_heading, is_root,
+    is_special, is_table_part, is_void, stops,
 };
 use crate::references::has_ampersand;
 use crate::tokenizer::{Piece, PieceKind, RawElement, is_foreign_root, name_of, raw_element};
@@ -268,56 +270,17 @@ fn is_read_raw(name: &[u8]) -> bool
         || is_same_name(name, b"noscript")
 }
 
-const fn holds_no_text(group: ElementGroup) -> bool
+fn holds_no_text(group: ElementGroup) -> bool
     ensures { result ≡ holds_no_text group }
 {
-    matches!(
-        group,
-        ElementGroup::Table
-            | ElementGroup::Rows
-            | ElementGroup::Row
-            | ElementGroup::Columns
-            | ElementGroup::Head
-    )
-}
-
-const fn may_be_left_out(group: ElementGroup) -> bool
-    ensures { result ≡ may_be_left_out group }
-{
-    matches!(
-        group,
-        ElementGroup::Paragraph
-            | ElementGroup::Item
-            | ElementGroup::Term
-            | ElementGroup::Choice
-            | ElementGroup::Choices
-            | ElementGroup::Ruby
-            | ElementGroup::Cell
-            | ElementGroup::Row
-            | ElementGroup::Rows
-            | ElementGroup::Caption
-            | ElementGroup::Columns
-            | ElementGroup::Head
-    )
-}
-
-const fn is_paragraph(group: ElementGroup) -> bool
-    ensures { result ≡ is_paragraph group }
-{
-    matches!(group, ElementGroup::Paragraph)
-}
-
-const fn is_whole_table(group: ElementGroup) -> bool
-    ensures { result ≡ is_whole_table group }
-{
-    matches!(group, ElementGroup::Table)
+    WITHOUT_TEXT.contains(&group)
 }
 
 // Reports whether the end tag of an open element may be left out where one of a group begins.
-const fn is_left_out_before(standard: bool, new: ElementGroup, other: ElementGroup) -> bool
+fn is_left_out_before(standard: bool, new: ElementGroup, other: ElementGroup) -> bool
     ensures { result ≡ is_left_out_before standard new other }
 {
-    may_be_left_out(other) && (standard || !(is_paragraph(other) && is_whole_table(new)))
+    WITHOUT_END_TAGS.contains(&other) && (standard || !(other == Paragraph && new == Table))
 }
 
 // Reports whether all that an element of a group ends where it begins has end tags that may be left out.
@@ -431,29 +394,11 @@ const FORM_NAMES: [&[u8]; 1] = [b"form"];
 
 const LINK_NAMES: [&[u8]; 2] = [b"a", b"nobr"];
 
-const fn is_choice(group: ElementGroup) -> bool
-    ensures { result ≡ is_choice group }
-{
-    matches!(group, ElementGroup::Choice | ElementGroup::Choices)
-}
-
-const fn is_template(group: ElementGroup) -> bool
-    ensures { result ≡ is_template group }
-{
-    matches!(group, ElementGroup::Template)
-}
-
-const fn is_head(group: ElementGroup) -> bool
-    ensures { result ≡ is_head group }
-{
-    matches!(group, ElementGroup::Head)
-}
-
 // Reports whether elements may begin that are no parts of tables or selections.
 fn takes_content(around: Element<'_>, within: Element<'_>) -> bool
     ensures { result ≡ takes_content (as_element around.entry) (as_element within.entry) }
 {
-    !is_choice(around.group)
+    !CHOICES.contains(&around.group)
         && !holds_no_text(within.group)
         && !is_same_name(within.name, b"select")
 }
@@ -467,43 +412,13 @@ fn takes_head_content(
 ) -> bool
     ensures { result ≡ takes_head_content (as_element around.entry) (as_element within.entry) new name.now }
 {
-    !is_choice(around.group)
+    !CHOICES.contains(&around.group)
         && !is_same_name(within.name, b"select")
         && (!holds_no_text(within.group)
-            || is_head(within.group)
-            || is_template(new)
+            || within.group == Head
+            || new == Template
             || is_same_name(name, b"script")
             || is_same_name(name, b"style"))
-}
-
-const fn takes_cells(group: ElementGroup) -> bool
-    ensures { result ≡ takes_cells group }
-{
-    matches!(
-        group,
-        ElementGroup::Table | ElementGroup::Rows | ElementGroup::Row | ElementGroup::Template
-    )
-}
-
-const fn takes_rows(group: ElementGroup) -> bool
-    ensures { result ≡ takes_rows group }
-{
-    matches!(
-        group,
-        ElementGroup::Table | ElementGroup::Rows | ElementGroup::Template
-    )
-}
-
-const fn takes_row_groups(group: ElementGroup) -> bool
-    ensures { result ≡ takes_row_groups group }
-{
-    matches!(group, ElementGroup::Table | ElementGroup::Template)
-}
-
-const fn takes_columns(group: ElementGroup) -> bool
-    ensures { result ≡ takes_columns group }
-{
-    matches!(group, ElementGroup::Table | ElementGroup::Columns)
 }
 
 const fn is_before_root(phase: Phase) -> bool
@@ -539,7 +454,7 @@ fn takes_root(phase: Phase, within: Element<'_>, name: &[u8]) -> bool
 fn is_alone(names: &[&[u8]], name: &[u8], elements: &[Element<'_>]) -> bool
     ensures { result ≡ is_alone (map (λ other. other.now) names.now) name.now (as_elements elements.now) }
 {
-    !(is_one_of(name, names) && is_open(name, ElementGroup::Ordinary, elements))
+    !(is_one_of(name, names) && is_open(name, Ordinary, elements))
 }
 
 // Reports whether an element of a group may begin where it does: all parsers put it there.
@@ -555,27 +470,22 @@ fn is_expected(
     ensures { result ≡ is_expected phase (as_element around.entry) (as_element within.entry) (as_elements elements.now) new name.now }
 {
     match new {
-        ElementGroup::Root => takes_root(phase, within, name),
-        ElementGroup::Head => is_before_head(phase) && is_root(within.group),
-        ElementGroup::HeadContent | ElementGroup::HeadVoid | ElementGroup::Template => {
-            takes_head_content(around, within, new, name)
-        }
-        ElementGroup::Cell => takes_cells(within.group),
-        ElementGroup::Row => takes_rows(within.group),
-        ElementGroup::Rows | ElementGroup::Caption => takes_row_groups(within.group),
-        ElementGroup::Columns => is_whole_table(within.group),
-        ElementGroup::Column => takes_columns(within.group),
-        ElementGroup::Choice => !holds_no_text(within.group),
-        ElementGroup::Choices => is_same_name(within.name, b"select"),
-        ElementGroup::Ruby => is_same_name(within.name, b"ruby"),
-        ElementGroup::Heading => takes_content(around, within) && !is_heading(within.group),
-        ElementGroup::Scope => takes_content(around, within)
-            && is_alone(&BUTTON_NAMES, name, elements),
-        ElementGroup::Block => takes_content(around, within)
-            && is_alone(&FORM_NAMES, name, elements),
-        ElementGroup::Formatting => takes_content(around, within)
-            && is_alone(&LINK_NAMES, name, elements),
-        ElementGroup::Ordinary => takes_content(around, within) && !is_one_of(name, &ODD_NAMES),
+        Root => takes_root(phase, within, name),
+        Head => is_before_head(phase) && is_root(within.group),
+        HeadContent | HeadVoid | Template => { takes_head_content(around, within, new, name) }
+        Cell => AROUND_CELLS.contains(&within.group),
+        Row => AROUND_ROWS.contains(&within.group),
+        Rows | Caption => AROUND_ROW_GROUPS.contains(&within.group),
+        Columns => within.group == Table,
+        Column => AROUND_COLUMNS.contains(&within.group),
+        Choice => !holds_no_text(within.group),
+        Choices => is_same_name(within.name, b"select"),
+        Ruby => is_same_name(within.name, b"ruby"),
+        Heading => takes_content(around, within) && !is_heading(within.group),
+        Scope => takes_content(around, within) && is_alone(&BUTTON_NAMES, name, elements),
+        Block => takes_content(around, within) && is_alone(&FORM_NAMES, name, elements),
+        Formatting => takes_content(around, within) && is_alone(&LINK_NAMES, name, elements),
+        Ordinary => takes_content(around, within) && !is_one_of(name, &ODD_NAMES),
         _ => takes_content(around, within),
     }
 }
@@ -637,35 +547,10 @@ fn is_start_alike<'t>(
 
 // ---- end tags of HTML
 
-const fn closes_blocks(tag: ElementGroup) -> bool
+fn closes_blocks(tag: ElementGroup) -> bool
     ensures { result ≡ closes_blocks tag }
 {
-    match tag {
-        ElementGroup::Root
-        | ElementGroup::Head
-        | ElementGroup::HeadContent
-        | ElementGroup::HeadVoid
-        | ElementGroup::Columns => false,
-        _ => is_special(tag),
-    }
-}
-
-const fn closes_cells(tag: ElementGroup) -> bool
-    ensures { result ≡ closes_cells tag }
-{
-    matches!(
-        tag,
-        ElementGroup::Row | ElementGroup::Rows | ElementGroup::Table | ElementGroup::Template
-    )
-}
-
-const fn closes_rows(tag: ElementGroup) -> bool
-    ensures { result ≡ closes_rows tag }
-{
-    matches!(
-        tag,
-        ElementGroup::Rows | ElementGroup::Table | ElementGroup::Template
-    )
+    !CLOSING_NO_BLOCKS.contains(&tag) && is_special(tag)
 }
 
 // Reports whether an end tag of a group closes an element in its own that has no end tag.
@@ -674,11 +559,11 @@ fn is_left_out_in(tag: ElementGroup, other: ElementGroup) -> bool
     ensures { result ≡ is_left_out_in tag other }
 {
     match other {
-        ElementGroup::Ruby | ElementGroup::Choice | ElementGroup::Choices => true,
-        ElementGroup::Paragraph | ElementGroup::Item | ElementGroup::Term => closes_blocks(tag),
-        ElementGroup::Cell => closes_cells(tag),
-        ElementGroup::Row => closes_rows(tag),
-        ElementGroup::Rows | ElementGroup::Caption | ElementGroup::Columns => takes_row_groups(tag),
+        Ruby | Choice | Choices => true,
+        Paragraph | Item | Term => closes_blocks(tag),
+        Cell => AROUND_CELLS.contains(&tag),
+        Row => AROUND_ROWS.contains(&tag),
+        Rows | Caption | Columns => AROUND_ROW_GROUPS.contains(&tag),
         _ => false,
     }
 }
@@ -720,7 +605,7 @@ fn is_passed_by(
 {
     !is_table_part(tag)
         && !is_same_name(name, b"br")
-        && !(is_paragraph(tag) && holds_no_text(around.group))
+        && !(tag == Paragraph && holds_no_text(around.group))
         && !is_open(name, tag, elements)
 }
 
@@ -931,17 +816,15 @@ fn phase_after_start(hidden: bool, phase: Phase, group: ElementGroup, tag: &[u8]
     ensures { result ≡ phase_after_start hidden phase group (name_of tag.now) }
 {
     match group {
-        ElementGroup::Root => {
+        Root => {
             if is_same_name(name_of(tag), b"html") {
                 Phase::Root
             } else {
                 Phase::Body
             }
         }
-        ElementGroup::Head => Phase::Head,
-        ElementGroup::HeadContent | ElementGroup::HeadVoid | ElementGroup::Template => {
-            if hidden { phase } else { head_from(phase) }
-        }
+        Head => Phase::Head,
+        HeadContent | HeadVoid | Template => { if hidden { phase } else { head_from(phase) } }
         _ => body_unless(hidden, phase),
     }
 }

@@ -14,6 +14,7 @@ ghost use Rattle.html_pieces.specs.declared.tokenizer.State.TheVariants.{TagOpen
 ghost use Rattle.html_pieces.specs.declared.tokenizer.State.TheVariants.{BogusComment, DoctypeSubsetEnd, Comment, CommentEnd};
 ghost use Rattle.html_pieces.specs.Private.Quiet.{is_quiet, AreAlphanumeric, AreQuiet, AreOthers};
 
+use self::State::*;
 use crate::bytes::{
     PageForm, ends_name, is_alphanumeric, is_continuation, is_name_start, is_same_name,
     is_white_space,
@@ -121,11 +122,11 @@ fn in_tag(byte: u8, other: State) -> State
     ensures { result ≡ in_tag byte other }
 {
     if is_white_space(byte) {
-        State::BeforeAttributeName
+        BeforeAttributeName
     } else if byte == b'/' {
-        State::SelfClosingTag
+        SelfClosingTag
     } else if byte == b'>' {
-        State::TagEnd
+        TagEnd
     } else {
         other
     }
@@ -135,15 +136,15 @@ fn in_attribute(byte: u8) -> State
     ensures { result ≡ in_attribute byte }
 {
     if is_white_space(byte) {
-        State::AfterAttributeName
+        AfterAttributeName
     } else if byte == b'/' {
-        State::SelfClosingTag
+        SelfClosingTag
     } else if byte == b'>' {
-        State::TagEnd
+        TagEnd
     } else if byte == b'=' {
-        State::BeforeAttributeValue
+        BeforeAttributeValue
     } else {
-        State::AttributeName
+        AttributeName
     }
 }
 
@@ -151,15 +152,15 @@ fn before_value(byte: u8) -> State
     ensures { result ≡ before_value byte }
 {
     if is_white_space(byte) {
-        State::BeforeAttributeValue
+        BeforeAttributeValue
     } else if byte == b'"' {
-        State::DoubleQuotedValue
+        DoubleQuotedValue
     } else if byte == b'\'' {
-        State::SingleQuotedValue
+        SingleQuotedValue
     } else if byte == b'>' {
-        State::TagEnd
+        TagEnd
     } else {
-        State::UnquotedValue
+        UnquotedValue
     }
 }
 
@@ -167,11 +168,11 @@ fn in_unquoted_value(byte: u8) -> State
     ensures { result ≡ in_unquoted_value byte }
 {
     if is_white_space(byte) {
-        State::BeforeAttributeName
+        BeforeAttributeName
     } else if byte == b'>' {
-        State::TagEnd
+        TagEnd
     } else {
-        State::UnquotedValue
+        UnquotedValue
     }
 }
 
@@ -190,11 +191,11 @@ fn in_raw(element: RawElement, front: &[u8], byte: u8) -> Option<State>
     if byte == b'<' {
         None
     } else if ends_tag(element.end_tag(), front, byte) {
-        Some(in_tag(byte, State::TagName))
+        Some(in_tag(byte, TagName))
     } else if byte == b'-' && is_same_name(front, b"<!-") && element == RawElement::Script {
-        Some(State::ScriptEscaped)
+        Some(ScriptEscaped)
     } else {
-        Some(State::Raw(element))
+        Some(Raw(element))
     }
 }
 
@@ -206,13 +207,13 @@ fn in_escaped(front: &[u8], byte: u8) -> Option<State>
     if byte == b'<' {
         None
     } else if ends_tag(b"</script", front, byte) {
-        Some(in_tag(byte, State::TagName))
+        Some(in_tag(byte, TagName))
     } else if ends_tag(b"<script", front, byte) {
-        Some(State::ScriptDoubleEscaped)
+        Some(ScriptDoubleEscaped)
     } else if byte == b'>' && front.ends_with(b"--") {
-        Some(State::Raw(RawElement::Script))
+        Some(Raw(RawElement::Script))
     } else {
-        Some(State::ScriptEscaped)
+        Some(ScriptEscaped)
     }
 }
 
@@ -224,11 +225,11 @@ fn in_double_escaped(front: &[u8], byte: u8) -> Option<State>
     if byte == b'<' {
         None
     } else if ends_tag(b"</script", front, byte) {
-        Some(State::ScriptEscaped)
+        Some(ScriptEscaped)
     } else if byte == b'>' && front.ends_with(b"--") {
-        Some(State::Raw(RawElement::Script))
+        Some(Raw(RawElement::Script))
     } else {
-        Some(State::ScriptDoubleEscaped)
+        Some(ScriptDoubleEscaped)
     }
 }
 
@@ -263,11 +264,7 @@ const fn on_either(
 fn in_data(byte: u8) -> Option<State>
     ensures { result ≡ (if ends_text byte then None else Some Data) }
 {
-    if ends_text(byte) {
-        None
-    } else {
-        Some(State::Data)
-    }
+    if ends_text(byte) { None } else { Some(Data) }
 }
 
 // In a reference, after its `&`.
@@ -276,7 +273,7 @@ fn in_reference(byte: u8) -> Option<State>
     ensures { result ≡ next Html false CharacterReference [] byte }
 {
     if is_alphanumeric(byte) || byte == b'#' {
-        Some(State::ReferenceName)
+        Some(ReferenceName)
     } else {
         None
     }
@@ -288,9 +285,9 @@ fn in_reference_name(byte: u8) -> Option<State>
     ensures { result ≡ next Html false ReferenceName [] byte }
 {
     if is_alphanumeric(byte) {
-        Some(State::ReferenceName)
+        Some(ReferenceName)
     } else if byte == b';' {
-        Some(State::ReferenceEnd)
+        Some(ReferenceEnd)
     } else {
         None
     }
@@ -302,16 +299,16 @@ fn in_tag_open(form: PageForm, byte: u8) -> Option<State>
     ensures { result ≡ next form false TagOpen [] byte }
 {
     if is_name_start(form, byte) {
-        Some(State::TagName)
+        Some(TagName)
     } else if byte == b'/' {
-        Some(State::EndTagOpen)
+        Some(EndTagOpen)
     } else if byte == b'!' {
-        Some(State::MarkupDeclarationOpen)
+        Some(MarkupDeclarationOpen)
     } else if byte == b'?' {
         Some(if form.is_xml() {
-            State::ProcessingInstruction
+            ProcessingInstruction
         } else {
-            State::BogusComment
+            BogusComment
         })
     } else {
         None
@@ -324,11 +321,11 @@ fn in_end_tag_open(form: PageForm, byte: u8) -> Option<State>
     ensures { result ≡ next form false EndTagOpen [] byte }
 {
     if is_name_start(form, byte) {
-        Some(State::TagName)
+        Some(TagName)
     } else if byte == b'>' {
-        Some(State::MarkupEnd)
+        Some(MarkupEnd)
     } else {
-        Some(State::BogusComment)
+        Some(BogusComment)
     }
 }
 
@@ -338,9 +335,9 @@ fn in_self_closing_tag(byte: u8) -> Option<State>
     ensures { result ≡ next Html false SelfClosingTag [] byte }
 {
     if byte == b'>' {
-        Some(State::EmptyTagEnd)
+        Some(EmptyTagEnd)
     } else {
-        Some(in_tag(byte, State::AttributeName))
+        Some(in_tag(byte, AttributeName))
     }
 }
 
@@ -348,14 +345,7 @@ fn in_self_closing_tag(byte: u8) -> Option<State>
 const fn in_declaration(byte: u8, dash: State) -> Option<State>
     ensures { result ≡ (if byte == 45 then Some dash else if byte == 62 then Some MarkupEnd else Some BogusComment) }
 {
-    on_either(
-        byte,
-        b'-',
-        dash,
-        b'>',
-        State::MarkupEnd,
-        State::BogusComment,
-    )
+    on_either(byte, b'-', dash, b'>', MarkupEnd, BogusComment)
 }
 
 // In a declaration that is no comment.
@@ -364,13 +354,13 @@ fn in_bogus_comment(form: PageForm, foreign: bool, front: &[u8], byte: u8) -> Op
     ensures { result ≡ next form foreign BogusComment front.now byte }
 {
     if byte == b'>' {
-        Some(State::MarkupEnd)
+        Some(MarkupEnd)
     } else if byte == b'[' && (form.is_xml() || foreign) && front == b"<![CDATA".as_slice() {
-        Some(State::CdataSection)
+        Some(CdataSection)
     } else if byte == b'[' && form.is_xml() {
-        Some(State::DoctypeSubset)
+        Some(DoctypeSubset)
     } else {
-        Some(State::BogusComment)
+        Some(BogusComment)
     }
 }
 
@@ -380,11 +370,11 @@ fn in_doctype_subset_end(byte: u8) -> Option<State>
     ensures { result ≡ next Html false DoctypeSubsetEnd [] byte }
 {
     if byte == b'>' {
-        Some(State::MarkupEnd)
+        Some(MarkupEnd)
     } else if byte == b']' || is_white_space(byte) {
-        Some(State::DoctypeSubsetEnd)
+        Some(DoctypeSubsetEnd)
     } else {
-        Some(State::DoctypeSubset)
+        Some(DoctypeSubset)
     }
 }
 
@@ -395,9 +385,9 @@ const fn in_comment_start(form: PageForm, byte: u8, dash: State) -> Option<State
     Some(if byte == b'-' {
         dash
     } else if byte == b'>' && !form.is_xml() {
-        State::MarkupEnd
+        MarkupEnd
     } else {
-        State::Comment
+        Comment
     })
 }
 
@@ -407,13 +397,13 @@ fn in_comment_end(form: PageForm, byte: u8) -> Option<State>
     ensures { result ≡ next form false CommentEnd [] byte }
 {
     Some(if byte == b'>' {
-        State::MarkupEnd
+        MarkupEnd
     } else if byte == b'!' && !form.is_xml() {
-        State::CommentEndBang
+        CommentEndBang
     } else if byte == b'-' {
-        State::CommentEnd
+        CommentEnd
     } else {
-        State::Comment
+        Comment
     })
 }
 
@@ -426,85 +416,53 @@ pub fn next(form: PageForm, foreign: bool, state: State, front: &[u8], byte: u8)
     ensures { result ≡ next form foreign state front.now byte }
 {
     match state {
-        State::Data => in_data(byte),
-        State::CharacterReference => in_reference(byte),
-        State::ReferenceName => in_reference_name(byte),
-        State::TagOpen => in_tag_open(form, byte),
-        State::EndTagOpen => in_end_tag_open(form, byte),
-        State::TagName => Some(in_tag(byte, State::TagName)),
-        State::BeforeAttributeName => Some(in_tag(byte, State::AttributeName)),
-        State::AttributeName | State::AfterAttributeName => Some(in_attribute(byte)),
-        State::BeforeAttributeValue => Some(before_value(byte)),
-        State::DoubleQuotedValue => {
-            on_byte(
-                byte,
-                b'"',
-                State::AfterQuotedValue,
-                State::DoubleQuotedValue,
-            )
-        }
-        State::SingleQuotedValue => {
-            on_byte(
-                byte,
-                b'\'',
-                State::AfterQuotedValue,
-                State::SingleQuotedValue,
-            )
-        }
-        State::UnquotedValue => Some(in_unquoted_value(byte)),
-        State::AfterQuotedValue => Some(in_tag(byte, State::AttributeName)),
-        State::SelfClosingTag => in_self_closing_tag(byte),
-        State::MarkupDeclarationOpen => in_declaration(byte, State::MarkupDeclarationDash),
-        State::MarkupDeclarationDash => in_declaration(byte, State::CommentStart),
-        State::BogusComment => in_bogus_comment(form, foreign, front, byte),
-        State::DoctypeSubset => on_byte(byte, b']', State::DoctypeSubsetEnd, State::DoctypeSubset),
-        State::DoctypeSubsetEnd => in_doctype_subset_end(byte),
-        State::ProcessingInstruction => on_byte(
+        Data => in_data(byte),
+        CharacterReference => in_reference(byte),
+        ReferenceName => in_reference_name(byte),
+        TagOpen => in_tag_open(form, byte),
+        EndTagOpen => in_end_tag_open(form, byte),
+        TagName => Some(in_tag(byte, TagName)),
+        BeforeAttributeName => Some(in_tag(byte, AttributeName)),
+        AttributeName | AfterAttributeName => Some(in_attribute(byte)),
+        BeforeAttributeValue => Some(before_value(byte)),
+        DoubleQuotedValue => { on_byte(byte, b'"', AfterQuotedValue, DoubleQuotedValue) }
+        SingleQuotedValue => { on_byte(byte, b'\'', AfterQuotedValue, SingleQuotedValue) }
+        UnquotedValue => Some(in_unquoted_value(byte)),
+        AfterQuotedValue => Some(in_tag(byte, AttributeName)),
+        SelfClosingTag => in_self_closing_tag(byte),
+        MarkupDeclarationOpen => in_declaration(byte, MarkupDeclarationDash),
+        MarkupDeclarationDash => in_declaration(byte, CommentStart),
+        BogusComment => in_bogus_comment(form, foreign, front, byte),
+        DoctypeSubset => on_byte(byte, b']', DoctypeSubsetEnd, DoctypeSubset),
+        DoctypeSubsetEnd => in_doctype_subset_end(byte),
+        ProcessingInstruction => on_byte(
             byte,
             b'?',
-            State::ProcessingInstructionMark,
-            State::ProcessingInstruction,
+            ProcessingInstructionMark,
+            ProcessingInstruction,
         ),
-        State::ProcessingInstructionMark => on_either(
+        ProcessingInstructionMark => on_either(
             byte,
             b'>',
-            State::MarkupEnd,
+            MarkupEnd,
             b'?',
-            State::ProcessingInstructionMark,
-            State::ProcessingInstruction,
+            ProcessingInstructionMark,
+            ProcessingInstruction,
         ),
-        State::CommentStart => in_comment_start(form, byte, State::CommentStartDash),
-        State::CommentStartDash => in_comment_start(form, byte, State::CommentEnd),
-        State::Comment => on_byte(byte, b'-', State::CommentEndDash, State::Comment),
-        State::CommentEndDash => on_byte(byte, b'-', State::CommentEnd, State::Comment),
-        State::CommentEnd => in_comment_end(form, byte),
-        State::CommentEndBang => on_either(
-            byte,
-            b'-',
-            State::CommentEndDash,
-            b'>',
-            State::MarkupEnd,
-            State::Comment,
-        ),
-        State::CdataSection => {
-            on_byte(byte, b']', State::CdataSectionBracket, State::CdataSection)
-        }
-        State::CdataSectionBracket => {
-            on_byte(byte, b']', State::CdataSectionEnd, State::CdataSection)
-        }
-        State::CdataSectionEnd => on_either(
-            byte,
-            b']',
-            State::CdataSectionEnd,
-            b'>',
-            State::MarkupEnd,
-            State::CdataSection,
-        ),
-        State::Raw(element) => in_raw(element, front, byte),
-        State::ScriptEscaped => in_escaped(front, byte),
-        State::ScriptDoubleEscaped => in_double_escaped(front, byte),
-        State::Plaintext => Some(State::Plaintext),
-        State::ReferenceEnd | State::TagEnd | State::EmptyTagEnd | State::MarkupEnd => None,
+        CommentStart => in_comment_start(form, byte, CommentStartDash),
+        CommentStartDash => in_comment_start(form, byte, CommentEnd),
+        Comment => on_byte(byte, b'-', CommentEndDash, Comment),
+        CommentEndDash => on_byte(byte, b'-', CommentEnd, Comment),
+        CommentEnd => in_comment_end(form, byte),
+        CommentEndBang => on_either(byte, b'-', CommentEndDash, b'>', MarkupEnd, Comment),
+        CdataSection => { on_byte(byte, b']', CdataSectionBracket, CdataSection) }
+        CdataSectionBracket => { on_byte(byte, b']', CdataSectionEnd, CdataSection) }
+        CdataSectionEnd => on_either(byte, b']', CdataSectionEnd, b'>', MarkupEnd, CdataSection),
+        Raw(element) => in_raw(element, front, byte),
+        ScriptEscaped => in_escaped(front, byte),
+        ScriptDoubleEscaped => in_double_escaped(front, byte),
+        Plaintext => Some(Plaintext),
+        ReferenceEnd | TagEnd | EmptyTagEnd | MarkupEnd => None,
     }
 }
 
@@ -573,15 +531,14 @@ fn kind_of(state: State, front: &[u8]) -> PieceKind
     ensures { result ≡ kind_of state front.now }
 {
     match state {
-        State::Data => PieceKind::Text,
-        State::CharacterReference | State::ReferenceName | State::ReferenceEnd =>
-            PieceKind::Reference,
-        State::TagEnd => if is_end_tag(front) {
+        Data => PieceKind::Text,
+        CharacterReference | ReferenceName | ReferenceEnd => PieceKind::Reference,
+        TagEnd => if is_end_tag(front) {
             PieceKind::EndTag
         } else {
             PieceKind::StartTag
         },
-        State::EmptyTagEnd => if is_end_tag(front) {
+        EmptyTagEnd => if is_end_tag(front) {
             PieceKind::EndTag
         } else {
             PieceKind::EmptyTag
@@ -603,11 +560,11 @@ fn content_of(name: &[u8]) -> State
     ensures { result ≡ content_of name.now }
 {
     if is_same_name(name, b"plaintext") {
-        return State::Plaintext;
+        return Plaintext;
     }
     match raw_element(name) {
-        Some(element) => State::Raw(element),
-        None => State::Data,
+        Some(element) => Raw(element),
+        None => Data,
     }
 }
 
@@ -616,7 +573,7 @@ fn content_after_tag(form: PageForm, foreign: bool, tag: &[u8]) -> State
     ensures { result ≡ content_after_tag form foreign tag.now }
 {
     if form.is_xml() || foreign || is_end_tag(tag) {
-        State::Data
+        Data
     } else {
         content_of(name_of(tag))
     }
@@ -628,12 +585,12 @@ fn content_after(form: PageForm, foreign: bool, state: State, front: &[u8]) -> S
     ensures { result ≡ content_after form foreign state front.now }
 {
     match state {
-        State::TagEnd | State::EmptyTagEnd => content_after_tag(form, foreign, front),
-        State::Raw(element) => State::Raw(element),
-        State::ScriptEscaped => State::ScriptEscaped,
-        State::ScriptDoubleEscaped => State::ScriptDoubleEscaped,
-        State::Plaintext => State::Plaintext,
-        _ => State::Data,
+        TagEnd | EmptyTagEnd => content_after_tag(form, foreign, front),
+        Raw(element) => Raw(element),
+        ScriptEscaped => ScriptEscaped,
+        ScriptDoubleEscaped => ScriptDoubleEscaped,
+        Plaintext => Plaintext,
+        _ => Data,
     }
 }
 
@@ -644,7 +601,7 @@ fn depth_after(depth: usize, state: State, front: &[u8]) -> usize
     ensures { result ≡ depth_after depth state front.now }
 {
     match state {
-        State::TagEnd => {
+        TagEnd => {
             if !is_foreign_root(name_of(front)) {
                 depth
             } else if is_end_tag(front) {
@@ -653,7 +610,7 @@ fn depth_after(depth: usize, state: State, front: &[u8]) -> usize
                 depth + 1
             }
         }
-        State::EmptyTagEnd => {
+        EmptyTagEnd => {
             if is_foreign_root(name_of(front)) && is_end_tag(front) {
                 depth.saturating_sub(1)
             } else {
@@ -670,13 +627,13 @@ fn begin(content: State, byte: u8) -> State
     ensures { result ≡ begin content byte }
 {
     match content {
-        State::Data => {
+        Data => {
             if byte == b'<' {
-                State::TagOpen
+                TagOpen
             } else if byte == b'&' {
-                State::CharacterReference
+                CharacterReference
             } else {
-                State::Data
+                Data
             }
         }
         _ => content,
@@ -688,11 +645,11 @@ pub(crate) fn is_quiet(state: State, byte: u8) -> bool
     ensures { result ≡ is_quiet state byte }
 {
     match state {
-        State::Data => byte != b'<' && byte != b'&',
-        State::TagName | State::AttributeName | State::Raw(_) => is_alphanumeric(byte),
-        State::DoubleQuotedValue => byte != b'"',
-        State::SingleQuotedValue => byte != b'\'',
-        State::Comment => byte != b'-',
+        Data => byte != b'<' && byte != b'&',
+        TagName | AttributeName | Raw(_) => is_alphanumeric(byte),
+        DoubleQuotedValue => byte != b'"',
+        SingleQuotedValue => byte != b'\'',
+        Comment => byte != b'-',
         _ => false,
     }
 }
@@ -770,11 +727,11 @@ fn quiet_length(state: State, bytes: &[u8]) -> usize
     ensures quiet { AreQuiet state bytes.now 0 result }
 {
     match state {
-        State::Data => text_length(bytes),
-        State::DoubleQuotedValue => length_before(b'"', bytes),
-        State::SingleQuotedValue => length_before(b'\'', bytes),
-        State::Comment => length_before(b'-', bytes),
-        State::TagName | State::AttributeName | State::Raw(_) => alphanumeric_length(bytes),
+        Data => text_length(bytes),
+        DoubleQuotedValue => length_before(b'"', bytes),
+        SingleQuotedValue => length_before(b'\'', bytes),
+        Comment => length_before(b'-', bytes),
+        TagName | AttributeName | Raw(_) => alphanumeric_length(bytes),
         _ => 0,
     }
 }
@@ -800,7 +757,7 @@ pub fn pieces(alloc: Global, form: PageForm, page: &str) -> Result<Vec<Piece<'_>
     if bytes.is_empty() {
         return Ok(pieces);
     }
-    let mut state = begin(State::Data, bytes[0]);
+    let mut state = begin(Data, bytes[0]);
     let mut depth = 0;
     let mut start = 0;
     let mut i = 1;

@@ -12,8 +12,6 @@ use Rattle.hyphenation_html.proofs.MarkedPages.{page_marked, page_without}
 use Rattle.hyphenation_html.proofs.KeptForms.{form_kept, languages_kept}
 use Rattle.hyphenation_html.proofs.SecondPages.{page_done}
 use Rattle.hyphenation_html.specs.Places.{places_of}
-use Rattle.std.proofs.lemmas.Str.{IsUtf8-string_bytes}
-use Rattle.html_pieces.specs.declared.bytes.PageForm.TheVariants.{Xml}
 use Rattle.hyphenation_html.specs.Private.Marked.{marked_pieces}
 use Rattle.hyphenation_html.proofs.MarksInText.{page_in_text}
 use Rattle.hyphenation_html.proofs.page.hyphenate_html.Goals as goal
@@ -56,7 +54,7 @@ returns-clause-twice c = λ e.
     let bytes = string_bytes output in
     let by_soft = is ∙ ap (λ m. marked_pieces languages m (form_of page) settings.class.now (page_element language) (at_start (form_of page) pieces) false pieces) e in
     let done = page_done laws languages (form_of page) settings.class.now language page bytes c.all_fit.ensures utf8 (c.other_texts_are_cut_alike.ensures (form_of page) page) by_soft in
-    let form = form_kept laws c.other_texts_leave_the_form.ensures languages settings.class.now language page bytes c.all_fit.ensures utf8 c.invariant.ensures (IsUtf8-string_bytes output) (c.pieces_join.ensures Xml page) by_soft in (
+    let form = form_kept laws c.other_texts_leave_the_form.ensures languages settings.class.now language page bytes c.all_fit.ensures utf8 by_soft in (
       languages_kept laws languages settings.class.now language page bytes c.all_fit.ensures utf8 (c.other_texts_are_cut_alike.ensures (form_of page) page) form by_soft,
       ap (λ f. with_marks settings.mark.now bytes (places_of languages f settings.class.now language bytes)) form ∙ ap (with_marks settings.mark.now bytes) done,
     )) c.page_with_marks.ensures
