@@ -1,51 +1,19 @@
--- Words of ASCII: characters are bytes, there are no soft hyphens, and folding moves no place.
-use Rattle.std.proofs.Common.{◌≡◌, ℕ, suc, ◌-◌, ◌<◌, ◌≤◌, ◌==◌, not, ◌⊎◌, max, true, false, cond, nat_le, leb-true, List, [], ◌∷◌, length, map, take, chars, slice_index, Some, None, refl, sym, ap, subst, ◌∙◌, arith}
-use Rattle.std.specs.Char.{encode_utf8, is_ascii_lowercase, is_ascii_uppercase, to_ascii_lowercase}
-use Rattle.std.specs.List.{list_all, list_any}
+-- Words of ASCII: characters are bytes, and so are those of their folding.
+use Rattle.std.proofs.Common.{◌≡◌, ℕ, suc, ◌-◌, ◌<◌, ◌≤◌, ◌==◌, not, ◌⊎◌, max, true, false, cond, nat_le, leb-true, List, [], ◌∷◌, length, map, take, Some, None, refl, sym, ap, subst, ◌∙◌, arith}
+use Rattle.std.specs.Char.{encode_utf8, is_ascii_uppercase, to_ascii_lowercase}
 use Rattle.std.specs.Str.{IsAscii, encode_utf8_all}
 use Rattle.std.proofs.lemmas.Bool.{and_parts}
-use Rattle.std.proofs.lemmas.List.{length-map, length-take-le}
-use Rattle.std.proofs.lemmas.Str.{chars-IsAscii, encodes-IsAscii, encode_ascii, IsAscii-take, IsUtf8-from_ascii}
-use Rattle.std.proofs.lemmas.Str.Ascii.{IsAscii-cons, IsAscii-nil, IsAscii-map, lowercase_ascii}
+use Rattle.std.proofs.lemmas.List.{length-take-le}
+use Rattle.std.proofs.lemmas.Str.{chars-IsAscii, encodes-IsAscii, encode_ascii, IsAscii-take}
+use Rattle.std.proofs.lemmas.Str.Ascii.{IsAscii-map, lowercase_ascii}
 use Rattle.unicode.specs.Binary.{is_uppercase}
 use Rattle.unicode.specs.CaseFolding.{simple_fold}
-use Rattle.hyphenation_breaks.specs.Break.{Break}
 use Rattle.hyphenation_hyphenator.specs.Boundaries.{boundaries}
-use Rattle.hyphenation_hyphenator.specs.Fitting.{kept_breaks, fitted_breaks_of}
-use Rattle.hyphenation_hyphenator.specs.Private.Fitting.{range_holds_no_shift}
-use Rattle.hyphenation_hyphenator.specs.Folding.{fold_character, fold_case, carried_back, shifts_of}
-use Rattle.hyphenation_hyphenator.specs.Opportunities.{Rules, opportunities, Ascending}
+use Rattle.hyphenation_hyphenator.specs.Folding.{fold_character, fold_case}
 use Rattle.hyphenation_hyphenator.specs.Places.{place_of_character}
 use Rattle.hyphenation_hyphenator.proofs.CapitalRanges.{is_uppercase_ascii}
 use Rattle.hyphenation_hyphenator.proofs.CharacterPlaces.{bounds_met, bounds_missed}
 use Rattle.hyphenation_hyphenator.proofs.FoldingRows.{capitals_fold}
-use Rattle.hyphenation_hyphenator.proofs.Folds.{fold_stays}
-use Rattle.hyphenation_hyphenator.proofs.Shifts.{no_shifts}
-use Rattle.hyphenation_hyphenator.proofs.SoftHyphens.{none_in_ascii}
-use Rattle.hyphenation_hyphenator.proofs.UnmovedPlaces.{breaks_where_unmoved}
-
--- ---- letters a to z
-
-letter_below : (c : ℕ) → is_ascii_lowercase c ≡ true → c < 128
-letter_below c e = let parts = and_parts (nat_le 97 c) (nat_le c 122) e in omega (arith, leb-true c 122 parts.1)
-
-letter_is_small : (c : ℕ) → is_ascii_lowercase c ≡ true → is_ascii_uppercase c ≡ false
-letter_is_small c e = let parts = and_parts (nat_le 97 c) (nat_le c 122) e in let low = leb-true 97 c parts.0 in grind (arith)
-
-pub ascii_lowercase_ascii : (word : List ℕ) → list_all is_ascii_lowercase word ≡ true → IsAscii word
-ascii_lowercase_ascii [] e = IsAscii-nil
-ascii_lowercase_ascii (c ∷ cs) e = let parts = and_parts (is_ascii_lowercase c) (list_all is_ascii_lowercase cs) e in IsAscii-cons c cs (letter_below c parts.0) (ascii_lowercase_ascii cs parts.1)
-
-small_letters : (word : List ℕ) → list_all is_ascii_lowercase word ≡ true → list_any is_uppercase word ≡ false
-small_letters [] e = refl
-small_letters (c ∷ cs) e =
-    let parts = and_parts (is_ascii_lowercase c) (list_all is_ascii_lowercase cs) e in
-    rw (sym (is_uppercase_ascii c (letter_below c parts.0)) ∙ letter_is_small c parts.0) (small_letters cs parts.1)
-
-pub ascii_lowercase_fold : (word : List ℕ) → list_all is_ascii_lowercase word ≡ true → fold_case word ≡ word
-ascii_lowercase_fold word e =
-    let ascii = ascii_lowercase_ascii word e in
-    fold_stays word (IsUtf8-from_ascii word ascii) (ap (list_any is_uppercase) (chars-IsAscii word ascii) ∙ small_letters word e)
 
 -- ---- the folding of ASCII
 
@@ -78,16 +46,8 @@ ascii_fold word a =
 pub fold_is_ascii : (word : List ℕ) → IsAscii word → IsAscii (fold_case word)
 fold_is_ascii word a = subst IsAscii (sym (ascii_fold word a)) (small_ascii word a)
 
-as_long : (word : List ℕ) → IsAscii word → length (fold_case word) ≡ length word
-as_long word a = ap length (ascii_fold word a) ∙ length-map word to_ascii_lowercase
-
 pub keeps_length : (c : ℕ) → c < 128 → not (length (encode_utf8 (fold_character c)) == length (encode_utf8 c)) ≡ false
 keeps_length c lt = rw (folds_small c lt, encode_ascii (to_ascii_lowercase c) (lowercase_ascii c lt), encode_ascii c lt) refl
-
-pub ascii_no_shifts : (word : List ℕ) → IsAscii word → shifts_of word ≡ []
-ascii_no_shifts word a =
-    no_shifts word (length (chars word))
-    (λ j l. ap (λ cs. let c = slice_index cs j in not (length (encode_utf8 (fold_character c)) == length (encode_utf8 c))) (chars-IsAscii word a) ∙ keeps_length (slice_index word j) (a j))
 
 -- ---- places
 
@@ -103,16 +63,3 @@ ascii_bounds l r word a below room =
 
 pub ascii_no_bounds : (l r : ℕ) (word : List ℕ) → IsAscii word → (length word ≤ l) ⊎ (length word - l < r) → boundaries l r word ≡ None
 ascii_no_bounds l r word a miss = bounds_missed l r (length word) word (sym (ap length (chars-IsAscii word a))) miss
-
-ascii_carried : (word : List ℕ) (p : ℕ) → IsAscii word → p ≤ length (fold_case word) → carried_back word p ≡ p
-ascii_carried word p a le =
-    let small = fold_is_ascii word a in
-    let count : length (chars (take p (fold_case word))) ≡ p = ap length (chars-IsAscii (take p (fold_case word)) (IsAscii-take (fold_case word) p small)) ∙ length-take-le p (fold_case word) le in
-    ap (place_of_character word) count ∙ ascii_place word p a (omega (arith, as_long word a))
-
--- ---- breaks
-
-pub ascii_breaks : (rules : Rules) (word folded : List ℕ) (kept : List Break) → IsAscii word → folded ≡ fold_case word → Ascending (fold_case word) (opportunities rules (fold_case word))
-    → kept ≡ kept_breaks (range_holds_no_shift (length folded) []) (opportunities rules folded) → kept ≡ fitted_breaks_of rules word
-ascii_breaks rules word folded kept a folded_is ascend is =
-    breaks_where_unmoved rules word folded kept (ascii_no_shifts word a) (none_in_ascii word a) (λ p at. ascii_carried word p a at.0) folded_is ascend is

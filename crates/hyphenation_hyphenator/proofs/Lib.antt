@@ -2,7 +2,6 @@ pub mod CharacterPlaces
 pub mod PlacesFromEnd
 pub mod Places
 pub mod Ascending
-pub mod ListEnds
 pub mod NumberedCharacters
 pub mod FoldingRows
 pub mod Folds
@@ -23,7 +22,6 @@ pub mod UnmovedPlaces
 pub mod CapitalRanges
 pub mod AsciiWords
 pub mod CommonLowercase
-pub mod CyrillicLetters
 pub mod InPlace
 pub mod OddPlaces
 pub mod PlacesByRanks

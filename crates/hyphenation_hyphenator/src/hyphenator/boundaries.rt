@@ -31,31 +31,26 @@ pub fn boundaries_of(minima: (usize, usize), word: &str) -> Option<(usize, usize
     Some((first, last))
 }
 
-// Whether a word of ASCII, whose characters are its bytes, has no boundaries.
+// Returns the boundaries of a word. Those of a word that is known to be ASCII, whose characters are its bytes, are found
+// without reading it.
 #[inline(always)]
-pub(super) fn is_short_ascii(minima: (usize, usize), word: &str) -> bool
-    requires { IsAscii word.now }
-    ensures short { IsTrue result → boundaries minima.0 minima.1 word.now ≡ None }
-    ensures long { result ≡ false → (minima.0 < length word.now) × (minima.1 ≤ length word.now - minima.0) }
+pub(super) fn boundaries_where(
+    is_ascii: bool,
+    minima: (usize, usize),
+    word: &str,
+) -> Option<(usize, usize)>
+    requires { IsTrue is_ascii → IsAscii word.now }
+    ensures { result ≡ boundaries minima.0 minima.1 word.now }
 {
+    if !is_ascii {
+        return boundaries_of(minima, word);
+    }
     let (left, right) = minima;
     let bytes = word.len();
     if bytes <= left || bytes - left < right {
-        return true;
+        return None;
     }
-    false
-}
-
-// Returns the boundaries of a word of ASCII that is long enough.
-#[inline(always)]
-pub(super) fn boundaries_of_long_ascii(minima: (usize, usize), word: &str) -> (usize, usize)
-    requires ascii { IsAscii word.now }
-    requires left { minima.0 < length word.now }
-    requires right { minima.1 ≤ length word.now - minima.0 }
-    ensures { boundaries minima.0 minima.1 word.now ≡ Some result }
-{
-    let (left, right) = minima;
-    (left, word.len() - right.max(1))
+    Some((left, bytes - right.max(1)))
 }
 
 // Returns the place of a character by its number from 0, or the text's end where there are not that many.

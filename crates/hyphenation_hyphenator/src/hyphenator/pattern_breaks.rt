@@ -105,32 +105,8 @@ fn winning_breaks_with_buffer<'h>(
 }
 
 // Puts the breaks within bounds that the patterns of an extended dictionary allow into an empty list, with the changes
-// of the winners. It is kept out of line, since few words are so long that their winners are not set at once.
+// of the winners. It is kept out of line, since few words have such breaks where there is a table.
 #[inline(never)]
-fn winning_breaks_of_long<'h>(
-    patterns: &'h Automaton<Entry<Option<Subregion>>>,
-    word: &str,
-    bounds: (usize, usize),
-    breaks: &mut Vec<(usize, Option<&'h Subregion>)>,
-) -> Result<(), AllocError>
-    requires each_begins_key { EachBeginsKey patterns.now }
-    requires empty { breaks.old.items ≡ [] }
-    ensures { OnOk result (map borrowed_break breaks.new.items
-        ≡ breaks_by_keys own_change (entries_of_key patterns.now) word.now bounds) }
-{
-    let places = word.len().saturating_sub(1);
-    if places <= 32 {
-        let mut winners: [Option<&'h Entry<Option<Subregion>>>; 32] = [None; 32];
-        return winning_breaks_with_buffer(patterns, word, &mut winners[..places], bounds, breaks);
-    }
-    let mut winners: Vec<Option<&'h Entry<Option<Subregion>>>> =
-        vec![in *breaks.allocator(); None; places]?;
-    winning_breaks_with_buffer(patterns, word, &mut winners, bounds, breaks)
-}
-
-// Puts the breaks within bounds that the patterns of an extended dictionary allow into an empty list, with the changes
-// of the winners.
-#[inline(always)]
 fn winning_breaks<'h>(
     patterns: &'h Automaton<Entry<Option<Subregion>>>,
     word: &str,
@@ -143,12 +119,14 @@ fn winning_breaks<'h>(
         ≡ breaks_by_keys own_change (entries_of_key patterns.now) word.now bounds) }
 {
     let places = word.len().saturating_sub(1);
-    if places <= 16 {
-        // The winners of most words are on the stack. So few are set to `None` without a call.
-        let mut winners: [Option<&'h Entry<Option<Subregion>>>; 16] = [None; 16];
+    if places <= 32 {
+        // The winners of most words are on the stack.
+        let mut winners: [Option<&'h Entry<Option<Subregion>>>; 32] = [None; 32];
         return winning_breaks_with_buffer(patterns, word, &mut winners[..places], bounds, breaks);
     }
-    winning_breaks_of_long(patterns, word, bounds, breaks)
+    let mut winners: Vec<Option<&'h Entry<Option<Subregion>>>> =
+        vec![in *breaks.allocator(); None; places]?;
+    winning_breaks_with_buffer(patterns, word, &mut winners, bounds, breaks)
 }
 
 // Reports whether a place within bounds may have a break with a change: its value is odd, and so is its rank. The ranks

@@ -1,12 +1,10 @@
 //! Finding the breaks of a word, for both kinds of dictionaries.
 //!
-//! The calls for lowercase words come first. Then come the paths of a word as written, a fast one for each sort of
-//! words that is common.
+//! The calls for lowercase words come first. Then come the two paths of a word as written: short words whose folding moves
+//! no place, as that of most words, and any.
 
-ghost use Rattle.std.specs.Prelude.{◌≡◌, ◌≤◌, [], true, ◌-◌, ◌<◌, ◌&&◌, length, map, take};
+ghost use Rattle.std.specs.Prelude.{◌≡◌, ◌≤◌, [], length, map};
 ghost use Rattle.std.specs.Prelude.{Option, Some, None, IsTrue, IfOk, OnOk, OnErr, IfSome};
-ghost use Rattle.std.specs.Char.{is_ascii_lowercase, to_ascii_lowercase};
-ghost use Rattle.std.specs.List.{list_all};
 ghost use Rattle.std.specs.List.Sorted.{IsNonDecreasingBy};
 ghost use Rattle.std.specs.Option.{option_map};
 ghost use Rattle.std.specs.Str.{IsAscii};
@@ -16,19 +14,17 @@ ghost use Rattle.hyphenation_hyphenator.specs.Folding.{shifts_of};
 ghost use Rattle.hyphenation_hyphenator.specs.Fitting.{kept_breaks, fitted_breaks_of, KeepRanges};
 ghost use Rattle.hyphenation_hyphenator.specs.Private.Fitting.{range_holds_no_shift, kept_by_shifts};
 ghost use Rattle.hyphenation_hyphenator.specs.Private.Fitting.{kept_opportunities, realigned_breaks};
-ghost use Rattle.hyphenation_hyphenator.specs.Private.CommonLowercase.{are_common_lowercase};
 ghost use Rattle.hyphenation_hyphenator.specs.Opportunities.{rules_of, within, breaks_within, by_patterns};
 ghost use Rattle.hyphenation_hyphenator.specs.Opportunities.{by_exception, exception_within_boundaries, opportunities_in};
 ghost use Rattle.hyphenation_hyphenator.specs.Opportunities.{opportunities, HasBreaks, HasBreaksIfAny, Ascending};
 ghost use Rattle.hyphenation_hyphenator.specs.Private.Opportunities.{realigned_break};
 
-use super::ascii_lowercase::are_ascii_lowercase;
-use super::boundaries::{boundaries_of_long_ascii, is_short_ascii};
-use super::boundaries_of;
+use super::boundaries::{boundaries_of, boundaries_where};
 use super::break_kind::BreakKind;
 use super::found_break::FoundBreak;
 use super::pattern_breaks::{is_within, push_with_room};
-use crate::case_folding::{Shift, are_common_lowercase, fold_in_place, realign_sorted, refold};
+use crate::case_folding::{Shift, realign_sorted, refold};
+use crate::short_words::fold_in_place;
 use crate::soft_hyphens::soft_hyphen_indices;
 use hyphenation_breaks::breaks::Break;
 use hyphenation_breaks::entry::{Entry, Payload};
@@ -151,21 +147,22 @@ fn opportunities_in<'h, F: BreakKind<'h>>(
     }
 }
 
-// Puts the breaks of a lowercase word, within its boundaries, into an empty list. It is kept out of line, so that the
-// scoring loop has all registers.
-#[inline(never)]
+// Puts the breaks of a lowercase word, within its boundaries, into an empty list. The word may be known to be ASCII.
+#[inline(always)]
 #[tactic(auto, unfolding(crate::specs::Opportunities::opportunities))]
 fn put_opportunities<'h, F: BreakKind<'h>>(
     dictionary: &'h Dictionary<F::Payload, F::Listing>,
     word: &str,
+    is_ascii: bool,
     list: &mut Vec<F>,
 ) -> Result<(), AllocError>
-    requires { list.old.items ≡ [] }
+    requires ascii { IsTrue is_ascii → IsAscii word.now }
+    requires empty { list.old.items ≡ [] }
     ensures breaks { OnOk result (map F.meaning list.new.items
         ≡ opportunities (rules_of F.Payload.change_of F.Listing.meaning dictionary.now) word.now) }
     ensures ascend { OnOk result (Ascending word.now (map F.meaning list.new.items)) }
 {
-    let Some(bounds) = boundaries_of(dictionary.minima(), word) else {
+    let Some(bounds) = boundaries_where(is_ascii, dictionary.minima(), word) else {
         return Ok(());
     };
     opportunities_in(dictionary, word, bounds, list)
@@ -182,7 +179,7 @@ pub(crate) fn opportunities<'h, F: BreakKind<'h>>(
     ensures ascend { IfOk result (λ v. Ascending word.now (map F.meaning v.items)) }
 {
     let mut list = Vec::new(alloc);
-    put_opportunities(dictionary, word, &mut list)?;
+    put_opportunities(dictionary, word, false, &mut list)?;
     Ok(list)
 }
 
@@ -194,100 +191,6 @@ pub(crate) fn realign_all<'h, F: BreakKind<'h>>(breaks: &mut [F], shifts: &[Shif
     for b in breaks {
         *b = b.at_place(realign_sorted(b.place(), shifts));
     }
-}
-
-// Puts the breaks of a folded word of ASCII, where the folding moved nothing, into an empty list.
-#[inline(always)]
-#[tactic(auto, unfolding(crate::specs::Opportunities::opportunities, crate::specs::Fitting::kept_breaks))]
-fn breaks_of_folded_ascii<'h, F: BreakKind<'h>>(
-    dictionary: &'h Dictionary<F::Payload, F::Listing>,
-    folded: &str,
-    list: &mut Vec<F>,
-) -> Result<(), AllocError>
-    requires ascii { IsAscii folded.now }
-    requires empty { list.old.items ≡ [] }
-    ensures { OnOk result (map F.meaning list.new.items
-        ≡ kept_opportunities (rules_of F.Payload.change_of F.Listing.meaning dictionary.now) folded.now []) }
-{
-    let minima = dictionary.minima();
-    if is_short_ascii(minima, folded) {
-        return Ok(());
-    }
-    let bounds = boundaries_of_long_ascii(minima, folded);
-    opportunities_in(dictionary, folded, bounds, list)?;
-    F::keep_fitting(folded, &[], list)
-}
-
-// Does nothing. Its contract is a law: a word of the letters a to z is ASCII.
-#[inline(always)]
-fn ascii_lowercase_is_ascii(word: &str)
-    requires { list_all is_ascii_lowercase word.now ≡ true }
-    ensures { IsAscii word.now }
-{}
-
-// Puts the breaks of a word of the letters a to z into an empty list.
-#[inline(never)]
-fn breaks_of_ascii_lowercase<'h, F: BreakKind<'h>>(
-    dictionary: &'h Dictionary<F::Payload, F::Listing>,
-    word: &str,
-    list: &mut Vec<F>,
-) -> Result<(), AllocError>
-    requires letters { list_all is_ascii_lowercase word.now ≡ true }
-    requires empty { list.old.items ≡ [] }
-    ensures { OnOk result (map F.meaning list.new.items
-        ≡ fitted_breaks_of (rules_of F.Payload.change_of F.Listing.meaning dictionary.now) word.now) }
-{
-    dictionary.invariant();
-    value_is_borne::<F::Payload>();
-    ascii_lowercase_is_ascii(word);
-    breaks_of_folded_ascii(dictionary, word, list)
-}
-
-// Folds a word of ASCII over the first bytes of a buffer. All of the buffer is folded, since that many bytes are folded
-// at once.
-#[inline(always)]
-fn fold_ascii(word: &[u8], buffer: &mut [u8; 64])
-    requires { length word.now ≤ 64 }
-    ensures { take (length word.now) buffer.new ≡ map to_ascii_lowercase word.now }
-{
-    buffer[..word.len()].copy_from_slice(word);
-    buffer.make_ascii_lowercase();
-}
-
-// Puts the breaks of a word of ASCII, which is folded on the stack, into an empty list.
-#[inline(never)]
-fn breaks_of_ascii<'h, F: BreakKind<'h>>(
-    dictionary: &'h Dictionary<F::Payload, F::Listing>,
-    word: &str,
-    list: &mut Vec<F>,
-) -> Result<(), AllocError>
-    requires ascii { IsAscii word.now }
-    requires short { length word.now ≤ 64 }
-    requires empty { list.old.items ≡ [] }
-    ensures { OnOk result (map F.meaning list.new.items
-        ≡ fitted_breaks_of (rules_of F.Payload.change_of F.Listing.meaning dictionary.now) word.now) }
-{
-    dictionary.invariant();
-    value_is_borne::<F::Payload>();
-    let mut buffer = [0u8; 64];
-    fold_ascii(word.as_bytes(), &mut buffer);
-    let folded = unsafe { str::from_utf8_unchecked(&buffer[..word.len()]) };
-    breaks_of_folded_ascii(dictionary, folded, list)
-}
-
-// Puts the breaks of a word of common lowercase letters, which folds to itself, into an empty list.
-fn breaks_of_common_lowercase<'h, F: BreakKind<'h>>(
-    dictionary: &'h Dictionary<F::Payload, F::Listing>,
-    word: &str,
-    list: &mut Vec<F>,
-) -> Result<(), AllocError>
-    requires letters { are_common_lowercase word.now ≡ true }
-    requires empty { list.old.items ≡ [] }
-    ensures { OnOk result (map F.meaning list.new.items
-        ≡ fitted_breaks_of (rules_of F.Payload.change_of F.Listing.meaning dictionary.now) word.now) }
-{
-    put_opportunities(dictionary, word, list)?;
-    F::keep_fitting(word, &[], list)
 }
 
 // Puts the breaks of a folded word, carried back, into an empty list. The shifts of the folding are sorted by their
@@ -303,7 +206,7 @@ fn breaks_of_folded<'h, F: BreakKind<'h>>(
     ensures { OnOk result (map F.meaning list.new.items ≡ realigned_breaks
         (rules_of F.Payload.change_of F.Listing.meaning dictionary.now) folded.now shifts.now) }
 {
-    put_opportunities(dictionary, folded, list)?;
+    put_opportunities(dictionary, folded, false, list)?;
     F::keep_fitting(folded, shifts, list)?;
     realign_all(list, shifts);
     Ok(())
@@ -352,7 +255,7 @@ fn breaks_of_any<'h, F: BreakKind<'h>>(
 }
 
 // Puts the breaks of a word of at most 64 bytes into an empty list. Most such words are folded on the stack, without
-// shifts.
+// shifts. It is kept out of line, so that the scoring loop has all registers.
 #[inline(never)]
 fn breaks_of_short<'h, F: BreakKind<'h>>(
     dictionary: &'h Dictionary<F::Payload, F::Listing>,
@@ -364,13 +267,12 @@ fn breaks_of_short<'h, F: BreakKind<'h>>(
     ensures { OnOk result (map F.meaning list.new.items
         ≡ fitted_breaks_of (rules_of F.Payload.change_of F.Listing.meaning dictionary.now) word.now) }
 {
-    let mut buffer = [0u8; 64];
-    let bytes = &mut buffer[..word.len()];
-    if !fold_in_place(word, bytes) {
+    let mut buffer = [0u8; 65];
+    let Some(is_ascii) = fold_in_place(word, &mut buffer) else {
         return breaks_of_any(dictionary, word, list);
-    }
-    let folded = unsafe { str::from_utf8_unchecked(bytes) };
-    put_opportunities(dictionary, folded, list)?;
+    };
+    let folded = unsafe { str::from_utf8_unchecked(&buffer[..word.len()]) };
+    put_opportunities(dictionary, folded, is_ascii, list)?;
     F::keep_fitting(folded, &[], list)
 }
 
@@ -391,10 +293,7 @@ fn is_whole_byte<'h, F: BreakKind<'h>>(
     true
 }
 
-// Puts the breaks of a word as written into an empty list, by the fastest path for its letters.
-//
-// Most words have only lowercase letters, which fold to themselves, or are ASCII. Such words have no soft hyphens, and
-// their folding moves no place.
+// Puts the breaks of a word as written into an empty list. Most words are short.
 #[inline(always)]
 fn breaks_by_path<'h, F: BreakKind<'h>>(
     dictionary: &'h Dictionary<F::Payload, F::Listing>,
@@ -408,16 +307,10 @@ fn breaks_by_path<'h, F: BreakKind<'h>>(
     if is_whole_byte::<F>(dictionary, word) {
         return Ok(());
     }
-    if are_ascii_lowercase(word.as_bytes()) {
-        breaks_of_ascii_lowercase(dictionary, word, list)
-    } else if are_common_lowercase(word) {
-        breaks_of_common_lowercase(dictionary, word, list)
-    } else if 64 < word.len() {
-        breaks_of_any(dictionary, word, list)
-    } else if word.is_ascii() {
-        breaks_of_ascii(dictionary, word, list)
-    } else {
+    if word.len() <= 64 {
         breaks_of_short(dictionary, word, list)
+    } else {
+        breaks_of_any(dictionary, word, list)
     }
 }
 

@@ -7,5 +7,5 @@ use Rattle.hyphenation_hyphenator.proofs.hyphenator.pattern_breaks.winning_break
 pub winning_breaks_with_buffer-requires-clause-none_at_first : goal.winning_breaks_with_buffer-requires-clause-none_at_first
 winning_breaks_with_buffer-requires-clause-none_at_first c = λ i lt.
     let places = c.saturating_sub-places.result in
-    let none : List (Option (Bor (Entry (Option Change)))) = replicate 16 None in
-    get_or-take places none i None (omega (arith, lt, length-take places none)) ∙ get_or-replicate 16 i None None (omega (arith, lt, length-take places none))
+    let none : List (Option (Bor (Entry (Option Change)))) = replicate 32 None in
+    get_or-take places none i None (omega (arith, lt, length-take places none)) ∙ get_or-replicate 32 i None None (omega (arith, lt, length-take places none))
