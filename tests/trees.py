@@ -69,7 +69,7 @@ def local(tag):
 def texts_of(element, language, alone, is_xml):
     """Yields the texts in an element, each with its language and whether it is left alone."""
     name = local(element.tag)
-    names = [*XML_LANG, "lang"] if is_xml else ["lang", *XML_LANG]
+    names = [*XML_LANG, "lang"] if is_xml else ["lang"]
     for attribute in names:
         if attribute in element.attrib:
             language = element.attrib[attribute]

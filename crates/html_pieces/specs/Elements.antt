@@ -117,11 +117,11 @@ or_else (Some value) other = Some value
 abbrev pub value_of_either : PageForm → List ℕ → List ℕ → List Attribute → Option (List ℕ)
 value_of_either form name other attributes = or_else (value_of form name attributes) (value_of form other attributes)
 
--- The value that names the language: of xml:lang in XML, of lang in HTML. Where that is not there, the other one serves.
+-- The value that names the language: of xml:lang or else lang in XML, of lang alone in HTML.
 abbrev pub language_value : PageForm → List Attribute → Option (List ℕ)
 language_value form attributes =
     if is_xml form then value_of_either form (codes "xml:lang") (codes "lang") attributes
-    else value_of_either form (codes "lang") (codes "xml:lang") attributes
+    else value_of form (codes "lang") attributes
 
 -- The language by the attributes of an element; where none names it, the one around.
 abbrev pub language_of : PageForm → List Attribute → List ℕ → List ℕ

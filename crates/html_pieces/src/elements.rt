@@ -153,14 +153,14 @@ fn value_of_either<'t>(
     }
 }
 
-// The value that names the language.
+// The value that names the language. In HTML `xml:lang` names none.
 pub(crate) fn language_value<'t>(form: PageForm, attributes: &[Attribute<'t>]) -> Option<&'t [u8]>
     ensures { option_map (λ value. value.now) result ≡ language_value form (map as_attribute attributes.now) }
 {
     if form.is_xml() {
         value_of_either(form, b"xml:lang", b"lang", attributes)
     } else {
-        value_of_either(form, b"lang", b"xml:lang", attributes)
+        value_of(form, attributes, b"lang")
     }
 }
 

@@ -85,8 +85,8 @@ fn push_named(
 
 /// Returns the languages that the pieces of a page name, each once, in the order in which they name them first.
 ///
-/// A start tag names the language of its attribute `lang` or `xml:lang`, with character references read. The error says
-/// that memory was refused.
+/// A start tag names the language of its attribute `lang`, in XML that of `xml:lang` or else `lang`, with character
+/// references read. The error says that memory was refused.
 pub fn languages_of_pieces(
     alloc: Global,
     form: PageForm,

@@ -48,8 +48,8 @@ impl<'t> HtmlPage<'t> {
 
     /// Returns the languages that the page names, each once, in the order in which it names them first.
     ///
-    /// A start tag names the language of its attribute `lang` or `xml:lang`, with character references read, as it is
-    /// written: `de-CH`, `DE`. The error says that memory was refused.
+    /// A start tag names the language of its attribute `lang`, in XML that of `xml:lang` or else `lang`, with character
+    /// references read, as it is written: `de-CH`, `DE`. The error says that memory was refused.
     ///
     /// ```text
     /// HtmlPage::new(alloc, "<p lang=de>Wort <i LANG='f&#114;-CA'>mot</i>")?.languages(alloc)?     // de, fr-CA

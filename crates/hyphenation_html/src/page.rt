@@ -192,8 +192,8 @@ fn all_fit(languages: &[LanguageDictionary], settings: &Settings<'_>)
 
 /// Returns an HTML or XHTML page with the mark at each break of the words of its text.
 ///
-/// Each word is broken by the dictionary of the language that `lang` or `xml:lang` names for it. Where the page names
-/// none it is broken by that of `language`. A code serves each language that begins with it and a hyphen, and the
+/// Each word is broken by the dictionary of the language that `lang` names for it, in XML `xml:lang` or else `lang`. Where
+/// the page names none it is broken by that of `language`. A code serves each language that begins with it and a hyphen, and the
 /// longest of these codes counts. A text whose language has no dictionary is left as it is.
 ///
 /// All that is not text stays as it is, byte for byte: tags, comments, scripts, character references. So do the texts
