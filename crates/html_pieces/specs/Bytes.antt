@@ -39,6 +39,14 @@ is_same_name a b = pointwise nat_eq (map to_ascii_lowercase a) (map to_ascii_low
 abbrev pub is_one_of : List (List ℕ) → List ℕ → Bool
 is_one_of names name = list_any (λ other. is_same_name name other) names
 
+-- The names of a table of the code.
+abbrev pub names_in : List (record { now : List ℕ }) → List (List ℕ)
+names_in table = map (λ name. name.now) table
+
+-- The name is one of such a table.
+abbrev pub is_named : List (record { now : List ℕ }) → List ℕ → Bool
+is_named table name = is_one_of (names_in table) name
+
 -- The name of a tag begins with a letter. In XML (1.0, 2.3, NameStartChar) it may also begin with ':', '_', or a character
 -- past U+00BF.
 abbrev pub is_name_start : PageForm → ℕ → Bool

@@ -5,12 +5,13 @@
 use Rattle.std.specs.Prelude.{◌≡◌, ℕ, ◌-◌, ◌==◌, ◌||◌, ◌&&◌, Bool, true, false, not, List, [], ◌∷◌, ◌++◌, length, map, reverse, codes, nat_eq, nat_lt, Option, Some, None, if◌then◌else◌}
 use Rattle.std.specs.Option.{is_some, unwrap_or, option_map_or}
 use Rattle.std.specs.Cmp.Lexicographic.{pointwise}
-use Rattle.html_pieces.specs.Bytes.{is_white_space, is_same_name, is_same_in, is_one_of, is_xml}
+use Rattle.html_pieces.specs.Bytes.{is_white_space, is_same_name, is_same_in, is_named, is_xml}
 use Rattle.html_pieces.specs.Names.{name_of, is_foreign_root}
 use Rattle.html_pieces.specs.Pieces.{Piece}
 use Rattle.html_pieces.specs.Groups.{group_of, is_void, ends, stops, bounds, is_root, is_heading}
 use Rattle.html_pieces.specs.References.{read_value}
 use Rattle.html_pieces.specs.Tags.{Attribute, attributes_of, value_of}
+use Rattle.html_pieces.specs.declared.elements.TheConstants.{SVG_POINTS, MATH_POINTS, LEFT_ALONE_NAMES}
 use Rattle.html_pieces.specs.declared.bytes.PageForm.{PageForm}
 use Rattle.html_pieces.specs.declared.groups.ElementGroup.{ElementGroup}
 use Rattle.html_pieces.specs.declared.groups.ElementGroup.TheVariants.{Ordinary, Formatting, Root}
@@ -66,19 +67,6 @@ as_element held = record {
 }
 
 -- ---- what a start tag says
-
--- Elements whose text is left alone: code and the like, drawings and formulas, and texts that forms send or windows show. So
--- are those that are not shown, or read otherwise with scripting than without.
-abbrev pub left_alone_names : List (List ℕ)
-left_alone_names =
-    codes "code" ∷ codes "iframe" ∷ codes "kbd" ∷ codes "listing" ∷ codes "math" ∷ codes "noembed" ∷ codes "noframes"
-    ∷ codes "noscript" ∷ codes "option" ∷ codes "plaintext" ∷ codes "pre" ∷ codes "samp" ∷ codes "script" ∷ codes "style"
-    ∷ codes "svg" ∷ codes "template" ∷ codes "textarea" ∷ codes "title" ∷ codes "tt" ∷ codes "var" ∷ codes "xmp" ∷ []
-
--- Elements of SVG and MathML whose content is HTML: the integration points.
-abbrev pub integration_names : List (List ℕ)
-integration_names =
-    codes "desc" ∷ codes "foreignObject" ∷ codes "mi" ∷ codes "mn" ∷ codes "mo" ∷ codes "ms" ∷ codes "mtext" ∷ codes "title" ∷ []
 
 -- A word is among words that are set apart by white space; `front` is what is read of one.
 abbrev pub has_word_from : List ℕ → List ℕ → List ℕ → Bool
@@ -143,7 +131,7 @@ names_other form attributes =
 
 -- The content of an element is SVG or MathML.
 abbrev pub holds_foreign : Bool → List ℕ → Bool
-holds_foreign foreign name = (foreign || is_foreign_root name) && not (is_one_of integration_names name)
+holds_foreign foreign name = (foreign || is_foreign_root name) && not (is_named SVG_POINTS name || is_named MATH_POINTS name)
 
 -- The element that a start tag opens within another one.
 unfoldable pub opened : PageForm → List ℕ → Element → List ℕ → Element
@@ -152,7 +140,7 @@ opened form class around tag =
       name = name_of tag;
       group = group_in form around.is_foreign (name_of tag);
       language = language_of form (attributes_of form tag) around.language;
-      is_apart = around.is_apart || is_one_of left_alone_names (name_of tag) || has_class form class (attributes_of form tag);
+      is_apart = around.is_apart || is_named LEFT_ALONE_NAMES (name_of tag) || has_class form class (attributes_of form tag);
       is_translated = is_translated form (attributes_of form tag) around.is_translated;
       is_foreign = holds_foreign around.is_foreign (name_of tag);
       is_in_drawing = around.is_in_drawing || is_foreign_root (name_of tag);
@@ -163,7 +151,7 @@ opened form class around tag =
           (around.is_in_formatting || is_formatting (group_in form around.is_foreign (name_of tag)))
           && (around.is_altered || names_other form (attributes_of form tag));
       is_left_alone =
-          around.is_apart || is_one_of left_alone_names (name_of tag) || has_class form class (attributes_of form tag)
+          around.is_apart || is_named LEFT_ALONE_NAMES (name_of tag) || has_class form class (attributes_of form tag)
           || not (is_translated form (attributes_of form tag) around.is_translated);
     }
 

@@ -3,53 +3,11 @@
 -- and 13.2.6.4.7 to 16 (the start tags that close open elements).
 use Rattle.std.specs.Prelude.{ℕ, ◌||◌, Bool, true, false, not, List, [], ◌∷◌, codes, if◌then◌else◌}
 use Rattle.std.specs.List.{list_any}
-use Rattle.html_pieces.specs.Bytes.{is_same_name, is_one_of}
+use Rattle.html_pieces.specs.Bytes.{is_same_name, is_one_of, is_named}
 use Rattle.html_pieces.specs.contracts.groups.ElementGroupPartialEq.TheImpl.{ghosts}
-use Rattle.html_pieces.specs.declared.groups.TheConstants.{VOID_GROUPS, TABLE_PARTS, ENDS_OF_PARAGRAPHS, ENDS_OF_CHOICES, ENDS_OF_CHOICE_GROUPS, ENDS_OF_ROWS, ENDS_OF_ROW_GROUPS, ENDS_OF_COLUMNS, PARTS_OF_HEADS, ITEMS, PASSED_BY_ITEMS, BOUNDARIES, NO_SPECIAL_GROUPS, SCOPES, TABLE_SCOPES}
+use Rattle.html_pieces.specs.declared.groups.TheConstants.{SECTION_NAMES, HEADING_NAMES, BLOCK_NAMES, FORMATTING_NAMES, SCOPE_NAMES, VOID_NAMES, HEAD_VOID_NAMES, HEAD_NAMES, VOID_GROUPS, TABLE_PARTS, ENDS_OF_PARAGRAPHS, ENDS_OF_CHOICES, ENDS_OF_CHOICE_GROUPS, ENDS_OF_ROWS, ENDS_OF_ROW_GROUPS, ENDS_OF_COLUMNS, PARTS_OF_HEADS, ITEMS, PASSED_BY_ITEMS, BOUNDARIES, NO_SPECIAL_GROUPS, SCOPES, TABLE_SCOPES}
 use Rattle.html_pieces.specs.declared.groups.ElementGroup.{ElementGroup}
 use Rattle.html_pieces.specs.declared.groups.ElementGroup.TheVariants.{Ordinary, Formatting, Paragraph, Division, Heading, Listing, Block, Rule, Item, Term, Choice, Choices, Ruby, Cell, Row, Rows, Caption, Columns, Column, Table, Scope, Root, Head, HeadContent, HeadVoid, Template, Void}
-
--- Sections, and what is around them. Their start tags end a paragraph: "close a p element".
-abbrev pub section_names : List (List ℕ)
-section_names =
-    codes "article" ∷ codes "aside" ∷ codes "footer" ∷ codes "header" ∷ codes "hgroup" ∷ codes "main" ∷ codes "nav"
-    ∷ codes "search" ∷ codes "section" ∷ []
-
--- Headings, which end a paragraph too.
-abbrev pub heading_names : List (List ℕ)
-heading_names = codes "h1" ∷ codes "h2" ∷ codes "h3" ∷ codes "h4" ∷ codes "h5" ∷ codes "h6" ∷ []
-
--- The other elements whose start tags end a paragraph, without those of a group of their own.
-abbrev pub block_names : List (List ℕ)
-block_names =
-    codes "blockquote" ∷ codes "center" ∷ codes "details" ∷ codes "dir" ∷ codes "dl" ∷ codes "fieldset"
-    ∷ codes "figcaption" ∷ codes "figure" ∷ codes "form" ∷ codes "listing" ∷ codes "menu" ∷ codes "plaintext" ∷ codes "pre"
-    ∷ codes "summary" ∷ codes "xmp" ∷ []
-
--- Formatting elements, whose end tags close them across other elements.
-abbrev pub formatting_names : List (List ℕ)
-formatting_names =
-    codes "a" ∷ codes "b" ∷ codes "big" ∷ codes "code" ∷ codes "em" ∷ codes "font" ∷ codes "i" ∷ codes "nobr" ∷ codes "s"
-    ∷ codes "small" ∷ codes "strike" ∷ codes "strong" ∷ codes "tt" ∷ codes "u" ∷ []
-
--- Elements with a scope of their own: no search goes on past them.
-abbrev pub scope_names : List (List ℕ)
-scope_names =
-    codes "applet" ∷ codes "button" ∷ codes "marquee" ∷ codes "math" ∷ codes "object" ∷ codes "select" ∷ codes "svg" ∷ []
-
--- Void elements, which have no content and no end tag; "hr" and "col" are void too, and those of `head_void_names`.
-abbrev pub void_names : List (List ℕ)
-void_names =
-    codes "area" ∷ codes "br" ∷ codes "embed" ∷ codes "frame" ∷ codes "img" ∷ codes "input" ∷ codes "keygen" ∷ codes "param"
-    ∷ codes "source" ∷ codes "track" ∷ codes "wbr" ∷ []
-
--- Void elements that a head may have.
-abbrev pub head_void_names : List (List ℕ)
-head_void_names = codes "base" ∷ codes "basefont" ∷ codes "bgsound" ∷ codes "link" ∷ codes "meta" ∷ []
-
--- The other elements that a head may have.
-abbrev pub head_names : List (List ℕ)
-head_names = codes "noframes" ∷ codes "noscript" ∷ codes "script" ∷ codes "style" ∷ codes "title" ∷ []
 
 -- The group of the elements of a name.
 unfoldable pub group_of : List ℕ → ElementGroup
@@ -72,15 +30,15 @@ group_of name =
     else if is_same_name name (codes "head") then Head
     else if is_one_of (codes "body" ∷ codes "html" ∷ []) name then Root
     else if is_same_name name (codes "template") then Template
-    else if is_one_of void_names name then Void
-    else if is_one_of head_void_names name then HeadVoid
-    else if is_one_of head_names name then HeadContent
-    else if is_one_of scope_names name then Scope
-    else if is_one_of section_names name then Block
-    else if is_one_of heading_names name then Heading
+    else if is_named VOID_NAMES name then Void
+    else if is_named HEAD_VOID_NAMES name then HeadVoid
+    else if is_named HEAD_NAMES name then HeadContent
+    else if is_named SCOPE_NAMES name then Scope
+    else if is_named SECTION_NAMES name then Block
+    else if is_named HEADING_NAMES name then Heading
     else if is_one_of (codes "ol" ∷ codes "ul" ∷ []) name then Listing
-    else if is_one_of block_names name then Block
-    else if is_one_of formatting_names name then Formatting
+    else if is_named BLOCK_NAMES name then Block
+    else if is_named FORMATTING_NAMES name then Formatting
     else Ordinary
 
 -- Two groups are the same.

@@ -5,17 +5,19 @@ use Rattle.std.specs.Prelude.{ℕ, ◌-◌, ◌==◌, ◌||◌, ◌&&◌, Bool, 
 use Rattle.std.specs.Option.{is_some, option_map_or}
 use Rattle.std.specs.List.{starts_with, ends_with}
 use Rattle.std.specs.Cmp.Lexicographic.{pointwise}
-use Rattle.html_pieces.specs.Bytes.{is_white_space, is_alpha, is_same_name, is_one_of, is_xml}
+use Rattle.html_pieces.specs.Bytes.{is_white_space, is_alpha, is_same_name, is_one_of, is_named, names_in, is_xml}
 use Rattle.html_pieces.specs.Names.{name_of, raw_element, raw_end_tag, is_foreign_root}
 use Rattle.html_pieces.specs.Forms.{after_order_mark, is_start}
 use Rattle.html_pieces.specs.Pieces.{Piece, is_script}
 use Rattle.html_pieces.specs.References.{has_ampersand}
-use Rattle.html_pieces.specs.Groups.{heading_names, ends, stops, bounds, is_in, is_same_group, is_table_part, is_heading, is_root, is_special, is_void}
-use Rattle.html_pieces.specs.declared.groups.TheConstants.{WITHOUT_TEXT, WITHOUT_END_TAGS, CHOICES, AROUND_CELLS, AROUND_ROWS, AROUND_ROW_GROUPS, AROUND_COLUMNS, CLOSING_NO_BLOCKS}
+use Rattle.html_pieces.specs.Groups.{ends, stops, bounds, is_in, is_same_group, is_table_part, is_heading, is_root, is_special, is_void}
+use Rattle.html_pieces.specs.declared.groups.TheConstants.{HEADING_NAMES, WITHOUT_TEXT, WITHOUT_END_TAGS, CHOICES, AROUND_CELLS, AROUND_ROWS, AROUND_ROW_GROUPS, AROUND_COLUMNS, CLOSING_NO_BLOCKS}
 use Rattle.html_pieces.specs.Elements.{Element, as_elements, innermost, before_new, elements_by, group_by, depth_limit}
 use Rattle.html_pieces.specs.declared.bytes.PageForm.{PageForm}
 use Rattle.html_pieces.specs.declared.groups.ElementGroup.{ElementGroup}
 use Rattle.html_pieces.specs.declared.groups.ElementGroup.TheVariants.{Ordinary, Formatting, Paragraph, Heading, Block, Item, Term, Choice, Choices, Ruby, Cell, Row, Rows, Caption, Columns, Column, Table, Scope, Root, Head, HeadContent, HeadVoid, Template}
+use Rattle.html_pieces.specs.declared.elements.TheConstants.{SVG_POINTS, MATH_POINTS}
+use Rattle.html_pieces.specs.declared.readings.TheConstants.{LEAVING_PHRASE_NAMES, LEAVING_BLOCK_NAMES, ODD_NAMES, BUTTON_NAMES, FORM_NAMES, LINK_NAMES}
 use Rattle.html_pieces.specs.declared.readings.Phase.{Phase}
 use Rattle.html_pieces.specs.declared.readings.Phase.TheVariants as reached
 use Rattle.html_pieces.specs.declared.readings.Reading as declared
@@ -164,31 +166,9 @@ ends_alike standard new elements = ends_alike_from standard new depth_limit true
 
 -- ---- start tags of HTML
 
--- Tags in SVG and MathML that end these (13.2.6.5): of elements within a line, and of others.
-abbrev pub leaving_phrase_names : List (List ℕ)
-leaving_phrase_names =
-    codes "b" ∷ codes "big" ∷ codes "br" ∷ codes "code" ∷ codes "em" ∷ codes "embed" ∷ codes "font" ∷ codes "i" ∷ codes "img"
-    ∷ codes "nobr" ∷ codes "ruby" ∷ codes "s" ∷ codes "small" ∷ codes "span" ∷ codes "strike" ∷ codes "strong" ∷ codes "sub"
-    ∷ codes "sup" ∷ codes "tt" ∷ codes "u" ∷ codes "var" ∷ []
-
--- The others of these tags, without those of headings.
-abbrev pub leaving_block_names : List (List ℕ)
-leaving_block_names =
-    codes "blockquote" ∷ codes "body" ∷ codes "center" ∷ codes "dd" ∷ codes "div" ∷ codes "dl" ∷ codes "dt" ∷ codes "head"
-    ∷ codes "hr" ∷ codes "li" ∷ codes "listing" ∷ codes "menu" ∷ codes "meta" ∷ codes "ol" ∷ codes "p" ∷ codes "pre"
-    ∷ codes "table" ∷ codes "ul" ∷ []
-
--- A tag of one of these names ends SVG and MathML.
+-- A tag of one of these names ends SVG and MathML (13.2.6.5).
 abbrev pub is_leaving : List ℕ → Bool
-is_leaving name = is_one_of leaving_phrase_names name || is_one_of leaving_block_names name || is_one_of heading_names name
-
--- The integration points of SVG.
-abbrev pub svg_points : List (List ℕ)
-svg_points = codes "desc" ∷ codes "foreignObject" ∷ codes "title" ∷ []
-
--- The integration points of MathML by their names.
-abbrev pub math_points : List (List ℕ)
-math_points = codes "mi" ∷ codes "mn" ∷ codes "mo" ∷ codes "ms" ∷ codes "mtext" ∷ []
+is_leaving name = is_named LEAVING_PHRASE_NAMES name || is_named LEAVING_BLOCK_NAMES name || is_named HEADING_NAMES name
 
 -- An annotation of MathML whose content may be HTML, by its tag.
 abbrev pub may_hold_html : List ℕ → List ℕ → Bool
@@ -198,14 +178,9 @@ may_hold_html name tag = is_same_name name (codes "annotation-xml") && (mentions
 unfoldable pub is_foreign_start_alike : List Element → List ℕ → List ℕ → Bool
 is_foreign_start_alike elements name tag =
     if is_leaving name then false
-    else if is_one_of svg_points name then is_in_svg elements
-    else if is_one_of math_points name then not (is_in_svg elements)
+    else if is_named SVG_POINTS name then is_in_svg elements
+    else if is_named MATH_POINTS name then not (is_in_svg elements)
     else not (may_hold_html name tag)
-
--- Names of elements that HTML reads otherwise than others of their group.
-abbrev pub odd_names : List (List ℕ)
-odd_names =
-    codes "frameset" ∷ codes "image" ∷ codes "malignmark" ∷ codes "mglyph" ∷ codes "rb" ∷ codes "rtc" ∷ []
 
 -- Elements may begin that are no parts of tables or selections. `around` is the innermost element before what the new one ends,
 -- and `within` the one after it.
@@ -243,18 +218,6 @@ abbrev pub takes_root : Phase → Element → List ℕ → Bool
 takes_root phase within name =
     if is_same_name name (codes "html") then is_before_root phase else is_before_body phase && is_root within.group
 
--- Elements that may not be in one of their own name, in three groups.
-abbrev pub button_names : List (List ℕ)
-button_names = codes "button" ∷ []
-
--- A form may not be within another one.
-abbrev pub form_names : List (List ℕ)
-form_names = codes "form" ∷ []
-
--- A link may not be within another one.
-abbrev pub link_names : List (List ℕ)
-link_names = codes "a" ∷ codes "nobr" ∷ []
-
 -- An element of a name is not open, where it may not be within another one.
 abbrev pub is_alone : List (List ℕ) → List ℕ → List Element → Bool
 is_alone names name elements = not (is_one_of names name && is_open name Ordinary elements)
@@ -276,11 +239,11 @@ is_expected phase around within elements Choice name = not (holds_no_text within
 is_expected phase around within elements Choices name = is_same_name within.name (codes "select")
 is_expected phase around within elements Ruby name = is_same_name within.name (codes "ruby")
 is_expected phase around within elements Heading name = takes_content around within && not (is_heading within.group)
-is_expected phase around within elements Scope name = takes_content around within && is_alone button_names name elements
-is_expected phase around within elements Block name = takes_content around within && is_alone form_names name elements
+is_expected phase around within elements Scope name = takes_content around within && is_alone (names_in BUTTON_NAMES) name elements
+is_expected phase around within elements Block name = takes_content around within && is_alone (names_in FORM_NAMES) name elements
 is_expected phase around within elements Formatting name =
-    takes_content around within && is_alone link_names name elements
-is_expected phase around within elements Ordinary name = takes_content around within && not (is_one_of odd_names name)
+    takes_content around within && is_alone (names_in LINK_NAMES) name elements
+is_expected phase around within elements Ordinary name = takes_content around within && not (is_named ODD_NAMES name)
 is_expected phase around within elements _ name = takes_content around within
 
 -- The content of an element is read alike by all: within a drawing it is no raw text, and `noscript` is not within another one.

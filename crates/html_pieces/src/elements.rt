@@ -4,12 +4,12 @@ ghost use Rattle.std.specs.Prelude.{◌≡◌, ◌≤◌, ◌&&◌, ◌||◌, �
 ghost use Rattle.std.specs.Option.{option_map};
 ghost use Rattle.html_pieces.specs.References.{read_value};
 ghost use Rattle.html_pieces.specs.Tags.{as_attribute};
-ghost use Rattle.html_pieces.specs.Bytes.{is_one_of};
+ghost use Rattle.html_pieces.specs.Bytes.{is_named};
 ghost use Rattle.html_pieces.specs.Elements.{as_element, as_elements};
 ghost use Rattle.html_pieces.specs.Elements.{has_word, has_class, translated_by, is_translated, value_of_either};
 ghost use Rattle.html_pieces.specs.Elements.{language_value, held_language, language_by, language_of};
 ghost use Rattle.html_pieces.specs.Elements.{is_formatting, names_other, group_in, holds_foreign, opened, innermost, before_new, closed_as};
-ghost use Rattle.html_pieces.specs.Elements.{begun_as, is_closed_by_slash, group_by, left_alone_names, Passes};
+ghost use Rattle.html_pieces.specs.Elements.{begun_as, is_closed_by_slash, group_by, Passes};
 ghost use Rattle.html_pieces.specs.Pieces.{as_piece};
 ghost use Rattle.html_pieces.specs.Elements.{page_element};
 
@@ -256,27 +256,23 @@ fn is_altered(
     in_formatting && (around || names_other(form, attributes))
 }
 
-// Elements of SVG and MathML whose content is HTML.
-const INTEGRATION_NAMES: [&[u8]; 8] = [
-    b"desc",
-    b"foreignObject",
-    b"mi",
-    b"mn",
-    b"mo",
-    b"ms",
-    b"mtext",
-    b"title",
-];
+/// Elements of SVG whose content is HTML: its integration points.
+pub const SVG_POINTS: [&[u8]; 3] = [b"desc", b"foreignObject", b"title"];
+
+/// Elements of MathML whose content is HTML: its integration points.
+pub const MATH_POINTS: [&[u8]; 5] = [b"mi", b"mn", b"mo", b"ms", b"mtext"];
 
 // Whether the content of an element is SVG or MathML.
 fn holds_foreign(foreign: bool, name: &[u8]) -> bool
     ensures { result ≡ holds_foreign foreign name.now }
 {
-    (foreign || is_foreign_root(name)) && !is_one_of(name, &INTEGRATION_NAMES)
+    (foreign || is_foreign_root(name))
+        && !(is_one_of(name, &SVG_POINTS) || is_one_of(name, &MATH_POINTS))
 }
 
-// Elements whose text is left as it is.
-const LEFT_ALONE_NAMES: [&[u8]; 21] = [
+/// Elements whose text is left as it is: code and the like, drawings and formulas, and texts that forms send or windows
+/// show. So are those that are not shown, or read otherwise with scripting than without.
+pub const LEFT_ALONE_NAMES: [&[u8]; 21] = [
     b"code",
     b"iframe",
     b"kbd",
@@ -302,7 +298,7 @@ const LEFT_ALONE_NAMES: [&[u8]; 21] = [
 
 // Whether the text of an element of this name is left as it is.
 fn is_left_alone_name(name: &[u8]) -> bool
-    ensures { result ≡ is_one_of left_alone_names name.now }
+    ensures { result ≡ is_named LEFT_ALONE_NAMES name.now }
 {
     is_one_of(name, &LEFT_ALONE_NAMES)
 }

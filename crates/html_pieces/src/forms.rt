@@ -178,7 +178,7 @@ fn front_after(state: State, byte: u8) -> State
     }
 }
 
-// The same, which stays within a character.
+// The state after a byte of a front, where one that is not the first of its character goes with it.
 fn front_state(state: State, byte: u8) -> State
     ensures { result ≡ front_state state byte }
 {

@@ -66,16 +66,16 @@ pub enum ElementGroup {
     Void,
 }
 
-// Sections, and what is around them.
-const SECTION_NAMES: [&[u8]; 9] = [
+/// Sections, and what is around them. Their start tags end a paragraph: "close a p element".
+pub const SECTION_NAMES: [&[u8]; 9] = [
     b"article", b"aside", b"footer", b"header", b"hgroup", b"main", b"nav", b"search", b"section",
 ];
 
-// Headings.
-pub(crate) const HEADING_NAMES: [&[u8]; 6] = [b"h1", b"h2", b"h3", b"h4", b"h5", b"h6"];
+/// Headings.
+pub const HEADING_NAMES: [&[u8]; 6] = [b"h1", b"h2", b"h3", b"h4", b"h5", b"h6"];
 
-// The other elements that end a paragraph, without those of a group of their own.
-const BLOCK_NAMES: [&[u8]; 15] = [
+/// The other elements that end a paragraph, without those of a group of their own.
+pub const BLOCK_NAMES: [&[u8]; 15] = [
     b"blockquote",
     b"center",
     b"details",
@@ -93,28 +93,28 @@ const BLOCK_NAMES: [&[u8]; 15] = [
     b"xmp",
 ];
 
-// Formatting elements.
-const FORMATTING_NAMES: [&[u8]; 14] = [
+/// Formatting elements, whose end tags close them across other elements.
+pub const FORMATTING_NAMES: [&[u8]; 14] = [
     b"a", b"b", b"big", b"code", b"em", b"font", b"i", b"nobr", b"s", b"small", b"strike",
     b"strong", b"tt", b"u",
 ];
 
-// Elements with a scope of their own.
-const SCOPE_NAMES: [&[u8]; 7] = [
+/// Elements with a scope of their own: no search goes on past them.
+pub const SCOPE_NAMES: [&[u8]; 7] = [
     b"applet", b"button", b"marquee", b"math", b"object", b"select", b"svg",
 ];
 
-// Void elements, without those of a group of their own.
-const VOID_NAMES: [&[u8]; 11] = [
+/// Void elements, which have no content and no end tag; `hr` and `col` are void too, and those of [`HEAD_VOID_NAMES`].
+pub const VOID_NAMES: [&[u8]; 11] = [
     b"area", b"br", b"embed", b"frame", b"img", b"input", b"keygen", b"param", b"source", b"track",
     b"wbr",
 ];
 
-// Void elements that a head may have.
-const HEAD_VOID_NAMES: [&[u8]; 5] = [b"base", b"basefont", b"bgsound", b"link", b"meta"];
+/// Void elements that a head may have.
+pub const HEAD_VOID_NAMES: [&[u8]; 5] = [b"base", b"basefont", b"bgsound", b"link", b"meta"];
 
-// The other elements that a head may have.
-const HEAD_NAMES: [&[u8]; 5] = [b"noframes", b"noscript", b"script", b"style", b"title"];
+/// The other elements that a head may have.
+pub const HEAD_NAMES: [&[u8]; 5] = [b"noframes", b"noscript", b"script", b"style", b"title"];
 
 /// Returns the group of the elements of a name.
 #[tactic(auto, unfolding(crate::specs::Groups::group_of))]

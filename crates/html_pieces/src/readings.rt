@@ -24,7 +24,9 @@ ghost use Rattle.html_pieces.specs.Names.{name_of};
 ghost use Rattle.html_pieces.specs.Pieces.{as_piece, is_script};
 
 use crate::bytes::{PageForm, is_alpha, is_one_of, is_same_name, is_white_space};
-use crate::elements::{DEPTH_LIMIT, Element, before_new, group_by, innermost};
+use crate::elements::{
+    DEPTH_LIMIT, Element, MATH_POINTS, SVG_POINTS, before_new, group_by, innermost,
+};
 use crate::forms::{after_order_mark, is_start};
 use crate::groups::ElementGroup::*;
 use crate::groups::{
@@ -311,14 +313,14 @@ fn ends_alike(standard: bool, new: ElementGroup, elements: &[Element<'_>]) -> bo
 
 // ---- start tags of HTML
 
-// Elements within a line whose tags end SVG and MathML.
-const LEAVING_PHRASE_NAMES: [&[u8]; 21] = [
+/// Elements within a line whose tags end SVG and MathML.
+pub const LEAVING_PHRASE_NAMES: [&[u8]; 21] = [
     b"b", b"big", b"br", b"code", b"em", b"embed", b"font", b"i", b"img", b"nobr", b"ruby", b"s",
     b"small", b"span", b"strike", b"strong", b"sub", b"sup", b"tt", b"u", b"var",
 ];
 
-// The other elements whose tags end SVG and MathML, without headings.
-const LEAVING_BLOCK_NAMES: [&[u8]; 18] = [
+/// The other elements whose tags end SVG and MathML, without headings.
+pub const LEAVING_BLOCK_NAMES: [&[u8]; 18] = [
     b"blockquote",
     b"body",
     b"center",
@@ -348,12 +350,6 @@ fn is_leaving(name: &[u8]) -> bool
         || is_one_of(name, &HEADING_NAMES)
 }
 
-// Elements of SVG whose content is HTML.
-const SVG_POINTS: [&[u8]; 3] = [b"desc", b"foreignObject", b"title"];
-
-// Elements of MathML whose content is HTML.
-const MATH_POINTS: [&[u8]; 5] = [b"mi", b"mn", b"mo", b"ms", b"mtext"];
-
 // Reports whether a tag is that of an annotation of MathML whose content may be HTML.
 fn may_hold_html(name: &[u8], tag: &[u8]) -> bool
     ensures { result ≡ may_hold_html name.now tag.now }
@@ -377,8 +373,8 @@ fn is_foreign_start_alike(elements: &[Element<'_>], name: &[u8], tag: &[u8]) -> 
     }
 }
 
-// Elements that HTML reads otherwise than others of their group.
-const ODD_NAMES: [&[u8]; 6] = [
+/// Elements that HTML reads otherwise than others of their group.
+pub const ODD_NAMES: [&[u8]; 6] = [
     b"frameset",
     b"image",
     b"malignmark",
@@ -387,12 +383,14 @@ const ODD_NAMES: [&[u8]; 6] = [
     b"rtc",
 ];
 
-// Buttons, forms and links, which end an element of their own name.
-const BUTTON_NAMES: [&[u8]; 1] = [b"button"];
+/// Buttons, which end an element of their own name, as those of the next two tables do.
+pub const BUTTON_NAMES: [&[u8]; 1] = [b"button"];
 
-const FORM_NAMES: [&[u8]; 1] = [b"form"];
+/// Forms.
+pub const FORM_NAMES: [&[u8]; 1] = [b"form"];
 
-const LINK_NAMES: [&[u8]; 2] = [b"a", b"nobr"];
+/// Links, and elements without a line break.
+pub const LINK_NAMES: [&[u8]; 2] = [b"a", b"nobr"];
 
 // Reports whether elements may begin that are no parts of tables or selections.
 fn takes_content(around: Element<'_>, within: Element<'_>) -> bool

@@ -425,8 +425,8 @@ pub fn next(form: PageForm, foreign: bool, state: State, front: &[u8], byte: u8)
         BeforeAttributeName => Some(in_tag(byte, AttributeName)),
         AttributeName | AfterAttributeName => Some(in_attribute(byte)),
         BeforeAttributeValue => Some(before_value(byte)),
-        DoubleQuotedValue => { on_byte(byte, b'"', AfterQuotedValue, DoubleQuotedValue) }
-        SingleQuotedValue => { on_byte(byte, b'\'', AfterQuotedValue, SingleQuotedValue) }
+        DoubleQuotedValue => on_byte(byte, b'"', AfterQuotedValue, DoubleQuotedValue),
+        SingleQuotedValue => on_byte(byte, b'\'', AfterQuotedValue, SingleQuotedValue),
         UnquotedValue => Some(in_unquoted_value(byte)),
         AfterQuotedValue => Some(in_tag(byte, AttributeName)),
         SelfClosingTag => in_self_closing_tag(byte),
@@ -455,8 +455,8 @@ pub fn next(form: PageForm, foreign: bool, state: State, front: &[u8], byte: u8)
         CommentEndDash => on_byte(byte, b'-', CommentEnd, Comment),
         CommentEnd => in_comment_end(form, byte),
         CommentEndBang => on_either(byte, b'-', CommentEndDash, b'>', MarkupEnd, Comment),
-        CdataSection => { on_byte(byte, b']', CdataSectionBracket, CdataSection) }
-        CdataSectionBracket => { on_byte(byte, b']', CdataSectionEnd, CdataSection) }
+        CdataSection => on_byte(byte, b']', CdataSectionBracket, CdataSection),
+        CdataSectionBracket => on_byte(byte, b']', CdataSectionEnd, CdataSection),
         CdataSectionEnd => on_either(byte, b']', CdataSectionEnd, b'>', MarkupEnd, CdataSection),
         Raw(element) => in_raw(element, front, byte),
         ScriptEscaped => in_escaped(front, byte),
