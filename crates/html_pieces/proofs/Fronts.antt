@@ -297,32 +297,36 @@ with_more front b e =
     ap (λ c. if c then front else record { state = front_state front.state b; bytes = if is_data (front_state front.state b) then [] else front.bytes ++ b ∷ [] }) e
 
 -- a piece that ends
-tag_if_other : (c : Bool) (kind : PieceKind) (front later : List ℕ) → tag_in kind front later ≡ tag_in Other front later → tag_in (if c then EndTag else kind) front later ≡ tag_in Other front later
-tag_if_other true kind front later e = refl
-tag_if_other false kind front later e = e
+abbrev pub is_text : PieceKind → Bool
+is_text Text = true
+is_text _ = false
 
-tag_past : (state : State) (front later : List ℕ) → is_data state ≡ false → tag_in (kind_of state front) front later ≡ tag_in Other front later
+either_markup : (c : Bool) (kind : PieceKind) → is_text kind ≡ false → is_text (if c then EndTag else kind) ≡ false
+either_markup true kind e = refl
+either_markup false kind e = e
+
+markup_kind : (state : State) (front : List ℕ) → is_data state ≡ false → is_text (kind_of state front) ≡ false
 unfolding kind_of
-tag_past Data front later e = absurd (cc e)
-tag_past CharacterReference front later e = refl
-tag_past ReferenceName front later e = refl
-tag_past ReferenceEnd front later e = refl
-tag_past TagEnd front later e = tag_if_other (is_end_tag front) StartTag front later refl
-tag_past EmptyTagEnd front later e = tag_if_other (is_end_tag front) EmptyTag front later refl
-tag_past state front later e = refl
+markup_kind Data front e = absurd (cc e)
+markup_kind CharacterReference front e = refl
+markup_kind ReferenceName front e = refl
+markup_kind ReferenceEnd front e = refl
+markup_kind TagEnd front e = either_markup (is_end_tag front) StartTag refl
+markup_kind EmptyTagEnd front e = either_markup (is_end_tag front) EmptyTag refl
+markup_kind state front e = refl
+
+tag_other : (kind : PieceKind) (front later : List ℕ) → is_text kind ≡ false → tag_in kind front later ≡ tag_in Other front later
+tag_other Text front later e = absurd (cc e)
+tag_other kind front later e = refl
 
 at_end : (state : State) (front : Front) (bytes later : List ℕ) → front_of at_front bytes ≡ front → is_data state ≡ false
     → tag_in (kind_of state bytes) bytes later ≡ (if is_data front.state then later else tag_of front)
-at_end state front bytes later f e = tag_past state bytes later e ∙ ap (λ x. if is_data x.state then later else tag_of x) f
+at_end state front bytes later f e = tag_other (kind_of state bytes) bytes later (markup_kind state bytes e) ∙ ap (λ x. if is_data x.state then later else tag_of x) f
 
 between_end : (state : State) (bytes later : List ℕ) → front_of at_front bytes ≡ at_front → is_between state ≡ true → tag_in (kind_of state bytes) bytes later ≡ later
 unfolding kind_of
 between_end Data bytes later f e = refl
-between_end CharacterReference bytes later f e = at_end CharacterReference at_front bytes later f refl
-between_end ReferenceName bytes later f e = at_end ReferenceName at_front bytes later f refl
-between_end ReferenceEnd bytes later f e = at_end ReferenceEnd at_front bytes later f refl
-between_end MarkupEnd bytes later f e = at_end MarkupEnd at_front bytes later f refl
-between_end state bytes later f e = absurd (cc e)
+between_end state bytes later f e = at_end state at_front bytes later f refl
 
 past_not_data : (state : State) → is_past_front state ≡ true → is_data state ≡ false
 past_not_data Data e = absurd (cc e)
@@ -364,30 +368,12 @@ unfolding front_after
 sign_with b c e = sign_cases (is_continuation b) (b == 60) b c e
 
 -- the first piece from a state on that is not that of text: it begins with these bytes, and is no text
-abbrev pub is_text : PieceKind → Bool
-is_text Text = true
-is_text _ = false
-
 pub record FirstMarkup (front : List ℕ) (ps : List Piece) : Type 0 where
   pub more : List ℕ
   pub kind : PieceKind
   pub rest : List Piece
   pub is : ps ≡ record { kind = kind; bytes = front ++ more } ∷ rest
   pub kind_is : is_text kind ≡ false
-
-either_markup : (c : Bool) (kind : PieceKind) → is_text kind ≡ false → is_text (if c then EndTag else kind) ≡ false
-either_markup true kind e = refl
-either_markup false kind e = e
-
-markup_kind : (state : State) (front : List ℕ) → is_data state ≡ false → is_text (kind_of state front) ≡ false
-unfolding kind_of
-markup_kind Data front e = absurd (cc e)
-markup_kind CharacterReference front e = refl
-markup_kind ReferenceName front e = refl
-markup_kind ReferenceEnd front e = refl
-markup_kind TagEnd front e = either_markup (is_end_tag front) StartTag refl
-markup_kind EmptyTagEnd front e = either_markup (is_end_tag front) EmptyTag refl
-markup_kind state front e = refl
 
 markup_of : (state : State) (front : List ℕ) (rest : List Piece) → is_data state ≡ false → FirstMarkup front (piece state front ∷ rest)
 markup_of state front rest e = record {
