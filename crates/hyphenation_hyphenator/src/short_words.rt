@@ -105,17 +105,24 @@ fn copy_word(word: &str, buffer: &mut [u8; 65])
     buffer[..word.len()].copy_from_slice(word.as_bytes());
 }
 
-// Whether the first bytes are ASCII. The first of all is tested before, since `is_ascii` takes long where it fails.
+// Whether the first bytes of a buffer are ASCII. They are the word's, and are not tested where it begins otherwise.
 #[inline(always)]
-fn are_ascii(buffer: &[u8; 65], lanes: usize) -> bool
+fn are_ascii(word: &str, buffer: &[u8; 65], lanes: usize) -> bool
     requires { lanes ≤ 64 }
     ensures { IsTrue result → IsAscii (take lanes buffer.now) }
 {
-    buffer[0] < 0x80 && buffer[..lanes].is_ascii()
+    if !word.is_empty() && word.as_bytes()[0] >= 0x80 {
+        return false;
+    }
+    let mut all = true;
+    for at in 0..lanes {
+        all &= buffer[at] < 0x80;
+    }
+    all
 }
 
-// Whether each of the first bytes stays before the next one, but for capitals of ASCII: it begins no character, or one of
-// ASCII, or a common lowercase letter. It has no early exit, so that the bytes are tested at once.
+// Whether each of the first bytes stays before the next one, but for capitals of ASCII. It has no early exit, so that the
+// bytes are tested at once.
 #[inline(always)]
 fn all_stay(buffer: &[u8; 65], lanes: usize) -> bool
     requires { lanes ≤ 64 }
@@ -149,7 +156,7 @@ fn fold_at_once(word: &str, buffer: &mut [u8; 65], lanes: usize) -> Option<bool>
     ensures folded { IfSome result (λ _. take (length word.now) buffer.new ≡ fold_case word.now) }
 {
     copy_word(word, buffer);
-    let is_ascii = are_ascii(buffer, lanes);
+    let is_ascii = are_ascii(word, buffer, lanes);
     if !is_ascii && !all_stay(buffer, lanes) {
         return None;
     }

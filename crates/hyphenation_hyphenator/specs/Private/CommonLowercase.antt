@@ -16,7 +16,7 @@ is_common_pair first second =
     || (first == 0xC3 && (nat_le 0x9F second && nat_le second 0xBF)))
     || (first == 0xC5 && (second == 0x91 || second == 0xB1))
 
--- A byte stays before the next one, unless it is a capital of ASCII: it begins no character of more than a byte, or a common
--- lowercase letter.
+-- A byte stays before the next one, unless it is a capital of ASCII. It begins no character of more than a byte, or it
+-- begins a common lowercase letter.
 abbrev pub stays_before : ℕ → ℕ → Bool
 stays_before byte next = nat_lt byte 0xC0 || is_common_pair byte next
