@@ -13,3 +13,7 @@ mod BareParts
 pub mod WordLists
 pub mod LinePieces
 pub mod GatheredWords
+pub mod LineTails
+pub mod FullLines
+pub mod WholeWords
+pub mod OpenLines

@@ -7,11 +7,8 @@ use Rattle.std.proofs.lemmas.List.{get_or-map, take-map, drop-map, length-map, d
 use Rattle.line_division.specs.declared.stretch.Stretch.{Stretch}
 use Rattle.line_division.specs.Division.{Divides}
 use Rattle.paragraphs.specs.declared.part.Part.{Part}
-use Rattle.paragraphs.specs.declared.setting.Aim.{Aim}
-use Rattle.paragraphs.specs.declared.setting.Aim.TheVariants.{Full, Even}
 use Rattle.paragraphs.specs.Settings.{Setting, no_setting, setting_at, joined_text, shown_text, last_text, stretch_of, line_text, unbroken_to}
 use Rattle.paragraphs.specs.Private.PartSettings.{setting_of, settings_of}
-use Rattle.paragraphs.specs.Aims.{IsAimedAt}
 use Rattle.paragraphs.specs.Private.Ends.{Rise}
 
 pub settings_between : (parts : List Part) (a b : ℕ) → settings_of (slice_range parts a b) ≡ slice_range (settings_of parts) a b
@@ -37,10 +34,6 @@ divides_up stretches columns start (end ∷ row) divides = let rest = divides_up
 pub divides_rise : (stretches : List Stretch) (columns start : ℕ) (row : List ℕ) → Divides stretches columns start row → Rise start (length stretches) row
 divides_rise stretches columns start [] divides = tt
 divides_rise stretches columns start (end ∷ row) divides = (divides.0, divides_up stretches columns end row divides.2, divides_rise stretches columns end row divides.2)
-
-pub aimed_divides : (aim : Aim) (stretches : List Stretch) (columns : ℕ) (row : List ℕ) → IsAimedAt aim stretches columns row → Divides stretches columns 0 row
-aimed_divides Full stretches columns row aimed = aimed.divides
-aimed_divides (Even last_columns ladder) stretches columns row aimed = aimed.divides
 
 pub length-set_stretches : (parts : List Part) → length (map stretch_of (settings_of parts)) ≡ length parts
 length-set_stretches parts = length-map (settings_of parts) stretch_of ∙ length-map parts setting_of

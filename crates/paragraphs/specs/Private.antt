@@ -9,3 +9,4 @@ pub mod PartStyles
 pub mod PartSettings
 pub mod Printable
 pub mod Plain
+pub mod FullLines

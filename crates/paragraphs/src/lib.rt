@@ -8,6 +8,7 @@
 #![tactic(auto)]
 
 mod changes;
+mod full_lines;
 mod gathering;
 mod length;
 mod page;

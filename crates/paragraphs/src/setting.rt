@@ -4,7 +4,8 @@ ghost use Rattle.std.specs.Prelude.{◌≡◌, ℕ, ◌+◌, ◌*◌, ◌-◌, �
 ghost use Rattle.std.specs.Prelude.{OnOk, MatchOption, length, map};
 ghost use Rattle.std.specs.List.{list_all};
 ghost use Rattle.std.specs.String.{string_bytes};
-ghost use Rattle.paragraphs.specs.Aims.{IsAimedAt, IsSet};
+ghost use Rattle.paragraphs.specs.Aims.{IsSet};
+ghost use Rattle.paragraphs.specs.declared.setting.Aim.TheVariants.{Even};
 ghost use Rattle.paragraphs.specs.Private.Ends.{Rise};
 ghost use Rattle.paragraphs.specs.Private.PartSettings.{hyphen_if, joint_of, setting_of, settings_of, is_short_part};
 ghost use Rattle.paragraphs.specs.Private.PartSettings.{IsShort, IsBare};
@@ -16,7 +17,7 @@ use crate::soft_hyphens::{
     has_soft_hyphen, is_printable, push_without_soft_hyphens, without_soft_hyphens,
 };
 use crate::style::price_of;
-use line_division::{Stretch, even_ends, greedy_ends};
+use line_division::{Stretch, even_ends};
 use std::alloc::{AllocError, Global};
 use unicode_width::UnicodeWidthStr;
 
@@ -174,7 +175,7 @@ fn is_bare(part: &Part) -> bool
 // Returns the columns of a part of printable ASCII, without an indent and without a change.
 #[inline(always)]
 #[tactic(auto, using(crate::proofs::BareParts::bare_stretch))]
-fn bare_stretch(part: &Part) -> Stretch
+pub(crate) fn bare_stretch(part: &Part) -> Stretch
     requires { IsBare part.now }
     ensures { result ≡ stretch_of (setting_of part.now) }
 {
@@ -320,7 +321,7 @@ fn line_bytes(parts: &[Part], columns: u16, start: usize, end: usize) -> usize
 }
 
 // Returns the line from a start to an end. Most have about that many columns.
-fn line(
+pub(crate) fn line(
     alloc: Global,
     parts: &[Part],
     columns: u16,
@@ -342,7 +343,7 @@ fn line(
 }
 
 // Returns the lines that end at a row of ends. Most have about that many columns.
-fn lines(
+pub(crate) fn lines(
     alloc: Global,
     parts: &[Part],
     columns: u16,
@@ -361,38 +362,21 @@ fn lines(
     Ok(lines)
 }
 
-// Returns the ends of the lines of a paragraph of these stretches.
-fn ends(
-    alloc: Global,
-    stretches: &[Stretch],
-    columns: u16,
-    aim: Aim,
-) -> Result<Vec<usize>, AllocError>
-    requires count { length stretches.now < 2 ^ 30 }
-    ensures { IfOk result (λ ends. IsAimedAt aim stretches.now columns ends.items) }
-{
-    match aim {
-        Aim::Full => greedy_ends(alloc, stretches, columns),
-        Aim::Even {
-            last_columns,
-            ladder,
-        } => even_ends(alloc, stretches, columns, last_columns, ladder),
-    }
-}
-
-// Returns the lines of a paragraph that is made of these parts, which have these columns.
-pub(crate) fn set(
+// Returns the lines of a paragraph that cost the least. It is made of these parts, which have these columns.
+pub(crate) fn set_evenly(
     alloc: Global,
     parts: &[Part],
     stretches: &[Stretch],
     columns: u16,
-    aim: Aim,
+    last_columns: u16,
+    ladder: Option<u8>,
 ) -> Result<Vec<String>, AllocError>
     requires count { length parts.now < 2 ^ 30 }
     requires measured { stretches.now ≡ map stretch_of (settings_of parts.now) }
-    ensures { IfOk result (λ lines. IsSet aim (settings_of parts.now) columns (map string_bytes lines.items)) }
+    ensures { IfOk result (λ lines.
+        IsSet (Even last_columns ladder) (settings_of parts.now) columns (map string_bytes lines.items)) }
 {
-    let row = ends(alloc, stretches, columns, aim)?;
+    let row = even_ends(alloc, stretches, columns, last_columns, ladder)?;
     let lines = lines(alloc, parts, columns, &row)?;
     Ok(lines)
 }

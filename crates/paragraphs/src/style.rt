@@ -21,6 +21,8 @@ pub enum Indent {
     First,
     // The indent of the other lines.
     Other,
+    // None, since no line begins with the part.
+    Inside,
 }
 
 // Returns an indent of a style.
@@ -31,6 +33,7 @@ pub(crate) fn indent_of<'s>(style: &Style<'s>, indent: Indent) -> &'s str
     match indent {
         Indent::First => style.first,
         Indent::Other => style.indent,
+        Indent::Inside => "",
     }
 }
 

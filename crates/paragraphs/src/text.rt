@@ -1,23 +1,29 @@
 //! The parts of a paragraph, and its lines.
 
-ghost use Rattle.std.specs.Prelude.{◌≡◌, IfOk, IfErr, OnOk, map};
+ghost use Rattle.std.specs.Prelude.{◌≡◌, ◌<◌, false, IfOk, IfErr, OnOk, length, map};
+ghost use Rattle.std.specs.List.{list_all};
 ghost use Rattle.std.specs.String.{string_bytes};
+ghost use Rattle.paragraphs.specs.Aims.{IsSet};
+ghost use Rattle.paragraphs.specs.declared.setting.Aim.TheVariants.{Full, Even};
 ghost use Rattle.paragraphs.specs.Pages.{IsFilled};
+ghost use Rattle.paragraphs.specs.Private.FullLines.{IsOpen, IsAdded};
 ghost use Rattle.paragraphs.specs.Private.Open.{AddsParts};
 ghost use Rattle.paragraphs.specs.Private.PartSettings.{settings_of};
 ghost use Rattle.paragraphs.specs.Private.PartStyles.{indent_of};
-ghost use Rattle.paragraphs.specs.Settings.{IsTooLong};
+ghost use Rattle.paragraphs.specs.Settings.{is_short, IsTooLong};
 ghost use Rattle.paragraphs.specs.Styles.{style_of};
 ghost use Rattle.paragraphs.specs.Parts.{word_parts, other_parts, parts_of};
 ghost use Rattle.paragraphs.specs.Words.{words};
 
+use crate::full_lines::{FullLines, add_parts, add_whole, close, no_lines};
 use crate::part::Part;
 use crate::parting::StyledWord;
 use crate::plain::{FirstWord, next_word};
-use crate::setting::{Aim, set, stretches};
+use crate::setting::{Aim, set_evenly, stretches};
 use crate::style::{Indent, Style};
 use crate::word::push_word;
 use hyphenation_hyphenator::hyphenator::Hyphenator;
+use line_division::laws;
 use std::alloc::{AllocError, Global};
 
 // Adds the parts of a word that was found. A line that begins with it has this indent.
@@ -112,6 +118,131 @@ impl From<AllocError> for FillError {
     }
 }
 
+// Adds a word that was found, by its parts. A line that begins with it has this indent.
+fn add_parted<'s, 't, 'h, H: Hyphenator<'h>>(
+    dictionary: &'h H,
+    style: &'s Style<'t>,
+    indent: Indent,
+    word: &FirstWord<'t>,
+    breaks: &mut Vec<H::Opportunity>,
+    full: &mut FullLines<'s, 't>,
+) -> Result<(), FillError>
+    requires { IsOpen full.old }
+    ensures added { OnOk result (IsAdded full.old full.new (word_parts (H.breaks_of dictionary.now)
+        (style_of style.now) (indent_of style.now indent) (word.now).text.now)) }
+    ensures too_long { IfErr result (λ e. e ≡ FillError.TooLong → list_all is_short (word_parts
+        (H.breaks_of dictionary.now) (style_of style.now) (indent_of style.now indent) (word.now).text.now) ≡ false) }
+{
+    let alloc = *breaks.allocator();
+    let mut parts = Vec::with_capacity(alloc, 8)?;
+    push_found(dictionary, style, indent, word, breaks, &mut parts)?;
+    let measured = add_parts(alloc, full, &mut parts)?;
+    if !measured {
+        return Err(FillError::TooLong);
+    }
+    Ok(())
+}
+
+// Adds a word that is not the first one of its paragraph. It is parted only where it does not fit whole.
+fn add_word<'s, 't, 'h, H: Hyphenator<'h>>(
+    dictionary: &'h H,
+    style: &'s Style<'t>,
+    word: &FirstWord<'t>,
+    breaks: &mut Vec<H::Opportunity>,
+    full: &mut FullLines<'s, 't>,
+) -> Result<(), FillError>
+    requires { IsOpen full.old }
+    ensures added { OnOk result (IsAdded full.old full.new (word_parts (H.breaks_of dictionary.now)
+        (style_of style.now) (style.now).indent.now (word.now).text.now)) }
+    ensures too_long { IfErr result (λ e. e ≡ FillError.TooLong → list_all is_short (word_parts
+        (H.breaks_of dictionary.now) (style_of style.now) (style.now).indent.now (word.now).text.now) ≡ false) }
+{
+    if word.plain && word.text.len() < full.room as usize {
+        add_whole(full, style, word.text)?;
+        return Ok(());
+    }
+    add_parted(dictionary, style, Indent::Other, word, breaks, full)
+}
+
+// Adds all words of a text, none of which is the first one of its paragraph.
+fn add_others<'s, 't, 'h, H: Hyphenator<'h>>(
+    dictionary: &'h H,
+    style: &'s Style<'t>,
+    text: &'t str,
+    breaks: &mut Vec<H::Opportunity>,
+    full: &mut FullLines<'s, 't>,
+) -> Result<(), FillError>
+    requires is_open { IsOpen full.old }
+    requires some { 0 < length full.old.stretches.items }
+    ensures added { OnOk result (IsAdded full.old full.new
+        (other_parts (H.breaks_of dictionary.now) (style_of style.now) (words text.now))) }
+    ensures too_long { IfErr result (λ e. e ≡ FillError.TooLong → list_all is_short
+        (other_parts (H.breaks_of dictionary.now) (style_of style.now) (words text.now)) ≡ false) }
+{
+    let mut rest = text;
+    while let Some(next) = next_word(rest) {
+        add_word(dictionary, style, &next, breaks, full)?;
+        rest = next.after;
+    }
+    Ok(())
+}
+
+// Returns the lines of a paragraph, each of which holds as much as fits.
+#[tactic(auto, using(crate::proofs::OpenLines::too_long_first, crate::proofs::OpenLines::too_long_others))]
+fn full_lines<'h, H: Hyphenator<'h>>(
+    alloc: Global,
+    dictionary: &'h H,
+    style: &Style,
+    text: &str,
+    columns: u16,
+) -> Result<Vec<String>, FillError>
+    ensures lines { IfOk result (λ lines. IsSet Full (parts_of (H.breaks_of dictionary.now) (style_of style.now)
+        (words text.now)) columns (map string_bytes lines.items)) }
+    ensures too_long { IfErr result (λ e. e ≡ FillError.TooLong →
+        IsTooLong (parts_of (H.breaks_of dictionary.now) (style_of style.now) (words text.now))) }
+{
+    laws::furthest_ends_are_fewest();
+    let Some(first) = next_word(text) else {
+        return Ok(Vec::new(alloc));
+    };
+    let mut full = no_lines(alloc, columns);
+    let mut breaks = Vec::with_capacity(alloc, 16)?;
+    let indent = Indent::First;
+    add_parted(dictionary, style, indent, &first, &mut breaks, &mut full)?;
+    add_others(dictionary, style, first.after, &mut breaks, &mut full)?;
+    let lines = close(alloc, full)?;
+    Ok(lines)
+}
+
+// Returns the lines of a paragraph that cost the least.
+fn even_lines<'h, H: Hyphenator<'h>>(
+    alloc: Global,
+    dictionary: &'h H,
+    style: &Style,
+    text: &str,
+    columns: u16,
+    last_columns: u16,
+    ladder: Option<u8>,
+) -> Result<Vec<String>, FillError>
+    ensures lines { IfOk result (λ lines. IsSet (Even last_columns ladder) (parts_of (H.breaks_of dictionary.now)
+        (style_of style.now) (words text.now)) columns (map string_bytes lines.items)) }
+    ensures too_long { IfErr result (λ e. e ≡ FillError.TooLong →
+        IsTooLong (parts_of (H.breaks_of dictionary.now) (style_of style.now) (words text.now))) }
+{
+    let parts = parts_of(alloc, dictionary, style, text)?;
+    if parts.len() >= 1 << 30 {
+        return Err(FillError::TooLong);
+    }
+    let made = stretches(alloc, &parts)?;
+    match made {
+        Some(stretches) => {
+            let lines = set_evenly(alloc, &parts, &stretches, columns, last_columns, ladder)?;
+            Ok(lines)
+        }
+        None => Err(FillError::TooLong),
+    }
+}
+
 /// Returns the lines of a paragraph: its words with one space between them, broken where a line ends.
 ///
 /// A word is what is between gaps. It may be broken where the dictionary breaks one of its pieces between Unicode's
@@ -138,16 +269,25 @@ pub fn fill<'h, H: Hyphenator<'h>>(
     ensures too_long { IfErr result (λ e. e ≡ FillError.TooLong →
         IsTooLong (parts_of (H.breaks_of dictionary.now) (style_of style.now) (words text.now))) }
 {
-    let parts = parts_of(alloc, dictionary, style, text)?;
-    if parts.len() >= 1 << 30 {
-        return Err(FillError::TooLong);
-    }
-    let made = stretches(alloc, &parts)?;
-    match made {
-        Some(stretches) => {
-            let lines = set(alloc, &parts, &stretches, columns, aim)?;
+    match aim {
+        Aim::Full => {
+            let lines = full_lines(alloc, dictionary, style, text, columns)?;
             Ok(lines)
         }
-        None => Err(FillError::TooLong),
+        Aim::Even {
+            last_columns,
+            ladder,
+        } => {
+            let lines = even_lines(
+                alloc,
+                dictionary,
+                style,
+                text,
+                columns,
+                last_columns,
+                ladder,
+            )?;
+            Ok(lines)
+        }
     }
 }

@@ -1,34 +1,33 @@
-use Rattle.std.proofs.Common.{◌≡◌, false, MatchOption, sym, ap, subst, map, ◌∙◌}
-use Rattle.std.specs.List.{list_all}
+use Rattle.std.proofs.Common.{List, ℕ, map, sym, subst}
 use Rattle.std.specs.String.{string_bytes}
 use Rattle.paragraphs.specs.Aims.{IsSet}
-use Rattle.paragraphs.specs.Settings.{stretch_of}
-use Rattle.paragraphs.specs.Private.PartSettings.{settings_of, is_short_part}
 use Rattle.paragraphs.specs.Styles.{style_of}
 use Rattle.paragraphs.specs.Parts.{parts_of}
 use Rattle.paragraphs.specs.Words.{words}
 use Rattle.paragraphs.proofs.PlainParts.{plain_parts_orderly}
-use Rattle.paragraphs.proofs.ShortParts.{not_all_short}
 use Rattle.paragraphs.proofs.WordsKept.{words_kept}
 use Rattle.paragraphs.proofs.text.fill.Goals as goal
 
-pub returns-clause-too_long : goal.returns-clause-too_long
-returns-clause-too_long g c = λ _.
-    let style = style_of c.args.style.now in
-    let read = c.deref.result.now in
-    let long = subst (λ m. MatchOption m (list_all is_short_part read ≡ false) (λ v. v.items ≡ map stretch_of (settings_of read))) c.in-None.is c.in_ok-made.ensures in
-    not_all_short c.in_ok-parts.parts.items (parts_of (g.H.Hyphenator.breaks_of c.args.dictionary.now) style (words c.args.text.now)) c.in_ok-parts.ensures
-    (ap (list_all is_short_part) (sym c.deref.ensures.value) ∙ long)
-
-pub returns-in-Some-clause-lines : goal.returns-in-Some-clause-lines
-returns-in-Some-clause-lines g c =
+pub returns-in_ok-lines-in-Full-clause-lines : goal.returns-in_ok-lines-in-Full-clause-lines
+returns-in_ok-lines-in-Full-clause-lines g c =
     let breaks_of = g.H.Hyphenator.breaks_of c.args.dictionary.now in
     let style = style_of c.args.style.now in
     let all = words c.args.text.now in
+    let lines = map string_bytes c.in_ok-lines-in-Full.lines.items in
     record {
-      set =
-          subst (λ parts. IsSet c.args.aim parts c.args.columns (map string_bytes c.in_ok-lines-in-Some.lines.items))
-          (ap settings_of c.deref-in-Some.ensures.value ∙ c.in_ok-parts.ensures) c.in_ok-lines-in-Some.ensures;
+      set = subst (λ aim. IsSet aim (parts_of breaks_of style all) c.args.columns lines) (sym c.in-Full.is) c.in_ok-lines-in-Full.ensures.lines;
+      keeps = words_kept breaks_of style all;
+      orderly = plain_parts_orderly breaks_of style all;
+    }
+
+pub returns-in_ok-lines-in-Even-clause-lines : goal.returns-in_ok-lines-in-Even-clause-lines
+returns-in_ok-lines-in-Even-clause-lines g c =
+    let breaks_of = g.H.Hyphenator.breaks_of c.args.dictionary.now in
+    let style = style_of c.args.style.now in
+    let all = words c.args.text.now in
+    let lines = map string_bytes c.in_ok-lines-in-Even.lines.items in
+    record {
+      set = subst (λ aim. IsSet aim (parts_of breaks_of style all) c.args.columns lines) (sym c.in-Even.is) c.in_ok-lines-in-Even.ensures.lines;
       keeps = words_kept breaks_of style all;
       orderly = plain_parts_orderly breaks_of style all;
     }
