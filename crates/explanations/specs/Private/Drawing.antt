@@ -1,19 +1,19 @@
--- The columns of a layout, the scores of winners, and the facts that code holds.
+-- A picture as code holds it, the scores of winners, and the facts that code holds.
 use Rattle.std.specs.Prelude.{List, map, Option, option_copied, option_map}
 use Rattle.std.specs.Borrow.{Bor}
 use Rattle.std.specs.String.{string_bytes}
 use Rattle.hyphenation_breaks.specs.Break.{Break, Change}
 use Rattle.hyphenation_breaks.specs.declared.entry.Entry.{Entry}
 use Rattle.hyphenation_score.specs.Scoring.{Scored, score_of_winner}
-use Rattle.explanations.specs.Columns.{Columns}
 use Rattle.explanations.specs.Facts.{Facts}
+use Rattle.explanations.specs.Picture.{Painted}
 use Rattle.explanations.specs.Rows.{row_of}
-use Rattle.explanations.specs.declared.layout.Layout.{Layout}
 use Rattle.explanations.specs.declared.known.Known.{Known}
+use Rattle.explanations.specs.declared.picture.Canvas.{Canvas}
 
--- The columns that a layout holds.
-abbrev pub held_columns : Layout → Columns
-held_columns layout = record { values = layout.values.items; begins = layout.begins.items }
+-- A picture as far as it is made.
+abbrev pub painted : Canvas → Painted
+painted canvas = record { svg = canvas.svg; text = canvas.text.items; column = canvas.column }
 
 -- The scores of winners.
 abbrev pub scores_by : {C : Type 0} → (C → Option Change) → List (Option (Bor (Entry C))) → List Scored
