@@ -14,7 +14,7 @@ control_lead = 194
 abbrev pub are_control : ℕ → ℕ → Bool
 are_control first second = (first == control_lead) && (nat_le 128 second && nat_lt second 160)
 
--- A byte in a field, by the bytes before and after it. A backslash is escaped. Of the control characters `\t`, `\n` and `\r` have a
+-- A byte in a field, by the bytes before and after it. A backslash is escaped. The control characters `\t`, `\n` and `\r` have a
 -- letter, and any other its number, as in `\u{1b}`. One of two bytes has its escape in place of the second.
 abbrev pub field_byte : ℕ → ℕ → ℕ → List ℕ
 field_byte before byte after =

@@ -107,8 +107,8 @@ unfoldable pub line_put : List Place → (ℕ → Option Mark) → ℕ → List 
 line_put places marks start letters column note painted =
     row_ended (note_put column note (letters_put places marks start true 0 0 letters (row_begun (line_begin places start) painted)))
 
--- A row is put. That of a pattern has its text with its values, below the frame, and then their changes. Without a pattern it is the
--- row of the scores: the word with the greatest value of each place, and the changes of these.
+-- A row is put. The row of a pattern has its text with its values, below the frame, and then their changes. Without a pattern it is
+-- the row of the scores: the word with the greatest value of each place, and the changes of these.
 unfoldable pub row_put : {C : Type 0} → (C → Option Change) → List Place → Facts C → Option (PatternRow C) → Painted → Painted
 row_put {C} change_of places facts None painted =
     line_put places (mark_at {C = C} facts.folded facts.scores None) 1 facts.folded (note_column places 0)

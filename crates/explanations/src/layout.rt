@@ -85,7 +85,8 @@ fn room_above<C>(
     Ok(values)
 }
 
-// Returns the columns of each place of a frame, by its characters and the columns for values. The only error is out of memory.
+// Returns the columns of each place of a frame, by its characters and the columns for values. The only error is out of
+// memory.
 fn places_of_chars(
     alloc: Global,
     letters: &[char],

@@ -1,11 +1,10 @@
 //! The values of a drawing: what is at each place of a row.
 
-ghost use Rattle.std.specs.Prelude.{◌≡◌, option_copied, option_map};
+ghost use Rattle.std.specs.Prelude.{◌≡◌, option_copied};
 ghost use Rattle.hyphenation_breaks.specs.Break.{is_boundary};
 ghost use Rattle.hyphenation_score.specs.Scoring.{score_of_winner, scored_pair};
 ghost use Rattle.explanations.specs.Marks.{entry_value, mark_at, pattern_mark, score_value};
-ghost use Rattle.explanations.specs.Private.Drawing.{scores_by};
-ghost use Rattle.explanations.specs.Rows.{row_of};
+ghost use Rattle.explanations.specs.Private.Drawing.{pattern_in, scores_by};
 
 use crate::pattern_rows::Row;
 use hyphenation_breaks::entry::{Entry, Payload};
@@ -82,8 +81,7 @@ pub(crate) fn mark_at<C: Payload>(
     row: Option<&Row<'_, C>>,
     place: usize,
 ) -> Option<Mark>
-    ensures { result ≡ mark_at word.now (scores_by C.change_of winners.now)
-        (option_map row_of (option_copied row.entry)) place }
+    ensures { result ≡ mark_at word.now (scores_by C.change_of winners.now) (pattern_in row.entry) place }
 {
     let greatest = score_value(word, winners, place.saturating_sub(1));
     match row {

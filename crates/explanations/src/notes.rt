@@ -1,10 +1,9 @@
 //! The notes beside rows: the changes of values, and the fact that decides.
 
-ghost use Rattle.std.specs.Prelude.{◌≡◌, ◌++◌, IfOk, OnOk, flat_map, option_copied, option_map};
+ghost use Rattle.std.specs.Prelude.{◌≡◌, ◌++◌, IfOk, OnOk, flat_map, option_copied};
 ghost use Rattle.std.specs.String.{string_bytes};
 ghost use Rattle.explanations.specs.Notes.{change_note, decision_text, entry_note, row_note, scores_note};
-ghost use Rattle.explanations.specs.Private.Drawing.{scores_by};
-ghost use Rattle.explanations.specs.Rows.{row_of};
+ghost use Rattle.explanations.specs.Private.Drawing.{pattern_in, scores_by};
 
 use crate::facts::Decision;
 use crate::marks::score_of;
@@ -63,8 +62,8 @@ pub(crate) fn row_note<C: Payload>(
     winners: &[Option<&Entry<C>>],
     row: Option<&Row<'_, C>>,
 ) -> Result<Vec<u8>, AllocError>
-    ensures { IfOk result (λ note. note.items ≡ row_note C.change_of (scores_by C.change_of winners.now)
-        (option_map row_of (option_copied row.entry))) }
+    ensures { IfOk result (λ note. note.items
+        ≡ row_note C.change_of (scores_by C.change_of winners.now) (pattern_in row.entry)) }
 {
     match row {
         Some(row) => entries_note(alloc, row.entries),

@@ -1,11 +1,11 @@
 //! The rows of a picture: for people lines, and in a drawing in SVG elements.
 
-ghost use Rattle.std.specs.Prelude.{◌≡◌, [], IfOk, IfSome, OnOk, map, option_copied, option_map};
+ghost use Rattle.std.specs.Prelude.{◌≡◌, [], IfOk, IfSome, OnOk, map};
 ghost use Rattle.std.specs.String.{string_bytes};
 ghost use Rattle.explanations.specs.Marks.{mark_at};
 ghost use Rattle.explanations.specs.Picture.{breaks_put, byte_put, letter_put, line_put, marked, note_put, picture_of};
 ghost use Rattle.explanations.specs.Picture.{put, row_put, rows_put, value_class, value_put, whole_row};
-ghost use Rattle.explanations.specs.Private.Drawing.{facts_in, painted, scores_by};
+ghost use Rattle.explanations.specs.Private.Drawing.{facts_in, painted, pattern_in, scores_by};
 ghost use Rattle.explanations.specs.Rows.{row_of, LiesWithin};
 
 use crate::escaping::{push_escaped, push_escaped_byte};
@@ -162,7 +162,7 @@ impl Canvas {
         note: &[u8],
     ) -> Result<(), AllocError>
         ensures { OnOk result (painted self.new ≡ line_put places.now (mark_at (string_bytes facts.now.folded)
-            (scores_by C.change_of facts.now.winners.items) (option_map row_of (option_copied row.entry)))
+            (scores_by C.change_of facts.now.winners.items) (pattern_in row.entry))
             start letters.now column note.now (painted self.old)) }
     {
         self.mark(
@@ -202,7 +202,7 @@ impl Canvas {
     ) -> Result<(), AllocError>
         requires { IfSome row (λ row. LiesWithin (string_bytes known.now.facts.framed) (row_of row.now)) }
         ensures { OnOk result (painted self.new ≡ row_put C.change_of places.now
-            (facts_in C.change_of B.meaning known.now) (option_map row_of (option_copied row.entry)) (painted self.old)) }
+            (facts_in C.change_of B.meaning known.now) (pattern_in row.entry) (painted self.old)) }
     {
         let facts = &known.facts;
         let note = row_note(*self.text.allocator(), &facts.winners, row)?;

@@ -36,7 +36,8 @@ pub(crate) fn known_drawing<C: Payload, B: Listing>(
     alloc: Global,
     known: &Known<'_, '_, C, B>,
 ) -> Result<Drawing, AllocError>
-    ensures { IfOk result (λ drawing. drawn drawing ≡ picture_of true C.change_of (facts_in C.change_of B.meaning known.now)) }
+    ensures { IfOk result (λ drawing. drawn drawing
+        ≡ picture_of true C.change_of (facts_in C.change_of B.meaning known.now)) }
 {
     let rows = sum(known.facts.rows.len(), 4)?;
     let canvas = picture_of(alloc, true, known)?;
