@@ -4,7 +4,7 @@ use Rattle.std.specs.Char.{digit_char, is_ascii_control}
 use Rattle.std.specs.Char.Escape.{escape_unicode, hex_digit_at}
 use Rattle.std.proofs.lemmas.Bool.Decides.{nat_tests}
 use Rattle.std.proofs.lemmas.List.Elements.{All-append, All-from_recursion, All-nil}
-use Rattle.explanations.specs.Fields.{are_control, control_escape, field_after, field_byte}
+use Rattle.explanations.specs.Fields.{are_control, field_after, field_byte}
 
 -- A byte is no control character.
 abbrev IsFree : ℕ → Type 0
@@ -37,16 +37,13 @@ escape_free number =
 letter_free : (letter : ℕ) → IsFree letter → All IsFree (92 ∷ letter ∷ [])
 letter_free letter h = All-from_recursion IsFree (92 ∷ letter ∷ []) (refl, (h, tt))
 
-control_free : (byte : ℕ) → All IsFree (control_escape byte)
-control_free byte = free_by (byte == 9) _ _ (letter_free 116 refl)
-    (λ _. free_by (byte == 10) _ _ (letter_free 110 refl) (λ _. free_by (byte == 13) _ _ (letter_free 114 refl) (λ _. escape_free byte)))
-
 byte_free : (before byte after : ℕ) → All IsFree (field_byte before byte after)
 byte_free before byte after =
     free_by (byte == 92) _ _ (letter_free 92 refl)
-    (λ _. free_by (is_ascii_control byte) _ _ (control_free byte)
+    (λ _. free_by (byte == 9) _ _ (letter_free 116 refl) (λ _. free_by (byte == 10) _ _ (letter_free 110 refl) (λ _. free_by (byte == 13) _ _ (letter_free 114 refl)
+    (λ _. free_by (is_ascii_control byte) _ _ (escape_free byte)
     (λ not. free_by (are_control byte after) _ _ (All-nil IsFree)
-    (λ _. free_by (are_control before byte) _ _ (escape_free byte) (λ _. All-from_recursion IsFree (byte ∷ []) (not, tt)))))
+    (λ _. free_by (are_control before byte) _ _ (escape_free byte) (λ _. All-from_recursion IsFree (byte ∷ []) (not, tt))))))))
 
 pub text_free : (before : ℕ) (text : List ℕ) → All (λ byte. is_ascii_control byte ≡ false) (field_after before text)
 text_free before [] = All-nil IsFree

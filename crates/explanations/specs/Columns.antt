@@ -1,9 +1,10 @@
 -- The columns of a picture: where the letters of its rows and the words about them begin.
-use Rattle.std.specs.Prelude.{ℕ, ◌+◌, ◌-◌, nat_lt, nat_le, ◌&&◌, false, if◌then◌else◌, List, [], ◌∷◌, ◌++◌, length, chars, map, max, replicate, slice_index, slice_set, unwrap_or}
+use Rattle.std.specs.Prelude.{ℕ, ◌+◌, ◌-◌, nat_lt, nat_le, ◌&&◌, false, if◌then◌else◌, List, [], ◌∷◌, ◌++◌, length, chars, map, max, replicate, slice_index, slice_index_or, slice_set, unwrap_or}
 use Rattle.std.specs.Char.{len_utf8}
 use Rattle.unicode_width.specs.Width.{char_width}
 use Rattle.hyphenation_breaks.specs.declared.entry.Entry.{Entry}
 use Rattle.explanations.specs.Rows.{PatternRow}
+use Rattle.explanations.specs.declared.layout.Place.{Place}
 
 -- The columns of a value, which is at most 255: one for each digit.
 abbrev pub value_columns : ℕ → ℕ
@@ -36,43 +37,42 @@ abbrev pub with_room_for : {C : Type 0} → List ℕ → List (PatternRow C) →
 with_room_for columns [] = columns
 with_room_for columns (row ∷ rows) = with_room_for (with_room_for_entries row.start columns row.entries) rows
 
--- The column after a character at a place, before which the columns for its value are.
-abbrev pub column_past : List ℕ → ℕ → ℕ → ℕ → ℕ
-column_past values place column c = column + slice_index values place + shown_columns c
+-- The columns for the value at each place of a frame above rows: those of the widest value that rows have there.
+abbrev pub with_room_above : {C : Type 0} → List ℕ → List (PatternRow C) → List ℕ
+with_room_above framed rows = with_room_for (single_columns framed) rows
 
--- For each byte of a text of these characters, and for its end, the column at which the value before it begins. For a byte
--- within a character it is the column after this.
-abbrev pub begins_from : List ℕ → ℕ → ℕ → List ℕ → List ℕ
-begins_from values place column [] = column ∷ []
-begins_from values place column (c ∷ cs) = column ∷ replicate (len_utf8 c - 1) (column_past values place column c)
-    ++ begins_from values (place + len_utf8 c) (column_past values place column c) cs
+-- A place whose value begins at this column. Value and letter have that many columns.
+abbrev pub place_at : ℕ → ℕ → ℕ → Place
+place_at column value letter = record { value = column; letter = column + value; end = column + value + letter }
 
--- The columns of a frame: for the value at each place, how many it has and at which one it begins.
-pub record Columns : Type 0 where
-  pub values : List ℕ
-  pub begins : List ℕ
+-- A place within a character, which ends at this column.
+abbrev pub place_within : ℕ → Place
+place_within column = record { value = column; letter = column; end = column }
 
--- The columns of a text by those for values.
-abbrev pub columns_by : List ℕ → List ℕ → Columns
-columns_by text values = record { values = values; begins = begins_from values 0 0 (chars text) }
+-- The places of a text of these characters from this one on, and of its end. The value of the first begins at this column.
+abbrev pub places_from : List ℕ → ℕ → ℕ → List ℕ → List Place
+places_from values at column [] = record { value = column; letter = column + slice_index values at; end = column + slice_index values at } ∷ []
+places_from values at column (c ∷ cs) = place_at column (slice_index values at) (shown_columns c)
+    ∷ replicate (len_utf8 c - 1) (place_within (column + slice_index values at + shown_columns c))
+    ++ places_from values (at + len_utf8 c) (column + slice_index values at + shown_columns c) cs
 
--- The columns of a frame above rows. The widest value that rows have at a place has room there.
-abbrev pub columns_above : {C : Type 0} → List ℕ → List (PatternRow C) → Columns
-columns_above framed rows = columns_by framed (with_room_for (single_columns framed) rows)
+-- The places of a frame above rows.
+abbrev pub places_above : {C : Type 0} → List ℕ → List (PatternRow C) → List Place
+places_above framed rows = places_from (with_room_above framed rows) 0 0 (chars framed)
+
+-- The place at a number of bytes.
+unfoldable pub place_in : List Place → ℕ → Place
+place_in places at = slice_index_or places at (record { value = 0; letter = 0; end = 0 })
 
 -- The number of columns of a frame.
-abbrev pub frame_columns : Columns → ℕ
-frame_columns columns = slice_index columns.begins (length columns.begins - 1)
-
--- The column of the letter at a place, after the columns for its value.
-abbrev pub letter_column : Columns → ℕ → ℕ
-letter_column columns place = slice_index columns.begins place + slice_index columns.values place
+abbrev pub frame_columns : List Place → ℕ
+frame_columns places = (place_in places (length places - 1)).value
 
 -- The column of a picture at which the line of a row begins that starts at this place of the frame. Below a frame of more than
 -- 400 columns the line begins with the row.
-abbrev pub line_begin : Columns → ℕ → ℕ
-line_begin columns start = if nat_lt 400 (frame_columns columns) then slice_index columns.begins start else 0
+unfoldable pub line_begin : List Place → ℕ → ℕ
+line_begin places start = if nat_lt 400 (frame_columns places) then (place_in places start).value else 0
 
 -- The column at which the words about a row of the whole word begin, whose letters have these columns from the first letter on.
-abbrev pub note_column : Columns → ℕ → ℕ
-note_column columns width = max (frame_columns columns + 2) (letter_column columns 1 + width) + 2
+unfoldable pub note_column : List Place → ℕ → ℕ
+note_column places width = max (frame_columns places + 2) ((place_in places 1).letter + width) + 2

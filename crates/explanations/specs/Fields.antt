@@ -14,16 +14,12 @@ control_lead = 194
 abbrev pub are_control : ℕ → ℕ → Bool
 are_control first second = (first == control_lead) && (nat_le 128 second && nat_lt second 160)
 
--- A control character of one byte, escaped. `\t`, `\n` and `\r` have a letter, any other its number, as in `\u{1b}`.
-abbrev pub control_escape : ℕ → List ℕ
-control_escape byte =
-    if byte == tab then codes "\\t" else if byte == line_feed then codes "\\n"
-    else if byte == carriage_return then codes "\\r" else escape_unicode byte
-
--- A byte in a field, by the bytes before and after it. A control character of two bytes has its escape in place of the second.
+-- A byte in a field, by the bytes before and after it. A backslash is escaped. The control characters `\t`, `\n` and `\r` have a
+-- letter, and any other its number, as in `\u{1b}`. One of two bytes has its escape in place of the second.
 abbrev pub field_byte : ℕ → ℕ → ℕ → List ℕ
 field_byte before byte after =
-    if byte == backslash then codes "\\\\" else if is_ascii_control byte then control_escape byte
+    if byte == backslash then codes "\\\\" else if byte == tab then codes "\\t" else if byte == line_feed then codes "\\n"
+    else if byte == carriage_return then codes "\\r" else if is_ascii_control byte then escape_unicode byte
     else if are_control byte after then [] else if are_control before byte then escape_unicode byte else byte ∷ []
 
 -- A text in a field, after a byte.

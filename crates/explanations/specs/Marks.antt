@@ -1,6 +1,5 @@
 -- The values of a picture: what is at each place of a row.
-use Rattle.std.specs.Prelude.{ℕ, ◌+◌, ◌-◌, ◌==◌, false, if◌then◌else◌, List, length, find, map, replicate, Option, Some, None, option_map, slice_get}
-use Rattle.std.specs.List.{range_with_len}
+use Rattle.std.specs.Prelude.{ℕ, ◌-◌, ◌==◌, false, if◌then◌else◌, List, find, Option, Some, None, option_map, slice_get}
 use Rattle.hyphenation_breaks.specs.Break.{is_boundary}
 use Rattle.hyphenation_breaks.specs.declared.entry.Entry.{Entry}
 use Rattle.hyphenation_score.specs.Scoring.{Scored}
@@ -27,19 +26,8 @@ abbrev pub pattern_mark : Option ℕ → ℕ → Mark
 pattern_mark None value = record { value = value; wins = false }
 pattern_mark (Some greatest) value = record { value = value; wins = greatest == value }
 
--- The values of a frame: none before each byte and at the end.
-abbrev pub no_marks : List ℕ → List (Option Mark)
-no_marks framed = replicate (length framed + 1) None
-
--- The value of a row at a place of the frame.
-abbrev pub mark_of : {C : Type 0} → List ℕ → List Scored → PatternRow C → ℕ → Option Mark
-mark_of folded scores row place =
+-- The value of a row at a place of the frame. Without a pattern it is the greatest value there.
+unfoldable pub mark_at : {C : Type 0} → List ℕ → List Scored → Option (PatternRow C) → ℕ → Option Mark
+mark_at folded scores None place = option_map score_mark (score_value folded scores (place - 1))
+mark_at folded scores (Some row) place =
     option_map (pattern_mark (score_value folded scores (place - 1))) (entry_value row.entries (place - row.start))
-
--- The values of a row, at each place of the frame from its start to its end.
-abbrev pub row_marks : {C : Type 0} → List ℕ → List Scored → PatternRow C → List (Option Mark)
-row_marks folded scores row = map (mark_of folded scores row) (range_with_len row.start (row.bytes + 1))
-
--- The greatest value of each place.
-abbrev pub score_marks : List ℕ → List Scored → List (Option Mark)
-score_marks folded scores = map (λ place. option_map score_mark (score_value folded scores place)) (range_with_len 0 (length folded + 1))

@@ -3,6 +3,7 @@ use Rattle.std.specs.Prelude.{ℕ, List, [], ◌++◌, codes, Option, Some, None
 use Rattle.hyphenation_breaks.specs.Break.{Change, before_of, after_of}
 use Rattle.hyphenation_breaks.specs.declared.entry.Entry.{Entry}
 use Rattle.hyphenation_score.specs.Scoring.{Scored}
+use Rattle.explanations.specs.Rows.{PatternRow}
 use Rattle.explanations.specs.declared.facts.Decision.{Decision}
 use Rattle.explanations.specs.declared.facts.Decision.TheVariants.{SoftHyphens, TooShort, Exception, Patterns}
 
@@ -25,6 +26,11 @@ score_note score = change_note score.value score.change
 -- The note of the scores.
 abbrev pub scores_note : List Scored → List ℕ
 scores_note scores = codes "the greatest value of each place" ++ flat_map score_note scores
+
+-- The note of a row: the changes of its entries. Without a pattern the row is that of the scores.
+unfoldable pub row_note : {C : Type 0} → (C → Option Change) → List Scored → Option (PatternRow C) → List ℕ
+row_note change_of scores None = scores_note scores
+row_note change_of scores (Some row) = flat_map (entry_note change_of) row.entries
 
 -- Two numbers, the minima, after a text.
 abbrev pub with_minima : List ℕ → ℕ × ℕ → List ℕ

@@ -9,10 +9,6 @@ use Rattle.explanations.specs.declared.svg.TheConstants.{STYLE}
 abbrev pub drawn : Drawing → List ℕ
 drawn drawing = drawing.svg.items
 
--- An empty row, which is after each drawing.
-abbrev pub empty_row : List ℕ
-empty_row = codes "<tspan x='0' dy='24'>&#160;</tspan\n>"
-
 -- The beginning of a document of this width and height in pixels, with its title, style sheet and background.
 unfoldable pub document_begin : ℕ → ℕ → List ℕ
 document_begin width height =

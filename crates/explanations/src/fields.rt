@@ -4,7 +4,7 @@ ghost use Rattle.std.specs.Prelude.{◌≡◌, ◌++◌, ◌<◌, List, OnOk, �
 ghost use Rattle.std.specs.Char.{digit_char, is_ascii_control};
 ghost use Rattle.std.specs.List.{All};
 ghost use Rattle.std.specs.Char.Escape.{escape_unicode};
-ghost use Rattle.explanations.specs.Fields.{are_control, control_escape, field_byte, field_text};
+ghost use Rattle.explanations.specs.Fields.{are_control, field_byte, field_text};
 
 use crate::numbers::item_at;
 use std::alloc::AllocError;
@@ -30,21 +30,6 @@ fn push_number_escape(text: &mut Vec<u8>, number: u8) -> Result<(), AllocError>
     }
 }
 
-// Appends a control character of one byte, escaped.
-fn push_control(text: &mut Vec<u8>, byte: u8) -> Result<(), AllocError>
-    ensures { OnOk result (text.new.items ≡ text.old.items ++ control_escape byte) }
-{
-    if byte == b'\t' {
-        text.extend_from_slice(b"\\t")
-    } else if byte == b'\n' {
-        text.extend_from_slice(b"\\n")
-    } else if byte == b'\r' {
-        text.extend_from_slice(b"\\r")
-    } else {
-        push_number_escape(text, byte)
-    }
-}
-
 // Reports whether two bytes are a control character from U+0080 to U+009F.
 fn are_control(first: u8, second: u8) -> bool
     ensures { result ≡ are_control first second }
@@ -58,8 +43,14 @@ fn push_field_byte(text: &mut Vec<u8>, before: u8, byte: u8, after: u8) -> Resul
 {
     if byte == b'\\' {
         text.extend_from_slice(b"\\\\")
+    } else if byte == b'\t' {
+        text.extend_from_slice(b"\\t")
+    } else if byte == b'\n' {
+        text.extend_from_slice(b"\\n")
+    } else if byte == b'\r' {
+        text.extend_from_slice(b"\\r")
     } else if byte.is_ascii_control() {
-        push_control(text, byte)
+        push_number_escape(text, byte)
     } else if are_control(byte, after) {
         Ok(())
     } else if are_control(before, byte) {

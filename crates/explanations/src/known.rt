@@ -1,12 +1,11 @@
 //! All that is known of a word, of which its texts are made.
 
-ghost use Rattle.std.specs.Prelude.{◌≡◌, IfOk, codes, map};
-ghost use Rattle.std.specs.String.{string_bytes};
-ghost use Rattle.hyphenation_segments.specs.Segments.{marked_word};
+ghost use Rattle.std.specs.Prelude.{◌≡◌, IfOk, map};
 ghost use Rattle.explanations.specs.Facts.{place_of};
 ghost use Rattle.explanations.specs.Private.Knowing.{IsKnown};
 
-use crate::facts::{Explanation, explain};
+use crate::facts::Explanation;
+use crate::finding::explain;
 use hyphenation_breaks::breaks::Break;
 use hyphenation_breaks::entry::{Listing, Payload};
 use hyphenation_dictionary::dictionary::Dictionary;
@@ -36,16 +35,6 @@ fn places_of<O: Break>(alloc: Global, breaks: &[O]) -> Result<Vec<usize>, AllocE
     Ok(places)
 }
 
-// Returns a word with a hyphen at each of its breaks. The only error is out of memory.
-fn hyphenated<O: Break>(alloc: Global, word: &Word<'_, O>) -> Result<String, AllocError>
-    ensures { IfOk result (λ text. string_bytes text
-        ≡ marked_word (codes "-") word.now.text.now (map O.meaning word.now.breaks.items)) }
-{
-    let mut text = String::new(alloc);
-    push_marked(&mut text, word, "-")?;
-    Ok(text)
-}
-
 // Returns what is known of a word with known breaks, by a dictionary. The only error is out of memory.
 pub(crate) fn known_of<'a, 'd, C: Payload, B: Listing, O: Break>(
     alloc: Global,
@@ -55,10 +44,11 @@ pub(crate) fn known_of<'a, 'd, C: Payload, B: Listing, O: Break>(
     ensures { IfOk result (λ known. IsKnown C.change_of B.meaning dictionary.now word.now.text.now
         (map O.meaning word.now.breaks.items) known) }
 {
-    let facts = explain(alloc, dictionary, word.text)?;
     let places = places_of(alloc, &word.breaks)?;
-    let hyphenated = hyphenated(alloc, word)?;
+    let mut hyphenated = String::new(alloc);
+    push_marked(&mut hyphenated, word, "-")?;
     let minima = dictionary.minima();
+    let facts = explain(alloc, dictionary, word.text)?;
     Ok(Known {
         word: word.text,
         facts,

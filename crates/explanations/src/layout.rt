@@ -1,11 +1,8 @@
 //! The columns of a picture.
 
-ghost use Rattle.std.specs.Prelude.{◌≡◌, chars, map, slice_index, IfOk, OnOk};
-ghost use Rattle.explanations.specs.Columns.{begins_from, column_before, columns_above, frame_columns};
-ghost use Rattle.explanations.specs.Columns.{letter_column, line_begin, note_column};
-ghost use Rattle.explanations.specs.Columns.{single_columns, value_columns, with_room_at, with_room_for};
-ghost use Rattle.explanations.specs.Columns.{with_room_for_entries};
-ghost use Rattle.explanations.specs.Private.Drawing.{held_columns};
+ghost use Rattle.std.specs.Prelude.{◌≡◌, chars, map, IfOk, OnOk};
+ghost use Rattle.explanations.specs.Columns.{column_before, line_begin, note_column, place_in, places_above, places_from};
+ghost use Rattle.explanations.specs.Columns.{value_columns, with_room_above, with_room_at, with_room_for_entries};
 ghost use Rattle.explanations.specs.Rows.{row_of};
 
 use crate::numbers::{item_at, sum};
@@ -18,13 +15,12 @@ use unicode_width::UnicodeWidthChar;
 // with its row, so that a picture grows with the rows alone.
 const MOST_COLUMNS: usize = 400;
 
-// The columns of the letters of a frame.
-#[derive(Drop)]
-pub(crate) struct Layout {
-    // The number of columns for a value at each place of the frame; 0 within a character.
-    values: Vec<usize>,
-    // The column at which the value of each place begins.
-    begins: Vec<usize>,
+// The columns of a place of the frame: where its value begins, where its letter begins, and where the letter ends.
+#[derive(Clone, Copy)]
+pub(crate) struct Place {
+    pub(crate) value: usize,
+    pub(crate) letter: usize,
+    pub(crate) end: usize,
 }
 
 // The number of columns of a value.
@@ -45,18 +41,6 @@ fn column_before(byte: u8) -> usize
     ensures { result ≡ column_before byte }
 {
     if 128 <= byte && byte < 192 { 0 } else { 1 }
-}
-
-// Returns the number of columns for a value of one digit at each place of a frame. The only error is out of memory.
-fn single_columns(alloc: Global, framed: &[u8]) -> Result<Vec<usize>, AllocError>
-    ensures { IfOk result (λ values. values.items ≡ single_columns framed.now) }
-{
-    let mut values: Vec<usize> = framed
-        .iter()
-        .map(|byte| column_before(*byte))
-        .collect(alloc)?;
-    values.push(1)?;
-    Ok(values)
 }
 
 // Makes room for a value at a place.
@@ -82,101 +66,111 @@ fn make_room_for_entries<C>(
     Ok(())
 }
 
-// Makes room for the values of rows. The only error is out of memory.
-fn make_room_for<C>(values: &mut Vec<usize>, rows: &[Row<'_, C>]) -> Result<(), AllocError>
-    ensures { OnOk result (values.new.items ≡ with_room_for values.old.items (map row_of rows.now)) }
+// Returns the number of columns for a value at each place of a frame. The only error is out of memory.
+fn room_above<C>(
+    alloc: Global,
+    framed: &[u8],
+    rows: &[Row<'_, C>],
+) -> Result<Vec<usize>, AllocError>
+    ensures { IfOk result (λ values. values.items ≡ with_room_above framed.now (map row_of rows.now)) }
 {
+    let mut values: Vec<usize> = framed
+        .iter()
+        .map(|byte| column_before(*byte))
+        .collect(alloc)?;
+    values.push(1)?;
     for row in rows {
-        make_room_for_entries(values, row.start, row.entries)?;
+        make_room_for_entries(&mut values, row.start, row.entries)?;
     }
-    Ok(())
+    Ok(values)
 }
 
-// Returns the column at which the value of each place begins, by the characters of a frame. The only error is out of memory.
-fn begins_of_chars(
+// Returns the columns of each place of a frame, by its characters and the columns for values. The only error is out of
+// memory.
+fn places_of_chars(
     alloc: Global,
     letters: &[char],
     values: &[usize],
-) -> Result<Vec<usize>, AllocError>
-    ensures { IfOk result (λ begins. begins.items ≡ begins_from values.now 0 0 letters.now) }
+) -> Result<Vec<Place>, AllocError>
+    ensures { IfOk result (λ places. places.items ≡ places_from values.now 0 0 letters.now) }
 {
-    let mut begins = Vec::new(alloc);
-    let mut place = 0;
-    let mut column = 0;
-    for letter in letters {
-        begins.push(column)?;
-        let letter_column = sum(column, item_at(values, place, 0))?;
-        column = sum(letter_column, letter.width().unwrap_or(1))?;
-        let bytes = sum(begins.len(), letter.len_utf8() - 1)?;
-        begins.resize(bytes, column)?;
-        place = sum(place, letter.len_utf8())?;
+    let mut places = Vec::new(alloc);
+    let mut at = 0;
+    let mut value = 0;
+    for character in letters {
+        let letter = sum(value, item_at(values, at, 0))?;
+        let end = sum(letter, character.width().unwrap_or(1))?;
+        places.push(Place { value, letter, end })?;
+        let past = sum(places.len(), character.len_utf8() - 1)?;
+        places.resize(
+            past,
+            Place {
+                value: end,
+                letter: end,
+                end,
+            },
+        )?;
+        at = sum(at, character.len_utf8())?;
+        value = end;
     }
-    begins.push(column)?;
-    Ok(begins)
+    let letter = sum(value, item_at(values, at, 0))?;
+    places.push(Place {
+        value,
+        letter,
+        end: letter,
+    })?;
+    Ok(places)
 }
 
-// Returns the column at which the value of each place of a frame begins. The only error is out of memory.
-fn begins_of(alloc: Global, framed: &str, values: &[usize]) -> Result<Vec<usize>, AllocError>
-    ensures { IfOk result (λ begins. begins.items ≡ begins_from values.now 0 0 (chars framed.now)) }
+// Returns the columns of each place of a frame above rows. The only error is out of memory.
+pub(crate) fn places_above<C>(
+    alloc: Global,
+    framed: &str,
+    rows: &[Row<'_, C>],
+) -> Result<Vec<Place>, AllocError>
+    ensures { IfOk result (λ places. places.items ≡ places_above framed.now (map row_of rows.now)) }
 {
     let letters: Vec<char> = framed.chars().collect(alloc)?;
-    begins_of_chars(alloc, &letters, values)
+    let values = room_above(alloc, framed.as_bytes(), rows)?;
+    let places = places_of_chars(alloc, &letters, &values)?;
+    Ok(places)
 }
 
-impl Layout {
-    // Returns the columns for a frame and its rows. The only error is out of memory.
-    pub(crate) fn new<C>(
-        alloc: Global,
-        framed: &str,
-        rows: &[Row<'_, C>],
-    ) -> Result<Layout, AllocError>
-        ensures { IfOk result (λ layout. held_columns layout ≡ columns_above framed.now (map row_of rows.now)) }
-    {
-        let mut values = single_columns(alloc, framed.as_bytes())?;
-        make_room_for(&mut values, rows)?;
-        let begins = begins_of(alloc, framed, &values)?;
-        Ok(Layout { values, begins })
-    }
+// Returns the columns of a place.
+#[tactic(auto, unfolding(crate::specs::Columns::place_in))]
+pub(crate) fn place_in(places: &[Place], at: usize) -> Place
+    ensures { result ≡ place_in places.now at }
+{
+    item_at(
+        places,
+        at,
+        Place {
+            value: 0,
+            letter: 0,
+            end: 0,
+        },
+    )
+}
 
-    // Returns the number of columns of the frame.
-    fn width(&self) -> usize
-        ensures { result ≡ frame_columns (held_columns self.now) }
-    {
-        item_at(&self.begins, self.begins.len().saturating_sub(1), 0)
+// Returns the column at which the line of a row begins, by the place at which the row starts.
+#[tactic(auto, unfolding(crate::specs::Columns::line_begin))]
+pub(crate) fn line_begin(places: &[Place], start: usize) -> usize
+    ensures { result ≡ line_begin places.now start }
+{
+    if place_in(places, places.len().saturating_sub(1)).value > MOST_COLUMNS {
+        place_in(places, start).value
+    } else {
+        0
     }
+}
 
-    // Returns the column at which the value of a place begins.
-    pub(crate) fn begin(&self, place: usize) -> usize
-        ensures { result ≡ slice_index (held_columns self.now).begins place }
-    {
-        item_at(&self.begins, place, 0)
-    }
-
-    // Returns the column of the letter at a place. The only error is out of memory.
-    pub(crate) fn letter_column(&self, place: usize) -> Result<usize, AllocError>
-        ensures { IfOk result (λ column. column ≡ letter_column (held_columns self.now) place) }
-    {
-        sum(self.begin(place), item_at(&self.values, place, 0))
-    }
-
-    // Returns the column at which the line of a row begins, by the place at which the row starts.
-    pub(crate) fn line_begin(&self, start: usize) -> usize
-        ensures { result ≡ line_begin (held_columns self.now) start }
-    {
-        if self.width() > MOST_COLUMNS {
-            self.begin(start)
-        } else {
-            0
-        }
-    }
-
-    // Returns the column of words about a row of the whole word, whose letters have that many columns. The only error is out
-    // of memory.
-    pub(crate) fn note_column(&self, width: usize) -> Result<usize, AllocError>
-        ensures { IfOk result (λ column. column ≡ note_column (held_columns self.now) width) }
-    {
-        let frame_end = sum(self.width(), 2)?;
-        let row_end = sum(self.letter_column(1)?, width)?;
-        sum(frame_end.max(row_end), 2)
-    }
+// Returns the column of words about a row of the whole word, whose letters have that many columns. The only error is out
+// of memory.
+#[tactic(auto, unfolding(crate::specs::Columns::note_column))]
+pub(crate) fn note_column(places: &[Place], width: usize) -> Result<usize, AllocError>
+    ensures { IfOk result (λ column. column ≡ note_column places.now width) }
+{
+    let frame_end = sum(place_in(places, places.len().saturating_sub(1)).value, 2)?;
+    let row_end = sum(place_in(places, 1).letter, width)?;
+    sum(frame_end.max(row_end), 2)
 }

@@ -16,6 +16,7 @@
 mod escaping;
 mod facts;
 mod fields;
+mod finding;
 mod known;
 mod layout;
 mod lines;
@@ -29,8 +30,9 @@ mod svg;
 mod texts;
 
 pub use escaping::texts_of_drawings_are_escaped;
-pub use facts::{Decision, Explanation, explain};
+pub use facts::{Decision, Explanation};
 pub use fields::fields_have_no_control_characters;
+pub use finding::explain;
 pub use pattern_rows::{Row, rows};
 pub use style::Style;
 pub use svg::{Drawing, document};

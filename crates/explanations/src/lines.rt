@@ -1,11 +1,10 @@
 //! The lines for programs, field by field. Functions named `push_..` append to a text.
 
-ghost use Rattle.std.specs.Prelude.{◌≡◌, ◌++◌, IfOk, OnOk, codes, flat_map, map, option_copied};
-ghost use Rattle.std.specs.List.{All};
+ghost use Rattle.std.specs.Prelude.{◌≡◌, ◌++◌, OnOk, flat_map, map, option_copied};
 ghost use Rattle.std.specs.Option.{option_map};
 ghost use Rattle.explanations.specs.Lines.{bounds_line, change_numbers, change_text, decision_name, entry_field};
-ghost use Rattle.explanations.specs.Lines.{exception_line, limit_lines, lines_of, number_field, pattern_line, places_line};
-ghost use Rattle.explanations.specs.Lines.{reason_lines, score_line, text_line, value_field, word_lines};
+ghost use Rattle.explanations.specs.Lines.{exception_line, limit_lines, lines_of, pattern_line, place_field, places_line};
+ghost use Rattle.explanations.specs.Lines.{score_line, text_line, value_field, word_lines};
 ghost use Rattle.explanations.specs.Private.Drawing.{facts_in, scores_by};
 ghost use Rattle.explanations.specs.Rows.{row_of, LiesWithin};
 
@@ -16,15 +15,7 @@ use crate::marks::score_of;
 use crate::pattern_rows::{Row, letters_of};
 use hyphenation_breaks::entry::{Entry, Listing, Payload};
 use hyphenation_breaks::extended::Subregion;
-use std::alloc::{AllocError, Global};
-
-// Appends a field of a number.
-fn push_number_field(text: &mut Vec<u8>, number: usize) -> Result<(), AllocError>
-    ensures { OnOk result (text.new.items ≡ text.old.items ++ number_field number) }
-{
-    let field = format!(in *text.allocator(); "\t{number}")?;
-    text.extend_from_slice(field.as_bytes())
-}
+use std::alloc::AllocError;
 
 // Appends the numbers of a change, after a colon and each with a comma after it.
 fn push_change_numbers(text: &mut Vec<u8>, change: &Subregion) -> Result<(), AllocError>
@@ -46,7 +37,22 @@ fn push_change(text: &mut Vec<u8>, change: Option<&Subregion>) -> Result<(), All
     push_field_text(text, change.substitution.as_bytes())
 }
 
+// Appends a field of a place, with its change.
+#[tactic(auto, unfolding(crate::specs::Lines::place_field))]
+fn push_place_field(
+    text: &mut Vec<u8>,
+    place: usize,
+    change: Option<&Subregion>,
+) -> Result<(), AllocError>
+    ensures { OnOk result (text.new.items ≡ text.old.items ++ place_field place (option_copied change.entry)) }
+{
+    let number = format!(in *text.allocator(); "\t{place}")?;
+    text.extend_from_slice(number.as_bytes())?;
+    push_change(text, change)
+}
+
 // Appends a field of a value at a place, with its change.
+#[tactic(auto, unfolding(crate::specs::Lines::value_field))]
 fn push_value_field(
     text: &mut Vec<u8>,
     place: usize,
@@ -76,6 +82,7 @@ fn push_entries<C: Payload>(text: &mut Vec<u8>, entries: &[Entry<C>]) -> Result<
 }
 
 // Appends the line of a pattern that occurs in the frame.
+#[tactic(auto, unfolding(crate::specs::Lines::pattern_line))]
 fn push_pattern<C: Payload>(
     text: &mut Vec<u8>,
     framed: &[u8],
@@ -92,23 +99,8 @@ fn push_pattern<C: Payload>(
     text.extend_from_slice(b"\n")
 }
 
-// Appends the lines of the patterns that occur in the frame.
-fn push_patterns<C: Payload>(
-    text: &mut Vec<u8>,
-    framed: &[u8],
-    rows: &[Row<'_, C>],
-) -> Result<(), AllocError>
-    requires { All (λ row. LiesWithin framed.now (row_of row)) rows.now }
-    ensures { OnOk result (text.new.items
-        ≡ text.old.items ++ flat_map (pattern_line C.change_of framed.now) (map row_of rows.now)) }
-{
-    for row in rows {
-        push_pattern(text, framed, row)?;
-    }
-    Ok(())
-}
-
 // Appends the line of the scores of all places, by their winners.
+#[tactic(auto, unfolding(crate::specs::Lines::score_line))]
 fn push_scores<C: Payload>(
     text: &mut Vec<u8>,
     winners: &[Option<&Entry<C>>],
@@ -124,12 +116,13 @@ fn push_scores<C: Payload>(
 }
 
 // Appends a line of a name and places.
+#[tactic(auto, unfolding(crate::specs::Lines::places_line))]
 fn push_places(text: &mut Vec<u8>, name: &[u8], places: &[usize]) -> Result<(), AllocError>
     ensures { OnOk result (text.new.items ≡ text.old.items ++ places_line name.now places.now) }
 {
     text.extend_from_slice(name)?;
     for place in places {
-        push_number_field(text, *place)?;
+        push_place_field(text, *place, None)?;
     }
     text.extend_from_slice(b"\n")
 }
@@ -145,6 +138,7 @@ fn push_bounds(text: &mut Vec<u8>, bounds: Option<(usize, usize)>) -> Result<(),
 }
 
 // Appends the line of the listed breaks, or nothing if the word is no exception.
+#[tactic(auto, unfolding(crate::specs::Lines::exception_line))]
 fn push_exception<B: Listing>(text: &mut Vec<u8>, listed: Option<&[B]>) -> Result<(), AllocError>
     ensures { OnOk result (text.new.items
         ≡ text.old.items ++ exception_line (option_map (map B.meaning) (option_copied listed.entry))) }
@@ -154,8 +148,7 @@ fn push_exception<B: Listing>(text: &mut Vec<u8>, listed: Option<&[B]>) -> Resul
     };
     text.extend_from_slice(b"exception")?;
     for b in listed {
-        push_number_field(text, b.place())?;
-        push_change(text, b.change())?;
+        push_place_field(text, b.place(), b.change())?;
     }
     text.extend_from_slice(b"\n")
 }
@@ -173,6 +166,7 @@ fn name_of(decision: Decision) -> &'static str
 }
 
 // Appends a line of a name and one field, which has a text.
+#[tactic(auto, unfolding(crate::specs::Lines::text_line))]
 fn push_text_line(text: &mut Vec<u8>, name: &[u8], field: &[u8]) -> Result<(), AllocError>
     ensures { OnOk result (text.new.items ≡ text.old.items ++ text_line name.now field.now) }
 {
@@ -183,6 +177,7 @@ fn push_text_line(text: &mut Vec<u8>, name: &[u8], field: &[u8]) -> Result<(), A
 }
 
 // Appends the lines of a word, its patterns and its scores.
+#[tactic(auto, unfolding(crate::specs::Lines::word_lines))]
 fn push_word_lines<C: Payload, B: Listing>(
     text: &mut Vec<u8>,
     known: &Known<'_, '_, C, B>,
@@ -193,11 +188,14 @@ fn push_word_lines<C: Payload, B: Listing>(
     let facts = &known.facts;
     push_text_line(text, b"word", known.word.as_bytes())?;
     push_text_line(text, b"folded", facts.folded.as_bytes())?;
-    push_patterns(text, facts.framed.as_bytes(), &facts.rows)?;
+    for row in &facts.rows {
+        push_pattern(text, facts.framed.as_bytes(), row)?;
+    }
     push_scores(text, &facts.winners)
 }
 
-// Appends the lines of where the minima and soft hyphens allow breaks.
+// Appends the lines of where the minima, soft hyphens and an exception allow breaks.
+#[tactic(auto, unfolding(crate::specs::Lines::limit_lines))]
 fn push_limit_lines<C: Payload, B: Listing>(
     text: &mut Vec<u8>,
     known: &Known<'_, '_, C, B>,
@@ -209,34 +207,22 @@ fn push_limit_lines<C: Payload, B: Listing>(
     let (left, right) = known.minima;
     push_places(text, b"minima", &[left, right])?;
     push_bounds(text, facts.bounds)?;
-    push_places(text, b"soft-hyphens", &facts.soft_hyphens)
+    push_places(text, b"soft-hyphens", &facts.soft_hyphens)?;
+    push_exception(text, facts.listed)
 }
 
-// Appends the lines of the fact that decides.
-fn push_reason_lines<C: Payload, B: Listing>(
+// Appends the lines for programs of what is known of a word.
+pub(crate) fn push_lines<C: Payload, B: Listing>(
     text: &mut Vec<u8>,
     known: &Known<'_, '_, C, B>,
 ) -> Result<(), AllocError>
     ensures { OnOk result (text.new.items
-        ≡ text.old.items ++ reason_lines (facts_in C.change_of B.meaning known.now)) }
+        ≡ text.old.items ++ lines_of C.change_of (facts_in C.change_of B.meaning known.now)) }
 {
-    let facts = &known.facts;
-    push_exception(text, facts.listed)?;
-    push_text_line(text, b"decided-by", name_of(facts.decision).as_bytes())
-}
-
-// Returns the lines for programs of what is known of a word. The only error is out of memory.
-pub(crate) fn lines_of<C: Payload, B: Listing>(
-    alloc: Global,
-    known: &Known<'_, '_, C, B>,
-) -> Result<Vec<u8>, AllocError>
-    ensures { IfOk result (λ text. text.items ≡ lines_of C.change_of (facts_in C.change_of B.meaning known.now)) }
-{
-    let mut text = Vec::new(alloc);
-    push_word_lines(&mut text, known)?;
-    push_limit_lines(&mut text, known)?;
-    push_reason_lines(&mut text, known)?;
-    push_places(&mut text, b"breaks", &known.places)?;
-    push_text_line(&mut text, b"hyphenated", known.hyphenated.as_bytes())?;
-    Ok(text)
+    push_word_lines(text, known)?;
+    push_limit_lines(text, known)?;
+    let decision = name_of(known.facts.decision);
+    push_text_line(text, b"decided-by", decision.as_bytes())?;
+    push_places(text, b"breaks", &known.places)?;
+    push_text_line(text, b"hyphenated", known.hyphenated.as_bytes())
 }

@@ -1,17 +1,14 @@
 //! The values of a drawing: what is at each place of a row.
 
-ghost use Rattle.std.specs.Prelude.{◌≡◌, ◌+◌, ◌<◌, ◌^◌, IfOk, option_copied, option_map};
+ghost use Rattle.std.specs.Prelude.{◌≡◌, option_copied};
 ghost use Rattle.hyphenation_breaks.specs.Break.{is_boundary};
 ghost use Rattle.hyphenation_score.specs.Scoring.{score_of_winner, scored_pair};
-ghost use Rattle.explanations.specs.Marks.{entry_value, mark_of, no_marks, pattern_mark, row_marks, score_mark, score_marks, score_value};
-ghost use Rattle.explanations.specs.Private.Drawing.{scores_by};
-ghost use Rattle.explanations.specs.Rows.{row_of};
+ghost use Rattle.explanations.specs.Marks.{entry_value, mark_at, pattern_mark, score_value};
+ghost use Rattle.explanations.specs.Private.Drawing.{pattern_in, scores_by};
 
-use crate::numbers::sum;
 use crate::pattern_rows::Row;
 use hyphenation_breaks::entry::{Entry, Payload};
 use hyphenation_breaks::extended::Subregion;
-use std::alloc::{AllocError, Global};
 
 // A value that is drawn.
 #[derive(Clone, Copy)]
@@ -66,15 +63,6 @@ fn score_value<C: Payload>(word: &str, winners: &[Option<&Entry<C>>], place: usi
     Some(score_of(winners[place - 1]).0)
 }
 
-// Returns no value for each place of a frame. The only error is out of memory.
-pub(crate) fn no_marks(alloc: Global, framed: &[u8]) -> Result<Vec<Option<Mark>>, AllocError>
-    ensures { IfOk result (λ marks. marks.items ≡ no_marks framed.now) }
-{
-    let mut marks = Vec::new(alloc);
-    marks.resize(sum(framed.len(), 1)?, None)?;
-    Ok(marks)
-}
-
 // Returns a value of a pattern, by the greatest value of its place.
 fn pattern_mark(greatest: Option<u8>, value: u8) -> Mark
     ensures { result ≡ pattern_mark greatest value }
@@ -85,52 +73,22 @@ fn pattern_mark(greatest: Option<u8>, value: u8) -> Mark
     }
 }
 
-// Returns the value of a row at a place of the frame.
-fn row_mark<C: Payload>(
+// Returns the value of a row at a place of the frame. Without a pattern it is the greatest value there.
+#[tactic(auto, unfolding(crate::specs::Marks::mark_at))]
+pub(crate) fn mark_at<C: Payload>(
     word: &str,
     winners: &[Option<&Entry<C>>],
-    row: &Row<'_, C>,
+    row: Option<&Row<'_, C>>,
     place: usize,
 ) -> Option<Mark>
-    ensures { result ≡ mark_of word.now (scores_by C.change_of winners.now) (row_of row.now) place }
+    ensures { result ≡ mark_at word.now (scores_by C.change_of winners.now) (pattern_in row.entry) place }
 {
     let greatest = score_value(word, winners, place.saturating_sub(1));
-    let value = entry_value(row.entries, place.saturating_sub(row.start))?;
-    Some(pattern_mark(greatest, value))
-}
-
-// Returns the values of a row at each of its places. The only error is out of memory.
-pub(crate) fn row_marks<C: Payload>(
-    alloc: Global,
-    word: &str,
-    winners: &[Option<&Entry<C>>],
-    row: &Row<'_, C>,
-) -> Result<Vec<Option<Mark>>, AllocError>
-    requires { row.now.start + row.now.bytes < 2 ^ 63 }
-    ensures { IfOk result (λ marks. marks.items
-        ≡ row_marks word.now (scores_by C.change_of winners.now) (row_of row.now)) }
-{
-    (row.start..row.start + row.bytes + 1)
-        .map(|place| row_mark(word, winners, row, place))
-        .collect(alloc)
-}
-
-// Returns the greatest value of a place, if it has one.
-fn score_mark<C: Payload>(word: &str, winners: &[Option<&Entry<C>>], place: usize) -> Option<Mark>
-    ensures { result ≡ option_map score_mark (score_value word.now (scores_by C.change_of winners.now) place) }
-{
-    score_value(word, winners, place).map(|value| Mark { value, wins: false })
-}
-
-// Returns the greatest value of each place of a word. The only error is out of memory.
-pub(crate) fn score_marks<C: Payload>(
-    alloc: Global,
-    word: &str,
-    winners: &[Option<&Entry<C>>],
-) -> Result<Vec<Option<Mark>>, AllocError>
-    ensures { IfOk result (λ marks. marks.items ≡ score_marks word.now (scores_by C.change_of winners.now)) }
-{
-    (0..word.len() + 1)
-        .map(|place| score_mark(word, winners, place))
-        .collect(alloc)
+    match row {
+        Some(row) => {
+            let value = entry_value(row.entries, place.saturating_sub(row.start))?;
+            Some(pattern_mark(greatest, value))
+        }
+        None => greatest.map(|value| Mark { value, wins: false }),
+    }
 }

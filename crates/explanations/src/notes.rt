@@ -2,11 +2,12 @@
 
 ghost use Rattle.std.specs.Prelude.{◌≡◌, ◌++◌, IfOk, OnOk, flat_map, option_copied};
 ghost use Rattle.std.specs.String.{string_bytes};
-ghost use Rattle.explanations.specs.Notes.{change_note, decision_text, entry_note, scores_note};
-ghost use Rattle.explanations.specs.Private.Drawing.{scores_by};
+ghost use Rattle.explanations.specs.Notes.{change_note, decision_text, entry_note, row_note, scores_note};
+ghost use Rattle.explanations.specs.Private.Drawing.{pattern_in, scores_by};
 
 use crate::facts::Decision;
 use crate::marks::score_of;
+use crate::pattern_rows::Row;
 use hyphenation_breaks::breaks::Break;
 use hyphenation_breaks::entry::{Entry, Payload};
 use hyphenation_breaks::extended::Subregion;
@@ -28,10 +29,7 @@ fn push_change(text: &mut Vec<u8>, value: u8, change: Option<&Subregion>) -> Res
 }
 
 // Returns the note of a row with these entries. The only error is out of memory.
-pub(crate) fn row_note<C: Payload>(
-    alloc: Global,
-    entries: &[Entry<C>],
-) -> Result<Vec<u8>, AllocError>
+fn entries_note<C: Payload>(alloc: Global, entries: &[Entry<C>]) -> Result<Vec<u8>, AllocError>
     ensures { IfOk result (λ note. note.items ≡ flat_map (entry_note C.change_of) entries.now) }
 {
     let mut note = Vec::new(alloc);
@@ -42,7 +40,7 @@ pub(crate) fn row_note<C: Payload>(
 }
 
 // Returns the note of the scores. The only error is out of memory.
-pub(crate) fn scores_note<C: Payload>(
+fn scores_note<C: Payload>(
     alloc: Global,
     winners: &[Option<&Entry<C>>],
 ) -> Result<Vec<u8>, AllocError>
@@ -55,6 +53,22 @@ pub(crate) fn scores_note<C: Payload>(
         push_change(&mut note, value, change)?;
     }
     Ok(note)
+}
+
+// Returns the note of the row of a pattern or, without one, that of the scores. The only error is out of memory.
+#[tactic(auto, unfolding(crate::specs::Notes::row_note))]
+pub(crate) fn row_note<C: Payload>(
+    alloc: Global,
+    winners: &[Option<&Entry<C>>],
+    row: Option<&Row<'_, C>>,
+) -> Result<Vec<u8>, AllocError>
+    ensures { IfOk result (λ note. note.items
+        ≡ row_note C.change_of (scores_by C.change_of winners.now) (pattern_in row.entry)) }
+{
+    match row {
+        Some(row) => entries_note(alloc, row.entries),
+        None => scores_note(alloc, winners),
+    }
 }
 
 // Returns the fact that decides, in words. The only error is out of memory.

@@ -1,26 +1,39 @@
-//! The rows of a picture. Functions named `push_..` append to a text: in a picture for people lines, and with `svg` elements.
+//! The rows of a picture: for people lines, and in a drawing in SVG elements.
 
-ghost use Rattle.std.specs.Prelude.{◌≡◌, ◌++◌, ◌<◌, IfOk, OnOk, length};
+ghost use Rattle.std.specs.Prelude.{◌≡◌, [], IfOk, IfSome, OnOk, map};
 ghost use Rattle.std.specs.String.{string_bytes};
-ghost use Rattle.explanations.specs.Picture.{begins_letter, breaks_row, byte_end, byte_text, frame_row, gap, letter_end};
-ghost use Rattle.explanations.specs.Picture.{letter_text, letters_row, note_text, picture_of, place_end, place_text, row_begin};
-ghost use Rattle.explanations.specs.Picture.{row_end, row_text, row_texts, rows_at, scores_row, shown, shown_byte, value_class};
-ghost use Rattle.explanations.specs.Picture.{value_end, value_text, word_text};
-ghost use Rattle.explanations.specs.Private.Drawing.{facts_in, held_columns};
+ghost use Rattle.explanations.specs.Marks.{mark_at};
+ghost use Rattle.explanations.specs.Picture.{breaks_put, byte_put, letter_put, line_put, marked, note_put, picture_of};
+ghost use Rattle.explanations.specs.Picture.{put, row_put, rows_put, value_class, value_put, whole_row};
+ghost use Rattle.explanations.specs.Private.Drawing.{facts_in, painted, pattern_in, scores_by};
 ghost use Rattle.explanations.specs.Rows.{row_of, LiesWithin};
 
 use crate::escaping::{push_escaped, push_escaped_byte};
+use crate::facts::Explanation;
 use crate::known::Known;
-use crate::layout::{Layout, columns_of_value};
-use crate::marks::{Mark, no_marks, row_marks, score_marks};
-use crate::notes::{decision_note, row_note, scores_note};
-use crate::numbers::{item_at, product, sum};
+use crate::layout::{Place, columns_of_value, line_begin, note_column, place_in, places_above};
+use crate::marks::{Mark, mark_at};
+use crate::notes::{decision_note, row_note};
+use crate::numbers::{product, sum};
 use crate::pattern_rows::{Row, letters_of};
-use hyphenation_breaks::entry::{Listing, Payload};
+use hyphenation_breaks::entry::{Entry, Listing, Payload};
 use std::alloc::{AllocError, Global};
 use unicode_width::UnicodeWidthStr;
 
+// A picture as far as it is made.
+#[derive(Drop)]
+pub(crate) struct Canvas {
+    // Whether it is a drawing in SVG.
+    svg: bool,
+    pub(crate) text: Vec<u8>,
+    // The column at which the last text of the row ends.
+    column: usize,
+    // How many pixels the rows so far have at most.
+    pub(crate) width: usize,
+}
+
 // Returns the class of a value as an attribute.
+#[tactic(auto, unfolding(crate::specs::Picture::value_class))]
 fn value_class(mark: Mark) -> &'static str
     ensures { result.now ≡ value_class mark }
 {
@@ -35,384 +48,247 @@ fn value_class(mark: Mark) -> &'static str
     }
 }
 
-// Appends what is before a text of a class at a column, by the column at which the text before it ends.
-fn push_gap(
-    out: &mut Vec<u8>,
-    svg: bool,
-    class: &str,
-    from: usize,
-    column: usize,
-) -> Result<(), AllocError>
-    ensures { OnOk result (out.new.items ≡ out.old.items ++ gap svg class.now from column) }
+// Returns a row that has a whole text.
+fn whole_row<'e, C>(text: &str, entries: &'e [Entry<C>]) -> Row<'e, C>
+    ensures { row_of result ≡ whole_row text.now entries.now }
 {
-    if svg {
-        let x = product(12, sum(column, 1)?)?;
-        let begin = format!(in *out.allocator(); "</tspan><tspan{class} x='{x}'>")?;
-        out.extend_from_slice(begin.as_bytes())
-    } else {
-        let end = sum(out.len(), column.saturating_sub(from))?;
-        out.resize(end, b' ')
+    Row {
+        start: 0,
+        bytes: text.len(),
+        entries,
     }
 }
 
-// Appends a text.
-fn push_shown(out: &mut Vec<u8>, svg: bool, text: &[u8]) -> Result<(), AllocError>
-    ensures { OnOk result (out.new.items ≡ out.old.items ++ shown svg text.now) }
-{
-    if svg {
-        push_escaped(out, text)
-    } else {
-        out.extend_from_slice(text)
+impl Canvas {
+    // Puts a text of a class at a column. It ends at another one.
+    #[tactic(auto, unfolding(crate::specs::Picture::put))]
+    fn put(&mut self, class: &str, column: usize, text: &[u8], end: usize) -> Result<(), AllocError>
+        ensures { OnOk result (painted self.new ≡ put class.now column text.now end (painted self.old)) }
+    {
+        let from = self.column;
+        self.column = end;
+        if self.svg {
+            let x = product(12, sum(column, 1)?)?;
+            let begin = format!(in *self.text.allocator(); "</tspan><tspan{class} x='{x}'>")?;
+            self.text.extend_from_slice(begin.as_bytes())?;
+            push_escaped(&mut self.text, text)
+        } else {
+            let past = sum(self.text.len(), column.saturating_sub(from))?;
+            self.text.resize(past, b' ')?;
+            self.text.extend_from_slice(text)
+        }
     }
-}
 
-// Appends the byte of a text at a place.
-fn push_shown_byte(
-    out: &mut Vec<u8>,
-    svg: bool,
-    text: &[u8],
-    place: usize,
-) -> Result<(), AllocError>
-    requires { place < length text.now }
-    ensures { OnOk result (out.new.items ≡ out.old.items ++ shown_byte svg text.now place) }
-{
-    if svg {
-        let first = item_at(text, place.saturating_sub(2), 0);
-        let second = item_at(text, place.saturating_sub(1), 0);
-        push_escaped_byte(out, first, second, text[place])
-    } else {
-        out.extend_from_slice(&[text[place]])
+    // Puts a byte after the two bytes before it.
+    #[tactic(auto, unfolding(crate::specs::Picture::byte_put))]
+    fn put_byte(&mut self, first: u8, second: u8, byte: u8) -> Result<(), AllocError>
+        ensures { OnOk result (painted self.new ≡ byte_put first second byte (painted self.old)) }
+    {
+        if self.svg {
+            push_escaped_byte(&mut self.text, first, second, byte)
+        } else {
+            self.text.extend_from_slice(&[byte])
+        }
     }
-}
 
-// Appends the value at a place, if it has one, by the column at which the text before it ends.
-fn push_value(
-    out: &mut Vec<u8>,
-    svg: bool,
-    layout: &Layout,
-    place: usize,
-    mark: Option<Mark>,
-    column: usize,
-) -> Result<(), AllocError>
-    ensures { OnOk result (out.new.items
-        ≡ out.old.items ++ value_text svg (held_columns layout.now) place mark column) }
-{
-    let Some(mark) = mark else {
-        return Ok(());
-    };
-    let begin = layout
-        .letter_column(place)?
-        .saturating_sub(columns_of_value(mark.value));
-    push_gap(out, svg, value_class(mark), column, begin)?;
-    let digits = mark.value.to_string(*out.allocator())?;
-    out.extend_from_slice(digits.as_bytes())
-}
-
-// Returns where the value at a place ends or, without one, the text before it. The only error is out of memory.
-fn value_end(
-    layout: &Layout,
-    place: usize,
-    mark: Option<Mark>,
-    column: usize,
-) -> Result<usize, AllocError>
-    ensures { IfOk result (λ end. end ≡ value_end (held_columns layout.now) place mark column) }
-{
-    if mark.is_none() {
-        Ok(column)
-    } else {
-        layout.letter_column(place)
+    // Puts the begin or the end of a row, which is this in a drawing, and that in a text. The text after it is at a column.
+    #[tactic(auto, unfolding(crate::specs::Picture::marked))]
+    fn mark(&mut self, drawn: &[u8], text: &[u8], column: usize) -> Result<(), AllocError>
+        ensures { OnOk result (painted self.new ≡ marked drawn.now text.now column (painted self.old)) }
+    {
+        self.column = column;
+        if self.svg {
+            self.text.extend_from_slice(drawn)
+        } else {
+            self.text.extend_from_slice(text)
+        }
     }
-}
 
-// Reports whether a letter begins at a place of a text. The only error is out of memory.
-fn begins_letter(layout: &Layout, start: usize, place: usize, byte: u8) -> Result<bool, AllocError>
-    ensures { IfOk result (λ begins. begins ≡ begins_letter (held_columns layout.now) start place byte) }
-{
-    let at = sum(start, place)?;
-    let letter = layout.letter_column(at)?;
-    let end = layout.begin(sum(at, 1)?);
-    Ok((byte < 128 || 192 <= byte) && !(0 < place && end == letter))
-}
-
-// Appends the byte at a place of letters, by the column at which the text before it ends. Returns the column at which its
-// letter ends.
-fn push_byte(
-    out: &mut Vec<u8>,
-    svg: bool,
-    layout: &Layout,
-    start: usize,
-    letters: &[u8],
-    place: usize,
-    column: usize,
-) -> Result<usize, AllocError>
-    requires { place < length letters.now }
-    ensures text { OnOk result (out.new.items
-        ≡ out.old.items ++ byte_text svg (held_columns layout.now) start letters.now place column) }
-    ensures end { IfOk result (λ end.
-        end ≡ byte_end (held_columns layout.now) start letters.now place column) }
-{
-    if !begins_letter(layout, start, place, letters[place])? {
-        push_shown_byte(out, svg, letters, place)?;
-        return Ok(column);
+    // Puts a note at a column, or nothing if it is empty.
+    #[tactic(auto, unfolding(crate::specs::Picture::note_put))]
+    fn put_note(&mut self, column: usize, note: &[u8]) -> Result<(), AllocError>
+        ensures { OnOk result (painted self.new ≡ note_put column note.now (painted self.old)) }
+    {
+        if note.len() == 0 {
+            return Ok(());
+        }
+        let columns = sum(sum(column, note.len())?, 2)?;
+        self.width = product(12, columns)?.max(self.width);
+        self.put(" class='note'", column, note, column)
     }
-    let at = sum(start, place)?;
-    push_gap(out, svg, "", column, layout.letter_column(at)?)?;
-    push_shown_byte(out, svg, letters, place)?;
-    Ok(layout.begin(sum(at, 1)?))
-}
 
-// Appends the byte at a place of letters, or nothing at their end. Returns the column at which its letter ends.
-fn push_letter(
-    out: &mut Vec<u8>,
-    svg: bool,
-    layout: &Layout,
-    start: usize,
-    letters: &[u8],
-    place: usize,
-    column: usize,
-) -> Result<usize, AllocError>
-    ensures text { OnOk result (out.new.items
-        ≡ out.old.items ++ letter_text svg (held_columns layout.now) start letters.now place column) }
-    ensures end { IfOk result (λ end.
-        end ≡ letter_end (held_columns layout.now) start letters.now place column) }
-{
-    if place >= letters.len() {
-        return Ok(column);
+    // Puts the value at a place, if it has one.
+    #[tactic(auto, unfolding(crate::specs::Picture::value_put))]
+    fn put_value(&mut self, place: Place, mark: Option<Mark>) -> Result<(), AllocError>
+        ensures { OnOk result (painted self.new ≡ value_put place mark (painted self.old)) }
+    {
+        let Some(mark) = mark else {
+            return Ok(());
+        };
+        let column = place.letter.saturating_sub(columns_of_value(mark.value));
+        let digits = mark.value.to_string(*self.text.allocator())?;
+        self.put(value_class(mark), column, digits.as_bytes(), place.letter)
     }
-    push_byte(out, svg, layout, start, letters, place, column)
-}
 
-// Appends the value and the byte at a place of letters, and returns the column at which they end.
-fn push_place(
-    out: &mut Vec<u8>,
-    svg: bool,
-    layout: &Layout,
-    start: usize,
-    letters: &[u8],
-    place: usize,
-    mark: Option<Mark>,
-    column: usize,
-) -> Result<usize, AllocError>
-    ensures text { OnOk result (out.new.items
-        ≡ out.old.items ++ place_text svg (held_columns layout.now) start letters.now place mark column) }
-    ensures end { IfOk result (λ end.
-        end ≡ place_end (held_columns layout.now) start letters.now place mark column) }
-{
-    let at = sum(start, place)?;
-    push_value(out, svg, layout, at, mark, column)?;
-    let value_end = value_end(layout, at, mark, column)?;
-    let end = push_letter(out, svg, layout, start, letters, place, value_end)?;
-    Ok(end)
-}
-
-// Appends a note at a column, or nothing if it is empty.
-fn push_note(
-    out: &mut Vec<u8>,
-    svg: bool,
-    at: usize,
-    note: &[u8],
-    column: usize,
-) -> Result<(), AllocError>
-    ensures { OnOk result (out.new.items ≡ out.old.items ++ note_text svg at note.now column) }
-{
-    if note.len() == 0 {
-        return Ok(());
+    // Puts the byte at a place, after the two bytes before it. A letter begins there, if it is the first or has columns.
+    #[tactic(auto, unfolding(crate::specs::Picture::letter_put))]
+    fn put_letter(
+        &mut self,
+        place: Place,
+        is_first: bool,
+        first: u8,
+        second: u8,
+        byte: u8,
+    ) -> Result<(), AllocError>
+        ensures { OnOk result (painted self.new ≡ letter_put place is_first first second byte (painted self.old)) }
+    {
+        if !is_first && place.letter == place.end {
+            return self.put_byte(first, second, byte);
+        }
+        self.put("", place.letter, b"", place.end)?;
+        self.put_byte(first, second, byte)
     }
-    push_gap(out, svg, " class='note'", column, at)?;
-    push_shown(out, svg, note)
-}
 
-// Appends the begin of a row.
-fn push_row_begin(out: &mut Vec<u8>, svg: bool) -> Result<(), AllocError>
-    ensures { OnOk result (out.new.items ≡ out.old.items ++ row_begin svg) }
-{
-    if svg {
-        out.extend_from_slice(b"<tspan x='0' dy='24'>&#160;")
-    } else {
+    // Puts the row of letters that start at a place of the frame, with their values, and a note at a column.
+    #[tactic(auto, unfolding(crate::specs::Picture::line_put))]
+    fn put_line<C: Payload, B>(
+        &mut self,
+        facts: &Explanation<'_, C, B>,
+        places: &[Place],
+        row: Option<&Row<'_, C>>,
+        start: usize,
+        letters: &[u8],
+        column: usize,
+        note: &[u8],
+    ) -> Result<(), AllocError>
+        ensures { OnOk result (painted self.new ≡ line_put places.now (mark_at (string_bytes facts.now.folded)
+            (scores_by C.change_of facts.now.winners.items) (pattern_in row.entry))
+            start letters.now column note.now (painted self.old)) }
+    {
+        self.mark(
+            b"<tspan x='0' dy='24'>&#160;",
+            b"",
+            line_begin(places, start),
+        )?;
+        let mut at = start;
+        let mut is_first = true;
+        let mut first = 0;
+        let mut second = 0;
+        for byte in letters {
+            let place = place_in(places, at);
+            self.put_value(place, mark_at(&facts.folded, &facts.winners, row, at))?;
+            self.put_letter(place, is_first, first, second, *byte)?;
+            at = sum(at, 1)?;
+            is_first = false;
+            first = second;
+            second = *byte;
+        }
+        self.put_value(
+            place_in(places, at),
+            mark_at(&facts.folded, &facts.winners, row, at),
+        )?;
+        self.put_note(column, note)?;
+        self.mark(b"</tspan\n>", b"\n", 0)?;
         Ok(())
     }
-}
 
-// Appends the end of a row.
-fn push_row_end(out: &mut Vec<u8>, svg: bool) -> Result<(), AllocError>
-    ensures { OnOk result (out.new.items ≡ out.old.items ++ row_end svg) }
-{
-    if svg {
-        out.extend_from_slice(b"</tspan\n>")
-    } else {
-        out.extend_from_slice(b"\n")
+    // Puts the row of a pattern that occurs in the frame or, without one, that of the scores.
+    #[tactic(auto, unfolding(crate::specs::Picture::row_put))]
+    fn put_row<C: Payload, B: Listing>(
+        &mut self,
+        known: &Known<'_, '_, C, B>,
+        places: &[Place],
+        row: Option<&Row<'_, C>>,
+    ) -> Result<(), AllocError>
+        requires { IfSome row (λ row. LiesWithin (string_bytes known.now.facts.framed) (row_of row.now)) }
+        ensures { OnOk result (painted self.new ≡ row_put C.change_of places.now
+            (facts_in C.change_of B.meaning known.now) (pattern_in row.entry) (painted self.old)) }
+    {
+        let facts = &known.facts;
+        let note = row_note(*self.text.allocator(), &facts.winners, row)?;
+        match row {
+            Some(pattern) => {
+                let letters = letters_of(facts.framed.as_bytes(), pattern);
+                let column = place_in(places, pattern.start + pattern.bytes).letter;
+                self.put_line(facts, places, row, pattern.start, letters, column, &note)
+            }
+            None => {
+                let column = note_column(places, 0)?;
+                self.put_line(
+                    facts,
+                    places,
+                    row,
+                    1,
+                    facts.folded.as_bytes(),
+                    column,
+                    &note,
+                )
+            }
+        }
+    }
+
+    // Puts the row of the word with its breaks, and the fact that decides. In a drawing an empty row comes after it.
+    #[tactic(auto, unfolding(crate::specs::Picture::breaks_put))]
+    fn put_breaks<C: Payload, B: Listing>(
+        &mut self,
+        known: &Known<'_, '_, C, B>,
+        places: &[Place],
+    ) -> Result<(), AllocError>
+        ensures { OnOk result (painted self.new
+            ≡ breaks_put places.now (facts_in C.change_of B.meaning known.now) (painted self.old)) }
+    {
+        let width = known.hyphenated.as_str().width();
+        let letter = place_in(places, 1).letter;
+        let end = sum(letter, width)?;
+        let column = note_column(places, width)?;
+        self.mark(b"<tspan x='0' dy='24'>&#160;", b"", line_begin(places, 1))?;
+        self.put(" class='word'", letter, known.hyphenated.as_bytes(), end)?;
+        let note = decision_note(*self.text.allocator(), known.facts.decision, known.minima)?;
+        self.put_note(column, note.as_bytes())?;
+        let drawn = b"</tspan\n><tspan x='0' dy='24'>&#160;</tspan\n>";
+        self.mark(drawn, b"\n", 0)?;
+        Ok(())
+    }
+
+    // Puts all rows: the frame, the patterns that occur in it, the scores, and the word with its breaks.
+    #[tactic(auto, unfolding(crate::specs::Picture::rows_put))]
+    fn put_rows<C: Payload, B: Listing>(
+        &mut self,
+        known: &Known<'_, '_, C, B>,
+        places: &[Place],
+        frame: &Row<'_, C>,
+    ) -> Result<(), AllocError>
+        requires { row_of frame.now ≡ whole_row (string_bytes known.now.facts.framed) [] }
+        ensures { OnOk result (painted self.new ≡ rows_put C.change_of places.now
+            (facts_in C.change_of B.meaning known.now) (painted self.old)) }
+    {
+        self.put_row(known, places, Some(frame))?;
+        for row in &known.facts.rows {
+            self.put_row(known, places, Some(row))?;
+        }
+        self.put_row(known, places, None)?;
+        self.put_breaks(known, places)
     }
 }
 
-// Appends a row of letters that start at a place of the frame, with their values, and a note at a column.
-fn push_letters(
-    out: &mut Vec<u8>,
+// Returns the picture of what is known of a word, or the elements of its drawing. The only error is out of memory.
+pub(crate) fn picture_of<C: Payload, B: Listing>(
+    alloc: Global,
     svg: bool,
-    layout: &Layout,
-    start: usize,
-    letters: &[u8],
-    marks: &[Option<Mark>],
-    at: usize,
-    note: &[u8],
-) -> Result<(), AllocError>
-    ensures { OnOk result (out.new.items ≡ out.old.items
-        ++ letters_row svg (held_columns layout.now) start letters.now marks.now at note.now) }
-{
-    push_row_begin(out, svg)?;
-    let mut column = layout.line_begin(start);
-    for (place, mark) in marks.iter().enumerate() {
-        column = push_place(out, svg, layout, start, letters, place, *mark, column)?;
-    }
-    push_note(out, svg, at, note, column)?;
-    push_row_end(out, svg)?;
-    Ok(())
-}
-
-// Appends the row of the frame.
-fn push_frame(
-    out: &mut Vec<u8>,
-    svg: bool,
-    layout: &Layout,
-    framed: &[u8],
-) -> Result<(), AllocError>
-    ensures { OnOk result (out.new.items ≡ out.old.items ++ frame_row svg (held_columns layout.now) framed.now) }
-{
-    let marks = no_marks(*out.allocator(), framed)?;
-    push_letters(out, svg, layout, 0, framed, &marks, 0, b"")
-}
-
-// Appends the row of a pattern that occurs in the frame, and returns how many columns it has at most.
-fn push_pattern<C: Payload, B: Listing>(
-    out: &mut Vec<u8>,
-    svg: bool,
-    layout: &Layout,
     known: &Known<'_, '_, C, B>,
-    row: &Row<'_, C>,
-) -> Result<usize, AllocError>
-    requires { LiesWithin (string_bytes known.now.facts.framed) (row_of row.now) }
-    ensures { OnOk result (out.new.items ≡ out.old.items ++ row_text svg C.change_of (held_columns layout.now)
-        (facts_in C.change_of B.meaning known.now) (row_of row.now)) }
+) -> Result<Canvas, AllocError>
+    ensures { IfOk result (λ canvas. canvas.text.items
+        ≡ picture_of svg C.change_of (facts_in C.change_of B.meaning known.now)) }
 {
-    let facts = &known.facts;
-    let alloc = *out.allocator();
-    let letters = letters_of(facts.framed.as_bytes(), row);
-    let marks = row_marks(alloc, &facts.folded, &facts.winners, row)?;
-    let note = row_note(alloc, row.entries)?;
-    let column = layout.letter_column(row.start + row.bytes)?;
-    push_letters(out, svg, layout, row.start, letters, &marks, column, &note)?;
-    sum(column, note.len())
-}
-
-// Appends the row of the scores, and returns how many columns it has at most.
-fn push_scores<C: Payload, B: Listing>(
-    out: &mut Vec<u8>,
-    svg: bool,
-    layout: &Layout,
-    known: &Known<'_, '_, C, B>,
-) -> Result<usize, AllocError>
-    ensures { OnOk result (out.new.items ≡ out.old.items
-        ++ scores_row svg (held_columns layout.now) (facts_in C.change_of B.meaning known.now)) }
-{
-    let facts = &known.facts;
-    let alloc = *out.allocator();
-    let marks = score_marks(alloc, &facts.folded, &facts.winners)?;
-    let note = scores_note(alloc, &facts.winners)?;
-    let column = layout.note_column(0)?;
-    push_letters(
-        out,
+    let places = places_above(alloc, &known.facts.framed, &known.facts.rows)?;
+    let mut canvas = Canvas {
         svg,
-        layout,
-        1,
-        facts.folded.as_bytes(),
-        &marks,
-        column,
-        &note,
-    )?;
-    sum(column, note.len())
-}
-
-// Appends a word with its breaks.
-fn push_word(
-    out: &mut Vec<u8>,
-    svg: bool,
-    layout: &Layout,
-    hyphenated: &[u8],
-) -> Result<(), AllocError>
-    ensures { OnOk result (out.new.items ≡ out.old.items ++ word_text svg (held_columns layout.now) hyphenated.now) }
-{
-    let column = layout.letter_column(1)?;
-    push_gap(out, svg, " class='word'", layout.line_begin(1), column)?;
-    push_shown(out, svg, hyphenated)
-}
-
-// Appends the row of a word with its breaks, whose letters have that many columns, and the fact that decides. Returns how many
-// columns it has at most.
-fn push_breaks<C: Payload, B: Listing>(
-    out: &mut Vec<u8>,
-    svg: bool,
-    layout: &Layout,
-    width: usize,
-    known: &Known<'_, '_, C, B>,
-) -> Result<usize, AllocError>
-    ensures { OnOk result (out.new.items ≡ out.old.items
-        ++ breaks_row svg (held_columns layout.now) width (facts_in C.change_of B.meaning known.now)) }
-{
-    let note = decision_note(*out.allocator(), known.facts.decision, known.minima)?;
-    let end = sum(layout.letter_column(1)?, width)?;
-    let column = layout.note_column(width)?;
-    push_row_begin(out, svg)?;
-    push_word(out, svg, layout, known.hyphenated.as_bytes())?;
-    push_note(out, svg, column, note.as_bytes(), end)?;
-    push_row_end(out, svg)?;
-    sum(column, note.len())
-}
-
-// Appends the rows of the patterns that occur in the frame, and returns how many columns they have at most.
-fn push_patterns<C: Payload, B: Listing>(
-    out: &mut Vec<u8>,
-    svg: bool,
-    layout: &Layout,
-    known: &Known<'_, '_, C, B>,
-) -> Result<usize, AllocError>
-    ensures { OnOk result (out.new.items ≡ out.old.items
-        ++ row_texts svg C.change_of (held_columns layout.now) (facts_in C.change_of B.meaning known.now)) }
-{
-    let mut columns = 0;
-    for row in &known.facts.rows {
-        columns = push_pattern(out, svg, layout, known, row)?.max(columns);
-    }
-    Ok(columns)
-}
-
-// Appends the rows of the picture by its columns, and returns how many columns they have at most.
-fn push_rows<C: Payload, B: Listing>(
-    out: &mut Vec<u8>,
-    svg: bool,
-    layout: &Layout,
-    known: &Known<'_, '_, C, B>,
-) -> Result<usize, AllocError>
-    ensures { OnOk result (out.new.items ≡ out.old.items
-        ++ rows_at svg C.change_of (held_columns layout.now) (facts_in C.change_of B.meaning known.now)) }
-{
-    push_frame(out, svg, layout, known.facts.framed.as_bytes())?;
-    let patterns = push_patterns(out, svg, layout, known)?;
-    let scores = push_scores(out, svg, layout, known)?;
-    let width = known.hyphenated.as_str().width();
-    let breaks = push_breaks(out, svg, layout, width, known)?;
-    Ok(patterns.max(scores).max(breaks))
-}
-
-// Appends the picture of what is known of a word, and returns how many columns it has at most.
-pub(crate) fn push_picture<C: Payload, B: Listing>(
-    out: &mut Vec<u8>,
-    svg: bool,
-    known: &Known<'_, '_, C, B>,
-) -> Result<usize, AllocError>
-    ensures { OnOk result (out.new.items ≡ out.old.items
-        ++ picture_of svg C.change_of (facts_in C.change_of B.meaning known.now)) }
-{
-    let facts = &known.facts;
-    let layout = Layout::new(*out.allocator(), &facts.framed, &facts.rows)?;
-    let columns = push_rows(out, svg, &layout, known)?;
-    Ok(columns)
+        text: Vec::new(alloc),
+        column: 0,
+        width: 0,
+    };
+    let entries = Vec::new(alloc);
+    let frame = whole_row(&known.facts.framed, &entries);
+    canvas.put_rows(known, &places, &frame)?;
+    Ok(canvas)
 }

@@ -1,14 +1,14 @@
 //! Drawings of words, below one another in one document.
 
-ghost use Rattle.std.specs.Prelude.{◌≡◌, ◌++◌, IfOk, OnOk, map};
+ghost use Rattle.std.specs.Prelude.{◌≡◌, ◌++◌, IfOk, OnOk, map, true};
 ghost use Rattle.std.specs.List.{concat};
+ghost use Rattle.explanations.specs.Picture.{picture_of};
 ghost use Rattle.explanations.specs.Private.Drawing.{facts_in};
 ghost use Rattle.explanations.specs.Svg.{IsDocument, document_begin, document_of, drawn};
-ghost use Rattle.explanations.specs.Texts.{drawing_of};
 
 use crate::known::Known;
 use crate::numbers::{product, sum};
-use crate::picture::push_picture;
+use crate::picture::picture_of;
 use hyphenation_breaks::entry::{Listing, Payload};
 use std::alloc::{AllocError, Global};
 
@@ -36,15 +36,15 @@ pub(crate) fn known_drawing<C: Payload, B: Listing>(
     alloc: Global,
     known: &Known<'_, '_, C, B>,
 ) -> Result<Drawing, AllocError>
-    ensures { IfOk result (λ drawing. drawn drawing ≡ drawing_of C.change_of (facts_in C.change_of B.meaning known.now)) }
+    ensures { IfOk result (λ drawing. drawn drawing
+        ≡ picture_of true C.change_of (facts_in C.change_of B.meaning known.now)) }
 {
-    let mut svg = Vec::new(alloc);
-    let columns = push_picture(&mut svg, true, known)?;
-    svg.extend_from_slice(b"<tspan x='0' dy='24'>&#160;</tspan\n>")?;
+    let rows = sum(known.facts.rows.len(), 4)?;
+    let canvas = picture_of(alloc, true, known)?;
     Ok(Drawing {
-        rows: sum(known.facts.rows.len(), 4)?,
-        width: product(12, sum(columns, 2)?)?,
-        svg,
+        rows,
+        width: canvas.width,
+        svg: canvas.text,
     })
 }
 

@@ -1,14 +1,14 @@
 //! The text that explains a word, in any style, and its drawing.
 
-ghost use Rattle.std.specs.Prelude.{◌≡◌, IfOk, map};
+ghost use Rattle.std.specs.Prelude.{IfOk, map};
 ghost use Rattle.explanations.specs.Private.Drawing.{facts_in};
 ghost use Rattle.explanations.specs.Svg.{drawn};
 ghost use Rattle.explanations.specs.Texts.{Explains, IsDrawn, IsTextOf};
 ghost use Rattle.explanations.specs.Words.{IsDrawingOf, IsExplanation};
 
 use crate::known::{Known, known_of};
-use crate::lines::lines_of;
-use crate::picture::push_picture;
+use crate::lines::push_lines;
+use crate::picture::picture_of;
 use crate::style::Style;
 use crate::svg::{Drawing, document, known_drawing};
 use any_dictionary::AnyDictionary;
@@ -29,13 +29,13 @@ fn styled<C: Payload, B: Listing>(
 {
     match style {
         Style::Lines => {
-            let text = lines_of(alloc, known)?;
+            let mut text = Vec::new(alloc);
+            push_lines(&mut text, known)?;
             Ok(text)
         }
         Style::Picture => {
-            let mut text = Vec::new(alloc);
-            push_picture(&mut text, false, known)?;
-            Ok(text)
+            let canvas = picture_of(alloc, false, known)?;
+            Ok(canvas.text)
         }
         Style::Svg => {
             let drawing = known_drawing(alloc, known)?;

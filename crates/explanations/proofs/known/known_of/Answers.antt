@@ -1,4 +1,4 @@
-use Rattle.std.proofs.Common.{◌∙◌, ap, map, refl, option_map}
+use Rattle.std.proofs.Common.{rules, ◌∙◌, ap, map, refl, option_map}
 use Rattle.hyphenation_score.specs.Scoring.{score_of_winner}
 use Rattle.explanations.specs.Facts.{place_of}
 use Rattle.explanations.proofs.known.known_of.Goals as goal
@@ -18,5 +18,5 @@ returns g c =
       listed_is = ap (option_map (map g.B.Break.meaning)) f.listed;
       decision_is = f.decision;
       places_are = c.in_ok-places.ensures ∙ ap (λ bs. map place_of (map g.O.Break.meaning bs)) c.deref.ensures.value;
-      hyphenated_is = c.in_ok-hyphenated.ensures;
+      hyphenated_is = search rules;
     }

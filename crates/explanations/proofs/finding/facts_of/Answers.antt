@@ -1,7 +1,7 @@
 use Rattle.std.proofs.Common.{ℕ, List, arith, get_or, subst}
 use Rattle.std.proofs.lemmas.List.{get_or-map, length-map}
 use Rattle.explanations.specs.Rows.{row_of, LiesWithin}
-use Rattle.explanations.proofs.facts.explain.Goals as goal
+use Rattle.explanations.proofs.finding.facts_of.Goals as goal
 
 pub invariant_of-result : goal.invariant_of-result
 invariant_of-result g c =

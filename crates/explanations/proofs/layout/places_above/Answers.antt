@@ -1,6 +1,6 @@
 use Rattle.std.proofs.Common.{rules}
 use Rattle.std.proofs.lemmas.Str.{chars_from_encodes}
-use Rattle.explanations.proofs.layout.begins_of.Goals as goal
+use Rattle.explanations.proofs.layout.places_above.Goals as goal
 
 pub returns : goal.returns
-returns c = search (rules, chars_from_encodes)
+returns g c = search (rules, chars_from_encodes)
