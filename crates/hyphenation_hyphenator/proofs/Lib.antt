@@ -2,6 +2,7 @@ pub mod CharacterPlaces
 pub mod PlacesFromEnd
 pub mod Places
 pub mod Ascending
+pub mod ListEnds
 pub mod NumberedCharacters
 pub mod FoldingRows
 pub mod Folds

@@ -15,6 +15,7 @@ ghost use Rattle.hyphenation_hyphenator.specs.Opportunities.{Rules, boundaries_b
 ghost use Rattle.hyphenation_hyphenator.specs.Opportunities.{exception_within_boundaries, opportunities};
 ghost use Rattle.hyphenation_hyphenator.specs.Opportunities.{HasBreaks, HasBreaksIfAny, Ascending, ListsOnly};
 
+mod ascii_lowercase;
 mod boundaries;
 mod break_kind;
 mod extended;

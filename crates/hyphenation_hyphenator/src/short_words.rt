@@ -165,7 +165,8 @@ fn fold_at_once(word: &str, buffer: &mut [u8; 65], lanes: usize) -> Option<bool>
 }
 
 // Folds a word of at most 64 bytes over a buffer of zeros at once, as `fold_at_once` does. Fewer bytes take less time.
-#[inline(always)]
+// It is kept out of line, since LLVM makes better vectors of a buffer that is lent.
+#[inline(never)]
 fn fold_by_length(word: &str, buffer: &mut [u8; 65]) -> Option<bool>
     requires { length word.now ≤ 64 }
     ensures ascii { IfSome result (λ is_ascii. IsTrue is_ascii → IsAscii word.now) }

@@ -1,10 +1,12 @@
 //! Finding the breaks of a word, for both kinds of dictionaries.
 //!
-//! The calls for lowercase words come first. Then come the two paths of a word as written: short words whose folding moves
-//! no place, as that of most words, and any.
+//! The calls for lowercase words come first. Then come the paths of a word as written: words of a to z, short words whose
+//! folding moves no place, and any.
 
-ghost use Rattle.std.specs.Prelude.{◌≡◌, ◌≤◌, [], length, map};
+ghost use Rattle.std.specs.Prelude.{◌≡◌, ◌≤◌, [], true, length, map};
 ghost use Rattle.std.specs.Prelude.{Option, Some, None, IsTrue, IfOk, OnOk, OnErr, IfSome};
+ghost use Rattle.std.specs.Char.{is_ascii_lowercase};
+ghost use Rattle.std.specs.List.{list_all};
 ghost use Rattle.std.specs.List.Sorted.{IsNonDecreasingBy};
 ghost use Rattle.std.specs.Option.{option_map};
 ghost use Rattle.std.specs.Str.{IsAscii};
@@ -19,6 +21,7 @@ ghost use Rattle.hyphenation_hyphenator.specs.Opportunities.{by_exception, excep
 ghost use Rattle.hyphenation_hyphenator.specs.Opportunities.{opportunities, HasBreaks, HasBreaksIfAny, Ascending};
 ghost use Rattle.hyphenation_hyphenator.specs.Private.Opportunities.{realigned_break};
 
+use super::ascii_lowercase::are_ascii_lowercase;
 use super::boundaries::{boundaries_of, boundaries_where};
 use super::break_kind::BreakKind;
 use super::found_break::FoundBreak;
@@ -276,6 +279,22 @@ fn breaks_of_short<'h, F: BreakKind<'h>>(
     F::keep_fitting(folded, &[], list)
 }
 
+// Puts the breaks of a word of the letters a to z, which folds to itself, into an empty list.
+#[inline(never)]
+fn breaks_of_ascii_lowercase<'h, F: BreakKind<'h>>(
+    dictionary: &'h Dictionary<F::Payload, F::Listing>,
+    word: &str,
+    list: &mut Vec<F>,
+) -> Result<(), AllocError>
+    requires letters { list_all is_ascii_lowercase word.now ≡ true }
+    requires empty { list.old.items ≡ [] }
+    ensures { OnOk result (map F.meaning list.new.items
+        ≡ fitted_breaks_of (rules_of F.Payload.change_of F.Listing.meaning dictionary.now) word.now) }
+{
+    put_opportunities(dictionary, word, true, list)?;
+    F::keep_fitting(word, &[], list)
+}
+
 // Whether a word is one byte of ASCII, which the minima leave whole. Half of the pieces of a text are: spaces, commas
 // and other marks.
 #[inline(always)]
@@ -293,7 +312,7 @@ fn is_whole_byte<'h, F: BreakKind<'h>>(
     true
 }
 
-// Puts the breaks of a word as written into an empty list. Most words are short.
+// Puts the breaks of a word as written into an empty list. Most words have the letters a to z alone, or are short.
 #[inline(always)]
 fn breaks_by_path<'h, F: BreakKind<'h>>(
     dictionary: &'h Dictionary<F::Payload, F::Listing>,
@@ -307,7 +326,10 @@ fn breaks_by_path<'h, F: BreakKind<'h>>(
     if is_whole_byte::<F>(dictionary, word) {
         return Ok(());
     }
-    if word.len() <= 64 {
+    let bytes = word.as_bytes();
+    if !bytes.is_empty() && bytes[0] < 0x80 && are_ascii_lowercase(bytes) {
+        breaks_of_ascii_lowercase(dictionary, word, list)
+    } else if word.len() <= 64 {
         breaks_of_short(dictionary, word, list)
     } else {
         breaks_of_any(dictionary, word, list)
