@@ -1,5 +1,5 @@
 -- Lines that hold as much as fits.
-use Rattle.std.proofs.Common.{◌≡◌, ℕ, zero, suc, ◌+◌, ◌-◌, ◌<◌, ◌≤◌, List, [], ◌∷◌, ◌++◌, length, map, take, drop, sym, ap, ap₂, subst, refl, ◌∙◌, inl, inr, arith, length-append, length-drop}
+use Rattle.std.proofs.Common.{◌≡◌, ℕ, suc, ◌+◌, ◌-◌, ◌<◌, ◌≤◌, List, [], ◌∷◌, ◌++◌, length, map, take, drop, sym, ap, ap₂, subst, refl, ◌∙◌, inl, inr, arith, length-append, length-drop}
 use Rattle.std.specs.List.{flat_map, sum_by, slice_range, slice_index_or}
 use Rattle.std.proofs.lemmas.Bool.{cases_lt}
 use Rattle.std.proofs.lemmas.List.{length-map, map-append, drop-map, drop-drop, get_or-drop, get_or_append_left, take-append-le, drop-append-le, take-append-drop, take_all, length-take}
@@ -10,7 +10,7 @@ use Rattle.line_division.specs.Greedy.{IsFurthest, AreFurthest, IsOrderly}
 use Rattle.line_division.specs.Lines.{no_stretch, stretch_at, joined_width, line_width}
 use Rattle.paragraphs.specs.Aims.{IsSet}
 use Rattle.paragraphs.specs.declared.setting.Aim.TheVariants.{Full}
-use Rattle.paragraphs.specs.Settings.{Setting, no_setting, setting_at, stretch_of, shown_text, last_text, line_text, lines_to}
+use Rattle.paragraphs.specs.Settings.{Setting, no_setting, stretch_of, shown_text, last_text, line_text, lines_to}
 use Rattle.paragraphs.specs.Private.FullLines.{AreFull, joined_columns, last_end, tail_width, EndsNarrow}
 use Rattle.paragraphs.proofs.LineTails.{tail_width_append, line_width_tail}
 use Rattle.paragraphs.proofs.SetLines.{whole_from}
@@ -170,7 +170,7 @@ furthest_with ps rest columns n narrow inner far =
     } in
     subst (λ s. IsFurthest s columns 0 n) (sym (map-append stretch_of ps rest)) with_others
 
--- What ends narrow does so from any part on.
+-- The parts from one on end narrow, if all do.
 narrow_from : (ps : List Setting) (start : ℕ) → start < length ps → EndsNarrow ps → EndsNarrow (drop start ps)
 narrow_from ps start lt narrow =
     let ss = map stretch_of ps in

@@ -1,12 +1,11 @@
 -- Lines as lists of parts: the columns and the text after the opening.
-use Rattle.std.proofs.Common.{◌≡◌, ℕ, zero, suc, ◌+◌, ◌-◌, ◌<◌, ◌≤◌, List, [], ◌∷◌, ◌++◌, length, map, take, drop, sym, ap, refl, ◌∙◌, arith, append_assoc, append-nil, zero-add, length-append}
-use Rattle.std.specs.List.{flat_map, sum_by, slice_range, slice_index_or}
-use Rattle.std.proofs.lemmas.List.{length-map, take-map}
+use Rattle.std.proofs.Common.{◌≡◌, ℕ, zero, suc, ◌+◌, ◌-◌, ◌<◌, ◌≤◌, List, [], ◌∷◌, ◌++◌, length, take, sym, ap, refl, ◌∙◌, arith, append_assoc, append-nil, zero-add}
+use Rattle.std.specs.List.{flat_map, sum_by, slice_range}
 use Rattle.std.proofs.lemmas.List.Sums.{sum_by-cons}
 use Rattle.line_division.specs.declared.stretch.Stretch.{Stretch}
 use Rattle.line_division.specs.Lines.{stretch_at, joined_width, line_width}
 use Rattle.paragraphs.specs.Private.FullLines.{tail_width}
-use Rattle.paragraphs.specs.Settings.{Setting, stretch_of, setting_at, shown_text, last_text, line_text}
+use Rattle.paragraphs.specs.Settings.{Setting, setting_at, shown_text, last_text, line_text}
 
 abbrev pub tail_text : List Setting → List ℕ
 tail_text [] = []

@@ -1,5 +1,5 @@
 -- Words that are added to full lines.
-use Rattle.std.proofs.Common.{◌≡◌, ℕ, zero, suc, ◌+◌, ◌-◌, ◌<◌, ◌≤◌, ◌&&◌, Bool, true, false, List, [], ◌∷◌, ◌++◌, length, map, drop, sym, ap, subst, refl, ◌∙◌, inl, inr, arith, append_assoc, append-nil, length-append, length-drop}
+use Rattle.std.proofs.Common.{◌≡◌, ℕ, ◌+◌, ◌-◌, ◌<◌, ◌≤◌, ◌&&◌, Bool, true, false, List, [], ◌∷◌, ◌++◌, length, map, drop, sym, ap, subst, refl, ◌∙◌, inl, inr, arith, append_assoc, append-nil, length-append, length-drop}
 use Rattle.std.specs.List.{list_all, sum_by}
 use Rattle.std.specs.String.{string_bytes}
 use Rattle.std.proofs.lemmas.List.{length-map, map-append, drop-map, drop_all, get_or_append_left}
@@ -20,7 +20,7 @@ use Rattle.paragraphs.specs.Settings.{Setting, stretch_of, line_text, lines_to, 
 use Rattle.paragraphs.proofs.FullLines.{furthest_from, whole_width, narrow_width, settled}
 use Rattle.paragraphs.proofs.LineTails.{tail_width_append}
 use Rattle.paragraphs.proofs.Printable.{printable_columns, printable_columns_shown}
-use Rattle.paragraphs.proofs.WholeWords.{rest_of, IsAs, narrow_parts, whole_word, full_with_parts}
+use Rattle.paragraphs.proofs.WholeWords.{rest_of, narrow_parts, whole_word, full_with_parts}
 
 -- ---- lines that are set
 

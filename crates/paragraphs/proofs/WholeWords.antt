@@ -1,10 +1,10 @@
 -- A word of printable ASCII that fits whole is as its parts, wherever it may be broken.
 use Rattle.std.proofs.Common.{◌≡◌, ℕ, ◌+◌, ◌-◌, ◌<◌, ◌≤◌, true, false, cond, nat_lt, List, [], ◌∷◌, ◌++◌, length, map, take, drop, slice_range, sym, ap, subst, refl, ◌∙◌, inl, inr, arith, append_assoc, append-nil, length-append, length-drop}
-use Rattle.std.specs.List.{list_all, flat_map, sum_by, slice_index_or}
+use Rattle.std.specs.List.{list_all, flat_map, sum_by}
 use Rattle.std.proofs.lemmas.Bool.{and_parts, ltb-true, cases_lt}
 use Rattle.std.proofs.lemmas.List.{length-take, length-map, map-append, take-map, get_or_append_left, drop-drop, drop_at}
 use Rattle.std.proofs.lemmas.List.Folds.{drop_split}
-use Rattle.std.proofs.lemmas.List.Sums.{sum_by-append, sum_by-cons}
+use Rattle.std.proofs.lemmas.List.Sums.{sum_by-cons}
 use Rattle.hyphenation_breaks.specs.Break.{Break, begin_of, end_of, after_of}
 use Rattle.line_division.specs.Greedy.{IsFurthest}
 use Rattle.line_division.specs.Lines.{no_stretch, stretch_at, joined_width, line_width}

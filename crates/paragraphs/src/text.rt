@@ -1,16 +1,15 @@
 //! The parts of a paragraph, and its lines.
 
-ghost use Rattle.std.specs.Prelude.{◌≡◌, ◌<◌, false, IfOk, IfErr, OnOk, length, map};
-ghost use Rattle.std.specs.List.{list_all};
+ghost use Rattle.std.specs.Prelude.{◌≡◌, ◌<◌, IfOk, IfErr, OnOk, length, map};
 ghost use Rattle.std.specs.String.{string_bytes};
 ghost use Rattle.paragraphs.specs.Aims.{IsSet};
 ghost use Rattle.paragraphs.specs.declared.setting.Aim.TheVariants.{Full, Even};
 ghost use Rattle.paragraphs.specs.Pages.{IsFilled};
 ghost use Rattle.paragraphs.specs.Private.FullLines.{IsOpen, IsAdded};
-ghost use Rattle.paragraphs.specs.Private.Open.{AddsParts};
+ghost use Rattle.paragraphs.specs.Private.Open.{AddsParts, found_parts, text_parts, HasLong};
 ghost use Rattle.paragraphs.specs.Private.PartSettings.{settings_of};
 ghost use Rattle.paragraphs.specs.Private.PartStyles.{indent_of};
-ghost use Rattle.paragraphs.specs.Settings.{is_short, IsTooLong};
+ghost use Rattle.paragraphs.specs.Settings.{IsTooLong};
 ghost use Rattle.paragraphs.specs.Styles.{style_of};
 ghost use Rattle.paragraphs.specs.Parts.{word_parts, other_parts, parts_of};
 ghost use Rattle.paragraphs.specs.Words.{words};
@@ -128,10 +127,10 @@ fn add_parted<'s, 't, 'h, H: Hyphenator<'h>>(
     full: &mut FullLines<'s, 't>,
 ) -> Result<(), FillError>
     requires { IsOpen full.old }
-    ensures added { OnOk result (IsAdded full.old full.new (word_parts (H.breaks_of dictionary.now)
-        (style_of style.now) (indent_of style.now indent) (word.now).text.now)) }
-    ensures too_long { IfErr result (λ e. e ≡ FillError.TooLong → list_all is_short (word_parts
-        (H.breaks_of dictionary.now) (style_of style.now) (indent_of style.now indent) (word.now).text.now) ≡ false) }
+    ensures added { OnOk result (IsAdded full.old full.new
+        (found_parts (H.breaks_of dictionary.now) style.now indent word.now)) }
+    ensures too_long { IfErr result (λ e. e ≡ FillError.TooLong →
+        HasLong (found_parts (H.breaks_of dictionary.now) style.now indent word.now)) }
 {
     let alloc = *breaks.allocator();
     let mut parts = Vec::with_capacity(alloc, 8)?;
@@ -152,10 +151,10 @@ fn add_word<'s, 't, 'h, H: Hyphenator<'h>>(
     full: &mut FullLines<'s, 't>,
 ) -> Result<(), FillError>
     requires { IsOpen full.old }
-    ensures added { OnOk result (IsAdded full.old full.new (word_parts (H.breaks_of dictionary.now)
-        (style_of style.now) (style.now).indent.now (word.now).text.now)) }
-    ensures too_long { IfErr result (λ e. e ≡ FillError.TooLong → list_all is_short (word_parts
-        (H.breaks_of dictionary.now) (style_of style.now) (style.now).indent.now (word.now).text.now) ≡ false) }
+    ensures added { OnOk result (IsAdded full.old full.new
+        (found_parts (H.breaks_of dictionary.now) style.now Indent.Other word.now)) }
+    ensures too_long { IfErr result (λ e. e ≡ FillError.TooLong →
+        HasLong (found_parts (H.breaks_of dictionary.now) style.now Indent.Other word.now)) }
 {
     if word.plain && word.text.len() < full.room as usize {
         add_whole(full, style, word.text)?;
@@ -176,8 +175,8 @@ fn add_others<'s, 't, 'h, H: Hyphenator<'h>>(
     requires some { 0 < length full.old.stretches.items }
     ensures added { OnOk result (IsAdded full.old full.new
         (other_parts (H.breaks_of dictionary.now) (style_of style.now) (words text.now))) }
-    ensures too_long { IfErr result (λ e. e ≡ FillError.TooLong → list_all is_short
-        (other_parts (H.breaks_of dictionary.now) (style_of style.now) (words text.now)) ≡ false) }
+    ensures too_long { IfErr result (λ e. e ≡ FillError.TooLong →
+        HasLong (other_parts (H.breaks_of dictionary.now) (style_of style.now) (words text.now))) }
 {
     let mut rest = text;
     while let Some(next) = next_word(rest) {
@@ -196,10 +195,10 @@ fn full_lines<'h, H: Hyphenator<'h>>(
     text: &str,
     columns: u16,
 ) -> Result<Vec<String>, FillError>
-    ensures lines { IfOk result (λ lines. IsSet Full (parts_of (H.breaks_of dictionary.now) (style_of style.now)
-        (words text.now)) columns (map string_bytes lines.items)) }
+    ensures lines { IfOk result (λ lines. IsSet Full
+        (text_parts (H.breaks_of dictionary.now) style.now text.now) columns (map string_bytes lines.items)) }
     ensures too_long { IfErr result (λ e. e ≡ FillError.TooLong →
-        IsTooLong (parts_of (H.breaks_of dictionary.now) (style_of style.now) (words text.now))) }
+        IsTooLong (text_parts (H.breaks_of dictionary.now) style.now text.now)) }
 {
     laws::furthest_ends_are_fewest();
     let Some(first) = next_word(text) else {
@@ -224,10 +223,10 @@ fn even_lines<'h, H: Hyphenator<'h>>(
     last_columns: u16,
     ladder: Option<u8>,
 ) -> Result<Vec<String>, FillError>
-    ensures lines { IfOk result (λ lines. IsSet (Even last_columns ladder) (parts_of (H.breaks_of dictionary.now)
-        (style_of style.now) (words text.now)) columns (map string_bytes lines.items)) }
+    ensures lines { IfOk result (λ lines. IsSet (Even last_columns ladder)
+        (text_parts (H.breaks_of dictionary.now) style.now text.now) columns (map string_bytes lines.items)) }
     ensures too_long { IfErr result (λ e. e ≡ FillError.TooLong →
-        IsTooLong (parts_of (H.breaks_of dictionary.now) (style_of style.now) (words text.now))) }
+        IsTooLong (text_parts (H.breaks_of dictionary.now) style.now text.now)) }
 {
     let parts = parts_of(alloc, dictionary, style, text)?;
     if parts.len() >= 1 << 30 {

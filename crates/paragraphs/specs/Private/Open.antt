@@ -1,16 +1,21 @@
 -- A word of which some parts are made.
-use Rattle.std.specs.Prelude.{◌≡◌, ◌≤◌, ℕ, List, ◌∷◌, ◌++◌, Option, Some, None}
+use Rattle.std.specs.Prelude.{◌≡◌, ◌≤◌, ℕ, false, List, ◌∷◌, ◌++◌, Option, Some, None}
+use Rattle.std.specs.List.{list_all}
 use Rattle.std.specs.Borrow.{Bor}
 use Rattle.std.specs.Str.{IsCharBoundary}
 use Rattle.std.specs.String.{string_bytes}
 use Rattle.hyphenation_breaks.specs.Break.{Break, left_of, begin_of, end_of}
 use Rattle.paragraphs.specs.declared.part.Part.{Part}
 use Rattle.paragraphs.specs.declared.parting.OpenPart.{OpenPart}
+use Rattle.paragraphs.specs.declared.plain.FirstWord.{FirstWord}
+use Rattle.paragraphs.specs.declared.style.Indent.{Indent}
+use Rattle.paragraphs.specs.declared.style.Style.{Style}
 use Rattle.paragraphs.specs.Private.PartSettings.{settings_of}
 use Rattle.paragraphs.specs.Private.PartStyles.{indent_of}
-use Rattle.paragraphs.specs.Settings.{Setting}
+use Rattle.paragraphs.specs.Settings.{Setting, is_short}
 use Rattle.paragraphs.specs.Styles.{style_of}
-use Rattle.paragraphs.specs.Parts.{set_off, parts_from}
+use Rattle.paragraphs.specs.Parts.{set_off, parts_from, word_parts, parts_of}
+use Rattle.paragraphs.specs.Words.{words}
 
 -- A break of a piece, which is after an offset, lies between two character boundaries of a word.
 pub record LiesIn (word : List ℕ) (offset : ℕ) (b : Break) : Type 0 where
@@ -43,3 +48,15 @@ AddsParts old new added = settings_of new ≡ settings_of old ++ added
 abbrev pub next_then : Option (ℕ × Bor (List ℕ)) → List (ℕ × List ℕ) → List (ℕ × List ℕ)
 next_then None others = others
 next_then (Some x) others = (x.0, x.1.now) ∷ others
+
+-- The parts of a word that was found. A line that begins with it has this indent.
+abbrev pub found_parts : (List ℕ → List Break) → Style → Indent → FirstWord → List Setting
+found_parts breaks_of style indent word = word_parts breaks_of (style_of style) (indent_of style indent) word.text.now
+
+-- The parts of a text.
+abbrev pub text_parts : (List ℕ → List Break) → Style → List ℕ → List Setting
+text_parts breaks_of style text = parts_of breaks_of (style_of style) (words text)
+
+-- A text of one of the parts has 2^31 bytes.
+abbrev pub HasLong : List Setting → Type 0
+HasLong parts = list_all is_short parts ≡ false

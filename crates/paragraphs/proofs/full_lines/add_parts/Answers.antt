@@ -1,4 +1,4 @@
-use Rattle.std.proofs.Common.{◌≡◌, false, MatchOption, length, map, ◌++◌, ◌-◌, sym, ap, subst, refl, ◌∙◌, arith}
+use Rattle.std.proofs.Common.{◌≡◌, false, MatchOption, map, ◌++◌, ◌-◌, sym, ap, subst, refl, ◌∙◌, arith}
 use Rattle.std.specs.List.{list_all, sum_by}
 use Rattle.std.proofs.lemmas.List.{length-map, map-append}
 use Rattle.line_division.specs.Lines.{joined_width}

@@ -1,6 +1,6 @@
-use Rattle.std.proofs.Common.{false, List, [], ◌∷◌, ◌++◌, ap, refl, ◌∙◌}
+use Rattle.std.proofs.Common.{false, [], ◌∷◌, ◌++◌, ap, refl, ◌∙◌}
 use Rattle.std.proofs.lemmas.List.{map-append}
-use Rattle.paragraphs.specs.Settings.{Setting, stretch_of}
+use Rattle.paragraphs.specs.Settings.{stretch_of}
 use Rattle.paragraphs.specs.Private.Changes.{joint_bytes, before_bytes}
 use Rattle.paragraphs.specs.Private.PartSettings.{setting_of, settings_of}
 use Rattle.paragraphs.proofs.OpenLines.{added_whole}

@@ -1,4 +1,4 @@
-use Rattle.std.proofs.Common.{◌≡◌, ◌++◌, [], sym, ap, subst, ◌∙◌, append_assoc, rules}
+use Rattle.std.proofs.Common.{◌≡◌, ◌++◌, [], ap, subst, ◌∙◌, append_assoc, rules}
 use Rattle.std.specs.List.{list_all}
 use Rattle.paragraphs.specs.Private.FullLines.{Lead}
 use Rattle.paragraphs.specs.Settings.{is_short}

@@ -1,4 +1,4 @@
-use Rattle.std.proofs.Common.{List, ℕ, map, sym, subst}
+use Rattle.std.proofs.Common.{map, sym, subst}
 use Rattle.std.specs.String.{string_bytes}
 use Rattle.paragraphs.specs.Aims.{IsSet}
 use Rattle.paragraphs.specs.Styles.{style_of}
