@@ -1,11 +1,11 @@
--- Words of ASCII: characters are bytes, and so are those of their folding.
+-- Words of ASCII: characters are bytes, there are no soft hyphens, and folding moves no place.
 use Rattle.std.proofs.Common.{◌≡◌, ℕ, suc, ◌-◌, ◌<◌, ◌≤◌, ◌==◌, not, ◌⊎◌, max, true, false, cond, nat_le, leb-true, List, [], ◌∷◌, length, map, take, Some, None, refl, sym, ap, subst, ◌∙◌, arith}
 use Rattle.std.specs.Char.{encode_utf8, is_ascii_lowercase, is_ascii_uppercase, to_ascii_lowercase}
-use Rattle.std.specs.List.{list_all}
+use Rattle.std.specs.List.{list_all, list_any}
 use Rattle.std.specs.Str.{IsAscii, encode_utf8_all}
 use Rattle.std.proofs.lemmas.Bool.{and_parts}
 use Rattle.std.proofs.lemmas.List.{length-take-le}
-use Rattle.std.proofs.lemmas.Str.{chars-IsAscii, encodes-IsAscii, encode_ascii, IsAscii-take}
+use Rattle.std.proofs.lemmas.Str.{chars-IsAscii, encodes-IsAscii, encode_ascii, IsAscii-take, IsUtf8-from_ascii}
 use Rattle.std.proofs.lemmas.Str.Ascii.{IsAscii-cons, IsAscii-nil, IsAscii-map, lowercase_ascii}
 use Rattle.unicode.specs.Binary.{is_uppercase}
 use Rattle.unicode.specs.CaseFolding.{simple_fold}
@@ -15,24 +15,30 @@ use Rattle.hyphenation_hyphenator.specs.Places.{place_of_character}
 use Rattle.hyphenation_hyphenator.proofs.CapitalRanges.{is_uppercase_ascii}
 use Rattle.hyphenation_hyphenator.proofs.CharacterPlaces.{bounds_met, bounds_missed}
 use Rattle.hyphenation_hyphenator.proofs.FoldingRows.{capitals_fold}
+use Rattle.hyphenation_hyphenator.proofs.Folds.{fold_stays}
 
 -- ---- letters a to z
 
 letter_below : (c : ℕ) → is_ascii_lowercase c ≡ true → c < 128
 letter_below c e = let parts = and_parts (nat_le 97 c) (nat_le c 122) e in omega (arith, leb-true c 122 parts.1)
 
-letter_stays : (c : ℕ) → is_ascii_lowercase c ≡ true → to_ascii_lowercase c ≡ c
-letter_stays c e = let parts = and_parts (nat_le 97 c) (nat_le c 122) e in let low = leb-true 97 c parts.0 in grind (arith)
+letter_is_small : (c : ℕ) → is_ascii_lowercase c ≡ true → is_ascii_uppercase c ≡ false
+letter_is_small c e = let parts = and_parts (nat_le 97 c) (nat_le c 122) e in let low = leb-true 97 c parts.0 in grind (arith)
 
 pub ascii_lowercase_ascii : (word : List ℕ) → list_all is_ascii_lowercase word ≡ true → IsAscii word
 ascii_lowercase_ascii [] e = IsAscii-nil
 ascii_lowercase_ascii (c ∷ cs) e = let parts = and_parts (is_ascii_lowercase c) (list_all is_ascii_lowercase cs) e in IsAscii-cons c cs (letter_below c parts.0) (ascii_lowercase_ascii cs parts.1)
 
-pub ascii_lowercase_stays : (word : List ℕ) → list_all is_ascii_lowercase word ≡ true → map to_ascii_lowercase word ≡ word
-ascii_lowercase_stays [] e = refl
-ascii_lowercase_stays (c ∷ cs) e =
+small_letters : (word : List ℕ) → list_all is_ascii_lowercase word ≡ true → list_any is_uppercase word ≡ false
+small_letters [] e = refl
+small_letters (c ∷ cs) e =
     let parts = and_parts (is_ascii_lowercase c) (list_all is_ascii_lowercase cs) e in
-    ap (λ x. x ∷ map to_ascii_lowercase cs) (letter_stays c parts.0) ∙ ap (λ xs. c ∷ xs) (ascii_lowercase_stays cs parts.1)
+    rw (sym (is_uppercase_ascii c (letter_below c parts.0)) ∙ letter_is_small c parts.0) (small_letters cs parts.1)
+
+pub ascii_lowercase_fold : (word : List ℕ) → list_all is_ascii_lowercase word ≡ true → fold_case word ≡ word
+ascii_lowercase_fold word e =
+    let ascii = ascii_lowercase_ascii word e in
+    fold_stays word (IsUtf8-from_ascii word ascii) (ap (list_any is_uppercase) (chars-IsAscii word ascii) ∙ small_letters word e)
 
 -- ---- the folding of ASCII
 

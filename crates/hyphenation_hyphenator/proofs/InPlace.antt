@@ -5,10 +5,10 @@ use Rattle.std.specs.List.{list_all}
 use Rattle.std.specs.Str.{IsAscii, IsUtf8, encode_utf8_all}
 use Rattle.std.proofs.Math.ListN.{set}
 use Rattle.std.proofs.Math.Seq.{drop-cons}
-use Rattle.std.proofs.lemmas.Bool.{and_parts, cases_lt, lt-ltb, le-ltb}
+use Rattle.std.proofs.lemmas.Bool.{and_parts, or_cases, cases_lt, lt-ltb, le-ltb}
 use Rattle.std.proofs.lemmas.Int.{ints}
-use Rattle.std.proofs.lemmas.List.{drop_all, take_all, length-set, length-append, get_or-append_right, get_or-take, map-append, take-append-drop, take_more_set, append_assoc, append-nil}
-use Rattle.std.proofs.lemmas.Str.{chars-nil, encode_ascii, encodes-chars, length-encode}
+use Rattle.std.proofs.lemmas.List.{drop_all, take_all, length-set, take_more_set, append_assoc, append-nil}
+use Rattle.std.proofs.lemmas.Str.{chars-nil, chars-IsAscii, encode_ascii}
 use Rattle.std.proofs.lemmas.Str.Ascii.{lowercase_ascii}
 use Rattle.hyphenation_breaks.specs.Break.{Break}
 use Rattle.hyphenation_hyphenator.specs.Fitting.{kept_breaks, fitted_breaks_of}
@@ -16,10 +16,10 @@ use Rattle.hyphenation_hyphenator.specs.Private.Fitting.{range_holds_no_shift}
 use Rattle.hyphenation_hyphenator.specs.Folding.{fold_character, fold_case, carried_back, shifts_of, delta_below}
 use Rattle.hyphenation_hyphenator.specs.Opportunities.{Rules, opportunities, Ascending}
 use Rattle.hyphenation_hyphenator.specs.Places.{place_of_character}
-use Rattle.hyphenation_hyphenator.specs.Private.CommonLowercase.{is_common_pair, stays_before}
+use Rattle.hyphenation_hyphenator.specs.Private.CommonLowercase.{is_common_pair}
 use Rattle.hyphenation_hyphenator.specs.Private.InPlace.{folds_in_place}
 use Rattle.hyphenation_hyphenator.proofs.AsciiWords.{folds_small, keeps_length}
-use Rattle.hyphenation_hyphenator.proofs.CommonLowercase.{chars_ascii, chars_pair, pair_small, small_not_upper, small_not_soft}
+use Rattle.hyphenation_hyphenator.proofs.CommonLowercase.{chars_ascii, chars_pair, ends_of, pair_small, small_not_upper, small_not_soft}
 use Rattle.hyphenation_hyphenator.proofs.Folds.{carried_place, folds_to_itself, fold_is_utf8, as_many_characters}
 use Rattle.hyphenation_hyphenator.proofs.Places.{place_of_boundary, boundary_within}
 use Rattle.hyphenation_hyphenator.proofs.Shifts.{delta_is_growth, no_shifts}
@@ -110,6 +110,42 @@ folded_all bytes folded at ge f =
       sym (append-nil folded) ∙ ap (λ xs. folded ++ xs) (sym (ap fold_case none ∙ nothing_folded)) ∙ ap (λ xs. xs ++ fold_case (drop at bytes)) (sym (take_all at folded (omega (arith, f.long)))) ∙ f.written,
     )
 
+-- The bounds of the two bytes of a common lowercase letter, which folds to itself.
+common_number : (b c : ℕ) → is_common_pair b c ≡ true → (0x80 ≤ c) × (c < 0xC0) × (0xC2 ≤ b)
+common_number b c e =
+    let d0 = b == 0xD0 && (nat_le 0xB0 c && nat_le c 0xBF) in
+    let d1 = b == 0xD1 && (nat_le 0x80 c && nat_le c 0x9F) in
+    let c3 = b == 0xC3 && (nat_le 0x9F c && nat_le c 0xBF) in
+    let c5 = b == 0xC5 && (c == 0x91 || c == 0xB1) in
+    elim (or_cases ((d0 || d1) || c3) c5 e) [
+      | inl more ↦ elim (or_cases (d0 || d1) c3 more) [
+        | inl cyrillic ↦ elim (or_cases d0 d1 cyrillic) [
+          | inl first ↦
+              let parts = and_parts (b == 0xD0) (nat_le 0xB0 c && nat_le c 0xBF) first in
+              let is = eqb-true b 0xD0 parts.0 in
+              let ends = ends_of 0xB0 0xBF c parts.1 in
+              (omega (arith, ends.0), omega (arith, ends.1), omega arith)
+          | inr second ↦
+              let parts = and_parts (b == 0xD1) (nat_le 0x80 c && nat_le c 0x9F) second in
+              let is = eqb-true b 0xD1 parts.0 in
+              let ends = ends_of 0x80 0x9F c parts.1 in
+              (omega (arith, ends.0), omega (arith, ends.1), omega arith)
+        ]
+        | inr latin ↦
+            let parts = and_parts (b == 0xC3) (nat_le 0x9F c && nat_le c 0xBF) latin in
+            let is = eqb-true b 0xC3 parts.0 in
+            let ends = ends_of 0x9F 0xBF c parts.1 in
+            (omega (arith, ends.0), omega (arith, ends.1), omega arith)
+      ]
+      | inr long ↦
+          let parts = and_parts (b == 0xC5) (c == 0x91 || c == 0xB1) long in
+          let is = eqb-true b 0xC5 parts.0 in
+          elim (or_cases (c == 0x91) (c == 0xB1) parts.1) [
+            | inl o ↦ let at = eqb-true c 0x91 o in (omega arith, omega arith, omega arith)
+            | inr u ↦ let at = eqb-true c 0xB1 u in (omega arith, omega arith, omega arith)
+          ]
+    ]
+
 in_place_from : (n : ℕ) → 0x80 ≤ n → n < 0x800 → (n == 0xAD) ≡ false → fold_character n ≡ n → folds_in_place n ≡ true
 in_place_from n low high soft same =
     let all : (nat_lt n 0x80 || ((not (n == 0xAD) && nat_lt n 0x800) && (nat_le 0x80 n && nat_lt n 0x800))) ≡ true = rw (le-ltb n 0x80 low, soft, lt-ltb n 0x800 high, le-leb 0x80 n low) refl in
@@ -119,112 +155,16 @@ pub common_pair_stays : (b c : ℕ) → is_common_pair b c ≡ true
     → (folds_in_place ((b - 0xC0) * 64 + (c - 0x80)) ≡ true) × (encode_utf8 (fold_character ((b - 0xC0) * 64 + (c - 0x80))) ≡ b ∷ c ∷ [])
 common_pair_stays b c e =
     let n = (b - 0xC0) * 64 + (c - 0x80) in
-    let pair = pair_small b c e in
-    let letter = pair.4 in
-    let same : fold_character n ≡ n = folds_to_itself n (small_not_upper n letter) in
-    let low : 0x80 ≤ n = omega (arith, pair.0, pair.2) in
-    let high : n < 0x800 = omega (arith, pair.1, pair.3) in
-    let first : 0xC0 + n / 64 ≡ b = omega (arith, pair.0, pair.2, pair.3) in
-    let second : 0x80 + n % 64 ≡ c = omega (arith, pair.2, pair.3) in (
-      in_place_from n low high (small_not_soft n letter) same,
+    let small = pair_small b c e in
+    let bytes = common_number b c e in
+    let same : fold_character n ≡ n = folds_to_itself n (small_not_upper n small.2) in
+    let low : 0x80 ≤ n = omega (arith, bytes.0, bytes.2) in
+    let high : n < 0x800 = omega (arith, small.1, bytes.1) in
+    let first : 0xC0 + n / 64 ≡ b = omega (arith, small.0, bytes.0, bytes.1) in
+    let second : 0x80 + n % 64 ≡ c = omega (arith, bytes.0, bytes.1) in (
+      in_place_from n low high (small_not_soft n small.2) same,
       ap encode_utf8 same ∙ encode_pair n low high ∙ ap (λ x. x ∷ (0x80 + n % 64) ∷ []) first ∙ ap (λ y. b ∷ y ∷ []) second,
     )
-
--- ---- at once
-
--- Each byte of a text stays before the next one, also before that after the text.
-abbrev pub AllStay : List ℕ → ℕ → Type 0
-AllStay bytes n = (i : ℕ) → i < n → stays_before (slice_index bytes i) (slice_index bytes (i + 1)) ≡ true
-
-above_stays : (b : ℕ) → 0x80 ≤ b → to_ascii_lowercase b ≡ b
-above_stays b le = grind (arith)
-
--- A byte that begins a character of two or more begins a common lowercase letter, where it stays.
-begins_letter : (b c : ℕ) → 0xC0 ≤ b → stays_before b c ≡ true → is_common_pair b c ≡ true
-begins_letter b c le e = sym (ap (λ t. t || is_common_pair b c) (le-ltb b 0xC0 le)) ∙ e
-
-after_bytes : (front back : List ℕ) (k n : ℕ) → length front ≡ k → AllStay (front ++ back) (k + n) → AllStay back n
-after_bytes front back k n long all = λ i lt.
-    let at : slice_index (front ++ back) (k + i) ≡ slice_index back i = get_or-append_right front back k (k + i) 0 long (omega arith) ∙ ap (λ j. slice_index back j) (omega arith) in
-    let next : slice_index (front ++ back) (k + i + 1) ≡ slice_index back (i + 1) = get_or-append_right front back k (k + i + 1) 0 long (omega arith) ∙ ap (λ j. slice_index back j) (omega arith) in
-    sym (ap (λ b. stays_before b (slice_index (front ++ back) (k + i + 1))) at ∙ ap (stays_before (slice_index back i)) next) ∙ all (k + i) (omega arith)
-
-encode_some : (c : ℕ) → 0 < length (encode_utf8 c)
-encode_some c = grind (arith, length-encode c)
-
--- A character of three bytes or four does not stay.
-encode_three : (c : ℕ) → 0x800 ≤ c → c < 0x10000 → encode_utf8 c ≡ (0xE0 + c / 4096) ∷ (0x80 + c / 64 % 64) ∷ (0x80 + c % 64) ∷ []
-unfolding encode_utf8
-encode_three c low high = rw (le-ltb c 0x80 (omega arith), le-ltb c 0x800 low, lt-ltb c 0x10000 high) refl
-
-encode_four : (c : ℕ) → 0x10000 ≤ c → encode_utf8 c ≡ (0xF0 + c / 262144) ∷ (0x80 + c / 4096 % 64) ∷ (0x80 + c / 64 % 64) ∷ (0x80 + c % 64) ∷ []
-unfolding encode_utf8
-encode_four c low = rw (le-ltb c 0x80 (omega arith), le-ltb c 0x800 (omega arith), le-ltb c 0x10000 low) refl
-
-no_letter : (b d : ℕ) → 0xE0 ≤ b → stays_before b d ≡ true → ⊥
-no_letter b d le e = let pair = pair_small b d (begins_letter b d (omega arith) e) in absurd (omega (arith, pair.1))
-
-longer_goes : (c : ℕ) (rest : List ℕ) → 0x800 ≤ c → stays_before (slice_index (encode_utf8 c ++ rest) 0) (slice_index (encode_utf8 c ++ rest) 1) ≡ true → ⊥
-longer_goes c rest le e = elim (cases_lt c 0x10000) [
-  | inl three ↦
-      no_letter (0xE0 + c / 4096) (0x80 + c / 64 % 64) (omega arith)
-      (subst (λ bs. stays_before (slice_index (bs ++ rest) 0) (slice_index (bs ++ rest) 1) ≡ true) (encode_three c le three) e)
-  | inr four ↦
-      no_letter (0xF0 + c / 262144) (0x80 + c / 4096 % 64) (omega arith)
-      (subst (λ bs. stays_before (slice_index (bs ++ rest) 0) (slice_index (bs ++ rest) 1) ≡ true) (encode_four c four) e)
-]
-
--- Characters whose bytes stay are folded in place, and only the capitals of ASCII among them change.
-record Stay (cs : List ℕ) : Type 0 where
-  in_place : list_all folds_in_place cs ≡ true
-  folded : encode_utf8_all (map fold_character cs) ≡ map to_ascii_lowercase (encode_utf8_all cs)
-
-one_stays : (c : ℕ) (cs here small : List ℕ) → encode_utf8 c ≡ here → folds_in_place c ≡ true → encode_utf8 (fold_character c) ≡ small → map to_ascii_lowercase here ≡ small → Stay cs → Stay (c ∷ cs)
-one_stays c cs here small is place folded lowered rest = record {
-  in_place = ap (λ t. t && list_all folds_in_place cs) place ∙ rest.in_place;
-  folded = ap (λ bs. bs ++ encode_utf8_all (map fold_character cs)) (folded ∙ sym lowered ∙ ap (map to_ascii_lowercase) (sym is)) ∙ ap (λ bs. map to_ascii_lowercase (encode_utf8 c) ++ bs) rest.folded
-      ∙ sym (map-append to_ascii_lowercase (encode_utf8 c) (encode_utf8_all cs));
-}
-
-all_stay : (cs rest : List ℕ) → AllStay (encode_utf8_all cs ++ rest) (length (encode_utf8_all cs)) → Stay cs
-all_stay [] rest all = record { in_place = refl; folded = refl }
-all_stay (c ∷ cs) rest all =
-    let back = encode_utf8_all cs ++ rest in
-    let parts : encode_utf8_all (c ∷ cs) ++ rest ≡ encode_utf8 c ++ back = append_assoc (encode_utf8 c) (encode_utf8_all cs) rest in
-    let count : length (encode_utf8_all (c ∷ cs)) ≡ length (encode_utf8 c) + length (encode_utf8_all cs) = length-append (encode_utf8 c) (encode_utf8_all cs) in
-    let split : AllStay (encode_utf8 c ++ back) (length (encode_utf8 c) + length (encode_utf8_all cs)) = subst (λ bs. AllStay bs (length (encode_utf8 c) + length (encode_utf8_all cs))) parts (subst (λ n. AllStay (encode_utf8_all (c ∷ cs) ++ rest) n) count all) in
-    let next = all_stay cs rest (after_bytes (encode_utf8 c) back (length (encode_utf8 c)) (length (encode_utf8_all cs)) refl split) in
-    elim (cases_lt c 0x80) [
-      | inl small ↦ one_stays c cs (c ∷ []) (to_ascii_lowercase c ∷ []) (encode_ascii c small) (small_in_place c small) (small_fold c small) refl next
-      | inr above ↦ elim (cases_lt c 0x800) [
-        | inl below ↦
-            let b = 0xC0 + c / 64 in
-            let d = 0x80 + c % 64 in
-            let bytes = encode_pair c above below in
-            let here : stays_before b d ≡ true = subst (λ bs. stays_before (slice_index (bs ++ back) 0) (slice_index (bs ++ back) 1) ≡ true) bytes (split 0 (omega (arith, ap length bytes))) in
-            let stays = common_pair_stays b d (begins_letter b d (omega arith) here) in
-            let is : (b - 0xC0) * 64 + (d - 0x80) ≡ c = omega arith in
-            one_stays c cs (b ∷ d ∷ []) (b ∷ d ∷ []) bytes (subst (λ n. folds_in_place n ≡ true) is stays.0) (ap (λ n. encode_utf8 (fold_character n)) (sym is) ∙ stays.1)
-            (ap (λ x. x ∷ to_ascii_lowercase d ∷ []) (above_stays b (omega arith)) ∙ ap (λ x. b ∷ x ∷ []) (above_stays d (omega arith))) next
-        | inr long ↦ absurd (longer_goes c back long (split 0 (omega (arith, encode_some c))))
-      ]
-    ]
-
--- A word whose bytes stay in a buffer is folded in place, by its capitals of ASCII.
-pub folded_at_once : (word buffer : List ℕ) → IsUtf8 word → take (length word) buffer ≡ word → AllStay buffer (length word) → (list_all folds_in_place (chars word) ≡ true) × (fold_case word ≡ map to_ascii_lowercase word)
-folded_at_once word buffer u front all =
-    let cs = chars word in
-    let spelt : encode_utf8_all cs ≡ word = encodes-chars word u in
-    let rest = drop (length word) buffer in
-    let parts : encode_utf8_all cs ++ rest ≡ buffer = ap (λ bs. bs ++ rest) (spelt ∙ sym front) ∙ take-append-drop (length word) buffer in
-    let stay = all_stay cs rest (subst (λ bs. AllStay bs (length (encode_utf8_all cs))) (sym parts) (subst (λ bs. AllStay buffer (length bs)) (sym spelt) all)) in
-    (stay.in_place, stay.folded ∙ ap (map to_ascii_lowercase) spelt)
-
--- The bytes of ASCII stay.
-pub ascii_stays : (bytes : List ℕ) (n lanes : ℕ) → n ≤ lanes → IsAscii (take lanes bytes) → AllStay bytes n
-ascii_stays bytes n lanes le ascii = λ i lt.
-    let below : slice_index bytes i < 0x80 = subst (λ b. b < 0x80) (get_or-take lanes bytes i 0 (omega arith)) (ascii i) in
-    ap (λ t. t || is_common_pair (slice_index bytes i) (slice_index bytes (i + 1))) (lt-ltb (slice_index bytes i) 0xC0 (omega arith))
 
 -- ---- by their characters
 
@@ -276,3 +216,10 @@ pub in_place_breaks : (rules : Rules) (word folded : List ℕ) (kept : List Brea
 in_place_breaks rules word folded kept u e folded_is ascend is =
     let none : shifts_of word ≡ [] = no_shifts word (length (chars word)) (λ j lt. stays_long (slice_index (chars word) j) (at_index folds_in_place (chars word) j e lt)) in
     breaks_where_unmoved rules word folded kept none (none_at_all word (λ j. none_soft (chars word) j e)) (unmoved word u none) folded_is ascend is
+
+all_in_place : (cs : List ℕ) → IsAscii cs → list_all folds_in_place cs ≡ true
+all_in_place [] a = refl
+all_in_place (c ∷ cs) a = ap (λ t. t && list_all folds_in_place cs) (small_in_place c (a 0)) ∙ all_in_place cs (λ i. a (suc i))
+
+pub ascii_in_place : (word : List ℕ) → IsAscii word → list_all folds_in_place (chars word) ≡ true
+ascii_in_place word a = ap (list_all folds_in_place) (chars-IsAscii word a) ∙ all_in_place word a

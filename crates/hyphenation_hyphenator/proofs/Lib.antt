@@ -23,6 +23,7 @@ pub mod UnmovedPlaces
 pub mod CapitalRanges
 pub mod AsciiWords
 pub mod CommonLowercase
+pub mod CyrillicLetters
 pub mod InPlace
 pub mod OddPlaces
 pub mod PlacesByRanks

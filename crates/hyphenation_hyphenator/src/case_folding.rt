@@ -12,23 +12,28 @@
 //! [`refold`] returns the folded word with a [`Shift`] for each of these characters, and [`realign`] carries a place of
 //! the folded word back by them. Place 3, before the `a`, comes after the shift of the `ẞ` and becomes 3 + 2 = 5.
 ghost use Rattle.std.specs.Prelude.{◌≡◌, ◌≤◌, ◌<◌, ◌^◌, ◌↔◌, ℕ, pos, ◌-ℤ◌, nat_lt, false};
-ghost use Rattle.std.specs.Prelude.{List, [], ◌∷◌, ◌-◌, ◌*◌, ◌+◌, true, IsTrue, chars, length, take, find, reverse};
+ghost use Rattle.std.specs.Prelude.{List, [], ◌∷◌, ◌-◌, ◌*◌, ◌+◌, true, IsTrue, chars, length, map, take, find, reverse};
 ghost use Rattle.std.specs.Prelude.{IfOk, IsOkAnd, IfSome, IsNone};
-ghost use Rattle.std.specs.Char.{encode_utf8};
+ghost use Rattle.std.specs.Char.{encode_utf8, to_ascii_lowercase};
 ghost use Rattle.std.specs.List.{list_all};
 ghost use Rattle.std.specs.Cow.{cow_str_bytes, IsBorrowedStr};
 ghost use Rattle.std.specs.Int.{saturate_unsigned, w64};
 ghost use Rattle.std.specs.List.Sorted.{IsNonDecreasingBy};
-ghost use Rattle.std.specs.Str.{IsUtf8, IsCharBoundary};
+ghost use Rattle.std.specs.Str.{IsAscii, IsUtf8, IsCharBoundary};
 ghost use Rattle.std.specs.String.{string_bytes};
 ghost use Rattle.std.specs.Option.{option_copied, option_map_or};
 ghost use Rattle.std.specs.Str.Pattern.{HasPassingCharAt};
 ghost use Rattle.unicode.specs.Binary.{is_uppercase};
 ghost use Rattle.hyphenation_hyphenator.specs.Places.{place_of_character};
-ghost use Rattle.hyphenation_hyphenator.specs.Private.CommonLowercase.{is_common_lowercase};
+ghost use Rattle.hyphenation_hyphenator.specs.Private.CommonLowercase.{is_common_lowercase, is_common_pair};
+ghost use Rattle.hyphenation_hyphenator.specs.Private.CommonLowercase.{are_common_lowercase};
+ghost use Rattle.hyphenation_hyphenator.specs.Private.InPlace.{folds_in_place, is_common_capital};
 ghost use Rattle.hyphenation_hyphenator.specs.Folding.{fold_character, fold_case, has_uppercase, shifts_of};
 ghost use Rattle.hyphenation_hyphenator.specs.Folding.{delta_below, carried_back, ForEachWordWith};
 
+mod cyrillic_letters;
+
+use cyrillic_letters::has_cyrillic_letters_alone;
 use std::alloc::{AllocError, Global};
 use std::borrow::CowStr;
 use unicode::case::simple_fold;
@@ -131,6 +136,171 @@ fn is_common_lowercase(c: char) -> bool
         || (c == 'ő' || c == 'ű')
 }
 
+// Whether two bytes encode a common lowercase letter: of Cyrillic, of Latin-1, or the Hungarian `ő` and `ű`.
+#[inline(always)]
+fn is_common_pair(first: u8, second: u8) -> bool
+    ensures { result ≡ is_common_pair first second }
+{
+    (first == 0xD0 && 0xB0 <= second && second <= 0xBF)
+        || (first == 0xD1 && 0x80 <= second && second <= 0x9F)
+        || (first == 0xC3 && 0x9F <= second && second <= 0xBF)
+        || (first == 0xC5 && (second == 0x91 || second == 0xB1))
+}
+
+// Whether a word has only common lowercase letters. Then it folds to itself, and has no soft hyphen.
+//
+// Most other words begin with a capital of ASCII, so the first byte is tested before.
+#[inline(always)]
+#[tactic(auto, using(crate::proofs::CommonLowercase::begins_otherwise))]
+pub(crate) fn are_common_lowercase(word: &str) -> bool
+    ensures { result ≡ are_common_lowercase word.now }
+{
+    let bytes = word.as_bytes();
+    if !bytes.is_empty() && bytes[0] < 0x80 && !bytes[0].is_ascii_lowercase() {
+        return false;
+    }
+    are_common_lowercase_bytes(bytes)
+}
+
+// Whether a word has only common lowercase letters. It is kept out of line, since most words do not come to it.
+#[inline(never)]
+fn are_common_lowercase_bytes(bytes: &[u8]) -> bool
+    ensures { result ≡ are_common_lowercase bytes.now }
+{
+    has_cyrillic_letters_alone(bytes) || are_common_lowercase_in_turn(bytes)
+}
+
+// Whether a word has only common lowercase letters, tested from the first one on.
+//
+// It reads bytes, since decoding characters takes more than twice as long.
+#[inline(never)]
+fn are_common_lowercase_in_turn(bytes: &[u8]) -> bool
+    ensures { result ≡ are_common_lowercase bytes.now }
+{
+    let last = bytes.len().saturating_sub(1);
+    let mut at = 0;
+    while at < last {
+        // Mostly two letters of ASCII are side by side, or one character of two bytes is next.
+        let (first, second) = (bytes[at], bytes[at + 1]);
+        if first.is_ascii_lowercase() {
+            if second.is_ascii_lowercase() {
+                at += 2;
+            } else {
+                at += 1;
+            }
+        } else {
+            if !is_common_pair(first, second) {
+                return false;
+            }
+            at += 2;
+        }
+    }
+    at == bytes.len() || bytes[at].is_ascii_lowercase()
+}
+
+// Whether a character is a capital of Latin-1 or of Russian. The folding of each has the number that is 32 greater.
+#[inline(always)]
+fn is_common_capital(c: char) -> bool
+    ensures { result ≡ is_common_capital c }
+{
+    ('À' <= c && c <= 'Ö') || ('Ø' <= c && c <= 'Þ') || ('А' <= c && c <= 'Я')
+}
+
+// Returns the number of a character's folding, with a fast path for common capitals.
+fn folded_number(c: char) -> u32
+    ensures { result ≡ fold_character c }
+{
+    if is_common_capital(c) {
+        c as u32 + 32
+    } else {
+        fold_char(c) as u32
+    }
+}
+
+// Folds a character of two bytes that is no soft hyphen and whose folding takes two bytes. The result is `None` for any
+// other character, and for bytes that encode no character of two.
+fn fold_pair(first: u8, second: u8) -> Option<(u8, u8)>
+    ensures encoded { IfSome result (λ _. (0xC0 ≤ first) × ((first < 0xE0) × (0x80 ≤ second))) }
+    ensures in_place { IfSome result (λ _. folds_in_place ((first - 0xC0) * 64 + (second - 0x80)) ≡ true) }
+    ensures folded { IfSome result (λ pair. encode_utf8 (fold_character ((first - 0xC0) * 64 + (second - 0x80)))
+        ≡ pair.0 ∷ pair.1 ∷ []) }
+{
+    if is_common_pair(first, second) {
+        return Some((first, second));
+    }
+    if first < 0xC2 || 0xE0 <= first || second < 0x80 || 0xC0 <= second {
+        return None;
+    }
+    let c = char::from_u32((first as u32 - 0xC0) * 64 + (second as u32 - 0x80))?;
+    let folding = folded_number(c);
+    if c == '\u{ad}' || folding < 0x80 || 0x800 <= folding {
+        return None;
+    }
+    Some((0xC0 + (folding / 64) as u8, 0x80 + (folding % 64) as u8))
+}
+
+// Folds a word into as many bytes, and returns whether each character is folded in place.
+//
+// Where one is not, the bytes are of no use. It reads bytes, since decoding characters takes more than twice as long.
+fn fold_in_turn(word: &str, folded: &mut [u8]) -> bool
+    requires { length folded.old ≡ length word.now }
+    ensures in_place { IsTrue result → list_all folds_in_place (chars word.now) ≡ true }
+    ensures folded { IsTrue result → folded.new ≡ fold_case word.now }
+{
+    let bytes = word.as_bytes();
+    let mut at = 0;
+    while at < bytes.len() {
+        let first = bytes[at];
+        if first < 0x80 {
+            folded[at] = first.to_ascii_lowercase();
+            at += 1;
+        } else {
+            if at + 1 == bytes.len() {
+                return false;
+            }
+            let Some((first, second)) = fold_pair(first, bytes[at + 1]) else {
+                return false;
+            };
+            folded[at] = first;
+            folded[at + 1] = second;
+            at += 2;
+        }
+    }
+    true
+}
+
+// Folds a word of ASCII over the first bytes of a buffer. All of the buffer is folded, since that many bytes are folded
+// at once.
+#[inline(always)]
+fn fold_ascii(word: &[u8], buffer: &mut [u8; 64])
+    requires { length word.now ≤ 64 }
+    ensures { take (length word.now) buffer.new ≡ map to_ascii_lowercase word.now }
+{
+    buffer[..word.len()].copy_from_slice(word);
+    buffer.make_ascii_lowercase();
+}
+
+// Folds a word of at most 64 bytes over a buffer, and returns whether the word is ASCII. The result is `None` where a
+// character is not folded in place, or is a soft hyphen. The buffer is then of no use.
+#[inline(always)]
+#[tactic(auto, using(crate::proofs::AsciiWords::ascii_fold, crate::proofs::InPlace::ascii_in_place))]
+pub(crate) fn fold_in_place(word: &str, buffer: &mut [u8; 64]) -> Option<bool>
+    requires { length word.now ≤ 64 }
+    ensures ascii { IfSome result (λ is_ascii. IsTrue is_ascii → IsAscii word.now) }
+    ensures in_place { IfSome result (λ _. list_all folds_in_place (chars word.now) ≡ true) }
+    ensures folded { IfSome result (λ _. take (length word.now) buffer.new ≡ fold_case word.now) }
+{
+    if word.is_ascii() {
+        fold_ascii(word.as_bytes(), buffer);
+        return Some(true);
+    }
+    if fold_in_turn(word, &mut buffer[..word.len()]) {
+        Some(false)
+    } else {
+        None
+    }
+}
+
 // Whether a character has the property Uppercase, with fast paths for ASCII and common lowercase letters.
 fn has_uppercase_property(c: char) -> bool
     ensures { result ≡ is_uppercase c }
@@ -145,7 +315,7 @@ fn has_uppercase_property(c: char) -> bool
 }
 
 // Folds one character.
-pub(crate) fn fold_char(c: char) -> char
+fn fold_char(c: char) -> char
     ensures { result ≡ fold_character c }
 {
     if c == '\u{130}' {

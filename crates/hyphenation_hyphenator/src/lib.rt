@@ -6,6 +6,5 @@
 
 pub mod case_folding;
 pub mod hyphenator;
-mod short_words;
 mod soft_hyphens;
 pub mod text;

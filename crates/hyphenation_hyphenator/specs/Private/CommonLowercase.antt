@@ -1,6 +1,7 @@
 -- Lowercase letters that are common in words: of ASCII, Latin-1 and Cyrillic, and the long vowels of Hungarian. None is
 -- a capital or a soft hyphen.
-use Rattle.std.specs.Prelude.{ℕ, ◌==◌, ◌&&◌, ◌||◌, nat_le, nat_lt, Bool}
+use Rattle.std.specs.Prelude.{ℕ, ◌==◌, ◌&&◌, ◌||◌, nat_le, nat_lt, if◌then◌else◌, Bool, true, List, [], ◌∷◌}
+use Rattle.std.specs.Char.{is_ascii_lowercase}
 
 -- A character is a common lowercase letter. U+00F7, the division sign, lies among those of Latin-1 and counts as one.
 abbrev pub is_common_lowercase : ℕ → Bool
@@ -16,7 +17,11 @@ is_common_pair first second =
     || (first == 0xC3 && (nat_le 0x9F second && nat_le second 0xBF)))
     || (first == 0xC5 && (second == 0x91 || second == 0xB1))
 
--- A byte stays before the next one, unless it is a capital of ASCII. It begins no character of more than a byte, or it
--- begins a common lowercase letter.
-abbrev pub stays_before : ℕ → ℕ → Bool
-stays_before byte next = nat_lt byte 0xC0 || is_common_pair byte next
+-- The bytes encode only common lowercase letters.
+abbrev pub are_common_lowercase : List ℕ → Bool
+are_common_lowercase [] = true
+are_common_lowercase (first ∷ []) = is_ascii_lowercase first
+are_common_lowercase (first ∷ second ∷ rest) =
+    if nat_lt first 0x80
+    then is_ascii_lowercase first && are_common_lowercase (second ∷ rest)
+    else (is_common_pair first second && are_common_lowercase rest)

@@ -1,7 +1,7 @@
 //! Finding the breaks of a word, for both kinds of dictionaries.
 //!
-//! The calls for lowercase words come first. Then come the paths of a word as written: words of a to z, short words whose
-//! folding moves no place, and any.
+//! The calls for lowercase words come first. Then come the paths of a word as written: words of common lowercase letters,
+//! short words whose folding moves no place, and any.
 
 ghost use Rattle.std.specs.Prelude.{◌≡◌, ◌≤◌, [], true, length, map};
 ghost use Rattle.std.specs.Prelude.{Option, Some, None, IsTrue, IfOk, OnOk, OnErr, IfSome};
@@ -16,6 +16,7 @@ ghost use Rattle.hyphenation_hyphenator.specs.Folding.{shifts_of};
 ghost use Rattle.hyphenation_hyphenator.specs.Fitting.{kept_breaks, fitted_breaks_of, KeepRanges};
 ghost use Rattle.hyphenation_hyphenator.specs.Private.Fitting.{range_holds_no_shift, kept_by_shifts};
 ghost use Rattle.hyphenation_hyphenator.specs.Private.Fitting.{kept_opportunities, realigned_breaks};
+ghost use Rattle.hyphenation_hyphenator.specs.Private.CommonLowercase.{are_common_lowercase};
 ghost use Rattle.hyphenation_hyphenator.specs.Opportunities.{rules_of, within, breaks_within, by_patterns};
 ghost use Rattle.hyphenation_hyphenator.specs.Opportunities.{by_exception, exception_within_boundaries, opportunities_in};
 ghost use Rattle.hyphenation_hyphenator.specs.Opportunities.{opportunities, HasBreaks, HasBreaksIfAny, Ascending};
@@ -26,8 +27,7 @@ use super::boundaries::{boundaries_of, boundaries_where};
 use super::break_kind::BreakKind;
 use super::found_break::FoundBreak;
 use super::pattern_breaks::{is_within, push_with_room};
-use crate::case_folding::{Shift, realign_sorted, refold};
-use crate::short_words::fold_in_place;
+use crate::case_folding::{Shift, are_common_lowercase, fold_in_place, realign_sorted, refold};
 use crate::soft_hyphens::soft_hyphen_indices;
 use hyphenation_breaks::breaks::Break;
 use hyphenation_breaks::entry::{Entry, Payload};
@@ -270,7 +270,7 @@ fn breaks_of_short<'h, F: BreakKind<'h>>(
     ensures { OnOk result (map F.meaning list.new.items
         ≡ fitted_breaks_of (rules_of F.Payload.change_of F.Listing.meaning dictionary.now) word.now) }
 {
-    let mut buffer = [0u8; 65];
+    let mut buffer = [0u8; 64];
     let Some(is_ascii) = fold_in_place(word, &mut buffer) else {
         return breaks_of_any(dictionary, word, list);
     };
@@ -295,6 +295,21 @@ fn breaks_of_ascii_lowercase<'h, F: BreakKind<'h>>(
     F::keep_fitting(word, &[], list)
 }
 
+// Puts the breaks of a word of common lowercase letters, which folds to itself, into an empty list.
+fn breaks_of_common_lowercase<'h, F: BreakKind<'h>>(
+    dictionary: &'h Dictionary<F::Payload, F::Listing>,
+    word: &str,
+    list: &mut Vec<F>,
+) -> Result<(), AllocError>
+    requires letters { are_common_lowercase word.now ≡ true }
+    requires empty { list.old.items ≡ [] }
+    ensures { OnOk result (map F.meaning list.new.items
+        ≡ fitted_breaks_of (rules_of F.Payload.change_of F.Listing.meaning dictionary.now) word.now) }
+{
+    put_opportunities(dictionary, word, false, list)?;
+    F::keep_fitting(word, &[], list)
+}
+
 // Whether a word is one byte of ASCII, which the minima leave whole. Half of the pieces of a text are: spaces, commas
 // and other marks.
 #[inline(always)]
@@ -312,7 +327,8 @@ fn is_whole_byte<'h, F: BreakKind<'h>>(
     true
 }
 
-// Puts the breaks of a word as written into an empty list. Most words have the letters a to z alone, or are short.
+// Puts the breaks of a word as written into an empty list. Most words have common lowercase
+// letters alone, or are short.
 #[inline(always)]
 fn breaks_by_path<'h, F: BreakKind<'h>>(
     dictionary: &'h Dictionary<F::Payload, F::Listing>,
@@ -329,6 +345,8 @@ fn breaks_by_path<'h, F: BreakKind<'h>>(
     let bytes = word.as_bytes();
     if !bytes.is_empty() && bytes[0] < 0x80 && are_ascii_lowercase(bytes) {
         breaks_of_ascii_lowercase(dictionary, word, list)
+    } else if are_common_lowercase(word) {
+        breaks_of_common_lowercase(dictionary, word, list)
     } else if word.len() <= 64 {
         breaks_of_short(dictionary, word, list)
     } else {

@@ -3,7 +3,7 @@ use Rattle.std.specs.List.{list_all}
 use Rattle.hyphenation_hyphenator.specs.Folding.{fold_case}
 use Rattle.hyphenation_hyphenator.specs.Private.InPlace.{folds_in_place}
 use Rattle.hyphenation_hyphenator.proofs.InPlace.{folded_letter, folded_pair, folded_all}
-use Rattle.hyphenation_hyphenator.proofs.short_words.fold_in_turn.Goals as goal
+use Rattle.hyphenation_hyphenator.proofs.case_folding.fold_in_turn.Goals as goal
 
 pub loop-at-preserved-then-first-lt128 : goal.loop-at-preserved-then-first-lt128
 loop-at-preserved-then-first-lt128 c = folded_letter c.as_bytes-bytes.result.now c.loop-at.folded c.loop-at.at c.to_ascii_lowercase.result c.loop-at-test.true c.if-first-lt128.true c.to_ascii_lowercase.ensures.value c.loop-at.invariant

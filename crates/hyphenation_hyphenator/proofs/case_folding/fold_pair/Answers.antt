@@ -2,7 +2,7 @@ use Rattle.std.proofs.Common.{ap, sym, ◌∙◌, arith}
 use Rattle.std.specs.Char.{encode_utf8}
 use Rattle.hyphenation_hyphenator.specs.Folding.{fold_character}
 use Rattle.hyphenation_hyphenator.proofs.InPlace.{common_pair_stays, encode_pair}
-use Rattle.hyphenation_hyphenator.proofs.short_words.fold_pair.Goals as goal
+use Rattle.hyphenation_hyphenator.proofs.case_folding.fold_pair.Goals as goal
 
 pub returns-clause-folded : goal.returns-clause-folded
 returns-clause-folded c = ap encode_utf8 (ap fold_character (sym c.in_ok-c.ensures.value.1) ∙ sym c.folded_number-folding.ensures) ∙ encode_pair c.folded_number-folding.result (omega arith) (omega arith)
