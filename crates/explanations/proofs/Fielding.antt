@@ -38,6 +38,7 @@ letter_free : (letter : ℕ) → IsFree letter → All IsFree (92 ∷ letter ∷
 letter_free letter h = All-from_recursion IsFree (92 ∷ letter ∷ []) (refl, (h, tt))
 
 byte_free : (before byte after : ℕ) → All IsFree (field_byte before byte after)
+unfolding field_byte
 byte_free before byte after =
     free_by (byte == 92) _ _ (letter_free 92 refl)
     (λ _. free_by (byte == 9) _ _ (letter_free 116 refl) (λ _. free_by (byte == 10) _ _ (letter_free 110 refl) (λ _. free_by (byte == 13) _ _ (letter_free 114 refl)

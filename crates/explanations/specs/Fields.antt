@@ -16,7 +16,7 @@ are_control first second = (first == control_lead) && (nat_le 128 second && nat_
 
 -- A byte in a field, by the bytes before and after it. A backslash is escaped. The control characters `\t`, `\n` and `\r` have a
 -- letter, and any other its number, as in `\u{1b}`. One of two bytes has its escape in place of the second.
-abbrev pub field_byte : ℕ → ℕ → ℕ → List ℕ
+unfoldable pub field_byte : ℕ → ℕ → ℕ → List ℕ
 field_byte before byte after =
     if byte == backslash then codes "\\\\" else if byte == tab then codes "\\t" else if byte == line_feed then codes "\\n"
     else if byte == carriage_return then codes "\\r" else if is_ascii_control byte then escape_unicode byte

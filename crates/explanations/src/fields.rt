@@ -38,6 +38,7 @@ fn are_control(first: u8, second: u8) -> bool
 }
 
 // Appends a byte in a field, by the bytes before and after it.
+#[tactic(auto, unfolding(crate::specs::Fields::field_byte))]
 fn push_field_byte(text: &mut Vec<u8>, before: u8, byte: u8, after: u8) -> Result<(), AllocError>
     ensures { OnOk result (text.new.items ≡ text.old.items ++ field_byte before byte after) }
 {
