@@ -3,8 +3,8 @@
 //! Such a line goes past a word that fits whole, wherever the word may be broken. So the word is one part there, and only
 //! the other words are parted.
 
-ghost use Rattle.std.specs.Prelude.{◌≡◌, ℕ, ◌+◌, ◌-◌, ◌<◌, List, [], ◌∷◌, ◌++◌, true, false, IfOk, OnOk, length, map};
-ghost use Rattle.std.specs.Prelude.{sum_by};
+ghost use Rattle.std.specs.Prelude.{◌≡◌, ℕ, ◌+◌, ◌-◌, ◌<◌, ◌≤◌, List, [], ◌∷◌, ◌++◌, true, false, IfOk, OnOk, length, map};
+ghost use Rattle.std.specs.Prelude.{drop, sum_by};
 ghost use Rattle.std.specs.List.{list_all};
 ghost use Rattle.std.specs.String.{string_bytes};
 ghost use Rattle.line_division.specs.Greedy.{AreFurthest};
@@ -95,6 +95,17 @@ fn inner_ends(alloc: Global, stretches: &[Stretch], columns: u16) -> Result<Vec<
     Ok(ends)
 }
 
+// Keeps the items from one on, and the memory.
+fn keep_from<T: Drop>(items: &mut Vec<T>, start: usize) -> Result<(), AllocError>
+    requires { start ≤ length items.old.items }
+    ensures { OnOk result (items.new.items ≡ drop start items.old.items) }
+{
+    let mut rest = items.split_off(start)?;
+    items.clear();
+    items.append(&mut rest)?;
+    Ok(())
+}
+
 // Sets the lines of the open parts, but for the last one, whose parts stay open.
 fn settle(alloc: Global, full: &mut FullLines) -> Result<(), AllocError>
     requires some { 0 < length full.old.parts.items }
@@ -106,8 +117,8 @@ fn settle(alloc: Global, full: &mut FullLines) -> Result<(), AllocError>
     let mut made = lines(alloc, &full.parts, full.columns, &ends)?;
     full.lines.append(&mut made)?;
     let start = last_end(&ends);
-    full.parts = full.parts.split_off(start)?;
-    full.stretches = full.stretches.split_off(start)?;
+    keep_from(&mut full.parts, start)?;
+    keep_from(&mut full.stretches, start)?;
     full.room = room_of(full.columns, &full.stretches);
     Ok(())
 }

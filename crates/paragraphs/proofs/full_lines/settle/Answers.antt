@@ -18,14 +18,14 @@ lines-requires c =
     let count = ap length (c.deref.ensures.value ∙ c.requires.measured) ∙ length-set_stretches old.parts.items ∙ ap length (sym c.deref-2.ensures.value) in
     subst (Rise 0 (length c.deref-2.result.now)) (sym c.deref-3.ensures.value) (subst (λ n. Rise 0 n c.in_ok-ends.ends.items) count rise)
 
-pub split_off-requires : goal.split_off-requires
-split_off-requires c =
+pub keep_from-requires : goal.keep_from-requires
+keep_from-requires c =
     let old = c.args.full.now in
     let far = c.in_ok-ends.ensures in
     let end = last_line c.deref.result.now old.columns 0 far.0 c.in_ok-ends.ends.items far.1 in
     let count = ap length (c.deref.ensures.value ∙ c.requires.measured) ∙ length-set_stretches old.parts.items in
     let start = c.last_end-start.ensures ∙ ap (last_end 0) c.deref-4.ensures.value in
-    omega (arith, end.0, count, start, old.parts.ok)
+    omega (arith, end.0, count, start)
 
 pub room_of-full-requires : goal.room_of-full-requires
 room_of-full-requires c =
@@ -33,7 +33,7 @@ room_of-full-requires c =
     let far = c.in_ok-ends.ensures in
     let end = last_line c.deref.result.now old.columns 0 far.0 c.in_ok-ends.ends.items far.1 in
     let start = c.last_end-start.ensures ∙ ap (last_end 0) c.deref-4.ensures.value in
-    omega (arith, end.0, start, ap length c.deref.ensures.value, ap length (c.deref-5.ensures.value ∙ c.in_ok-full-2.ensures.tail), length-drop c.last_end-start.result old.stretches.items)
+    omega (arith, end.0, start, ap length c.deref.ensures.value, ap length (c.deref-5.ensures.value ∙ c.in_ok-keep_from-2.ensures), length-drop c.last_end-start.result old.stretches.items)
 
 pub returns : goal.returns
 returns c =
@@ -45,6 +45,12 @@ returns c =
     let lines = ap (map string_bytes) c.in_ok-append.ensures.items ∙ map-append string_bytes old.lines.items c.in_ok-made.made.items ∙ ap (λ ls. map string_bytes old.lines.items ++ ls) made in
     let start = c.last_end-start.ensures ∙ ap (last_end 0) c.deref-4.ensures.value in
     settled_lines old _ far.0 ends c.requires.measured c.requires.narrow furthest refl lines
-    (c.in_ok-full.ensures.tail ∙ ap (λ n. drop n old.parts.items) start)
-    (c.in_ok-full-2.ensures.tail ∙ ap (λ n. drop n old.stretches.items) start)
+    (c.in_ok-keep_from.ensures ∙ ap (λ n. drop n old.parts.items) start)
+    (c.in_ok-keep_from-2.ensures ∙ ap (λ n. drop n old.stretches.items) start)
     (c.room_of-full.ensures ∙ ap (λ ss. old.columns + 1 - joined_columns ss) c.deref-5.ensures.value)
+
+pub keep_from-requires-2 : goal.keep_from-requires-2
+keep_from-requires-2 c =
+    let end = last_line c.deref.result.now c.args.full.now.columns 0 c.in_ok-ends.ensures.0 c.in_ok-ends.ends.items c.in_ok-ends.ensures.1 in
+    let start = c.last_end-start.ensures ∙ ap (last_end 0) c.deref-4.ensures.value in
+    omega (arith, end.0, start, ap length c.deref.ensures.value)
