@@ -114,8 +114,10 @@ chars_pair b c bs low high = rw (le-ltb b 0x80 (omega arith), lt-ltb b 0xE0 high
 pub ends_of : (low high c : ℕ) → (nat_le low c && nat_le c high) ≡ true → (low ≤ c) × (c ≤ high)
 ends_of low high c e = let parts = and_parts (nat_le low c) (nat_le c high) e in (leb-true low c parts.0, leb-true c high parts.1)
 
-pub pair_small : (b c : ℕ) → is_common_pair b c ≡ true → (0xC0 ≤ b) × (b < 0xE0) × (is_common_lowercase ((b - 192) * 64 + (c - 128)) ≡ true)
+-- The bounds of the two bytes of a common lowercase letter, and its number.
+pub pair_small : (b c : ℕ) → is_common_pair b c ≡ true → (0xC2 ≤ b) × (b < 0xE0) × (0x80 ≤ c) × (c < 0xC0) × (is_common_lowercase ((b - 0xC0) * 64 + (c - 0x80)) ≡ true)
 pair_small b c e =
+    let n = (b - 0xC0) * 64 + (c - 0x80) in
     let d0 = b == 0xD0 && (nat_le 0xB0 c && nat_le c 0xBF) in
     let d1 = b == 0xD1 && (nat_le 0x80 c && nat_le c 0x9F) in
     let c3 = b == 0xC3 && (nat_le 0x9F c && nat_le c 0xBF) in
@@ -127,29 +129,26 @@ pair_small b c e =
               let parts = and_parts (b == 0xD0) (nat_le 0xB0 c && nat_le c 0xBF) first in
               let is = eqb-true b 0xD0 parts.0 in
               let ends = ends_of 0xB0 0xBF c parts.1 in
-              (omega arith, omega arith, cyrillic_small ((b - 192) * 64 + (c - 128)) (omega (arith, ends.0)) (omega (arith, ends.1)))
+              (omega arith, omega arith, omega (arith, ends.0), omega (arith, ends.1), cyrillic_small n (omega (arith, ends.0)) (omega (arith, ends.1)))
           | inr second ↦
               let parts = and_parts (b == 0xD1) (nat_le 0x80 c && nat_le c 0x9F) second in
               let is = eqb-true b 0xD1 parts.0 in
               let ends = ends_of 0x80 0x9F c parts.1 in
-              (omega arith, omega arith, cyrillic_small ((b - 192) * 64 + (c - 128)) (omega (arith, ends.0)) (omega (arith, ends.1)))
+              (omega arith, omega arith, omega (arith, ends.0), omega (arith, ends.1), cyrillic_small n (omega (arith, ends.0)) (omega (arith, ends.1)))
         ]
         | inr latin ↦
             let parts = and_parts (b == 0xC3) (nat_le 0x9F c && nat_le c 0xBF) latin in
             let is = eqb-true b 0xC3 parts.0 in
             let ends = ends_of 0x9F 0xBF c parts.1 in
-            (omega arith, omega arith, latin_small ((b - 192) * 64 + (c - 128)) (omega (arith, ends.0)) (omega (arith, ends.1)))
+            (omega arith, omega arith, omega (arith, ends.0), omega (arith, ends.1), latin_small n (omega (arith, ends.0)) (omega (arith, ends.1)))
       ]
       | inr long ↦
           let parts = and_parts (b == 0xC5) (c == 0x91 || c == 0xB1) long in
-          let is = eqb-true b 0xC5 parts.0 in (
-            omega arith,
-            omega arith,
-            long_small ((b - 192) * 64 + (c - 128)) (elim (or_cases (c == 0x91) (c == 0xB1) parts.1) [
-              | inl o ↦ let at = eqb-true c 0x91 o in inl (omega arith)
-              | inr u ↦ let at = eqb-true c 0xB1 u in inr (omega arith)
-            ]),
-          )
+          let is = eqb-true b 0xC5 parts.0 in
+          elim (or_cases (c == 0x91) (c == 0xB1) parts.1) [
+            | inl o ↦ let at = eqb-true c 0x91 o in (omega arith, omega arith, omega arith, omega arith, long_small n (inl (omega arith)))
+            | inr u ↦ let at = eqb-true c 0xB1 u in (omega arith, omega arith, omega arith, omega arith, long_small n (inr (omega arith)))
+          ]
     ]
 
 -- The rest after a letter of ASCII, after a pair, and where there is neither.
@@ -186,7 +185,7 @@ letters_spelt (b ∷ c ∷ bs) e = elim (cases_lt b 0x80) [
   | inr above ↦
       let parts = and_parts (is_common_pair b c) (are_common_lowercase bs) (sym (pair_first b c bs above) ∙ e) in
       let pair = pair_small b c parts.0 in
-      all_small ((b - 192) * 64 + (c - 128)) (chars bs) (chars (b ∷ c ∷ bs)) (chars_pair b c bs pair.0 pair.1) pair.2 (letters_spelt bs parts.1)
+      all_small ((b - 192) * 64 + (c - 128)) (chars bs) (chars (b ∷ c ∷ bs)) (chars_pair b c bs (omega (arith, pair.0)) pair.1) pair.4 (letters_spelt bs parts.1)
 ]
 
 pub small_not_upper : (c : ℕ) → is_common_lowercase c ≡ true → is_uppercase c ≡ false

@@ -5,7 +5,7 @@ use Rattle.std.specs.List.{list_all}
 use Rattle.std.specs.Str.{IsAscii, IsUtf8, encode_utf8_all}
 use Rattle.std.proofs.Math.ListN.{set}
 use Rattle.std.proofs.Math.Seq.{drop-cons}
-use Rattle.std.proofs.lemmas.Bool.{and_parts, or_cases, cases_lt, lt-ltb, le-ltb}
+use Rattle.std.proofs.lemmas.Bool.{and_parts, cases_lt, lt-ltb, le-ltb}
 use Rattle.std.proofs.lemmas.Int.{ints}
 use Rattle.std.proofs.lemmas.List.{drop_all, take_all, length-set, take_more_set, append_assoc, append-nil}
 use Rattle.std.proofs.lemmas.Str.{chars-nil, chars-IsAscii, encode_ascii}
@@ -19,7 +19,7 @@ use Rattle.hyphenation_hyphenator.specs.Places.{place_of_character}
 use Rattle.hyphenation_hyphenator.specs.Private.CommonLowercase.{is_common_pair}
 use Rattle.hyphenation_hyphenator.specs.Private.InPlace.{folds_in_place}
 use Rattle.hyphenation_hyphenator.proofs.AsciiWords.{folds_small, keeps_length}
-use Rattle.hyphenation_hyphenator.proofs.CommonLowercase.{chars_ascii, chars_pair, ends_of, pair_small, small_not_upper, small_not_soft}
+use Rattle.hyphenation_hyphenator.proofs.CommonLowercase.{chars_ascii, chars_pair, pair_small, small_not_upper, small_not_soft}
 use Rattle.hyphenation_hyphenator.proofs.Folds.{carried_place, folds_to_itself, fold_is_utf8, as_many_characters}
 use Rattle.hyphenation_hyphenator.proofs.Places.{place_of_boundary, boundary_within}
 use Rattle.hyphenation_hyphenator.proofs.Shifts.{delta_is_growth, no_shifts}
@@ -110,42 +110,6 @@ folded_all bytes folded at ge f =
       sym (append-nil folded) ∙ ap (λ xs. folded ++ xs) (sym (ap fold_case none ∙ nothing_folded)) ∙ ap (λ xs. xs ++ fold_case (drop at bytes)) (sym (take_all at folded (omega (arith, f.long)))) ∙ f.written,
     )
 
--- The bounds of the two bytes of a common lowercase letter, which folds to itself.
-common_number : (b c : ℕ) → is_common_pair b c ≡ true → (0x80 ≤ c) × (c < 0xC0) × (0xC2 ≤ b)
-common_number b c e =
-    let d0 = b == 0xD0 && (nat_le 0xB0 c && nat_le c 0xBF) in
-    let d1 = b == 0xD1 && (nat_le 0x80 c && nat_le c 0x9F) in
-    let c3 = b == 0xC3 && (nat_le 0x9F c && nat_le c 0xBF) in
-    let c5 = b == 0xC5 && (c == 0x91 || c == 0xB1) in
-    elim (or_cases ((d0 || d1) || c3) c5 e) [
-      | inl more ↦ elim (or_cases (d0 || d1) c3 more) [
-        | inl cyrillic ↦ elim (or_cases d0 d1 cyrillic) [
-          | inl first ↦
-              let parts = and_parts (b == 0xD0) (nat_le 0xB0 c && nat_le c 0xBF) first in
-              let is = eqb-true b 0xD0 parts.0 in
-              let ends = ends_of 0xB0 0xBF c parts.1 in
-              (omega (arith, ends.0), omega (arith, ends.1), omega arith)
-          | inr second ↦
-              let parts = and_parts (b == 0xD1) (nat_le 0x80 c && nat_le c 0x9F) second in
-              let is = eqb-true b 0xD1 parts.0 in
-              let ends = ends_of 0x80 0x9F c parts.1 in
-              (omega (arith, ends.0), omega (arith, ends.1), omega arith)
-        ]
-        | inr latin ↦
-            let parts = and_parts (b == 0xC3) (nat_le 0x9F c && nat_le c 0xBF) latin in
-            let is = eqb-true b 0xC3 parts.0 in
-            let ends = ends_of 0x9F 0xBF c parts.1 in
-            (omega (arith, ends.0), omega (arith, ends.1), omega arith)
-      ]
-      | inr long ↦
-          let parts = and_parts (b == 0xC5) (c == 0x91 || c == 0xB1) long in
-          let is = eqb-true b 0xC5 parts.0 in
-          elim (or_cases (c == 0x91) (c == 0xB1) parts.1) [
-            | inl o ↦ let at = eqb-true c 0x91 o in (omega arith, omega arith, omega arith)
-            | inr u ↦ let at = eqb-true c 0xB1 u in (omega arith, omega arith, omega arith)
-          ]
-    ]
-
 in_place_from : (n : ℕ) → 0x80 ≤ n → n < 0x800 → (n == 0xAD) ≡ false → fold_character n ≡ n → folds_in_place n ≡ true
 in_place_from n low high soft same =
     let all : (nat_lt n 0x80 || ((not (n == 0xAD) && nat_lt n 0x800) && (nat_le 0x80 n && nat_lt n 0x800))) ≡ true = rw (le-ltb n 0x80 low, soft, lt-ltb n 0x800 high, le-leb 0x80 n low) refl in
@@ -155,14 +119,14 @@ pub common_pair_stays : (b c : ℕ) → is_common_pair b c ≡ true
     → (folds_in_place ((b - 0xC0) * 64 + (c - 0x80)) ≡ true) × (encode_utf8 (fold_character ((b - 0xC0) * 64 + (c - 0x80))) ≡ b ∷ c ∷ [])
 common_pair_stays b c e =
     let n = (b - 0xC0) * 64 + (c - 0x80) in
-    let small = pair_small b c e in
-    let bytes = common_number b c e in
-    let same : fold_character n ≡ n = folds_to_itself n (small_not_upper n small.2) in
-    let low : 0x80 ≤ n = omega (arith, bytes.0, bytes.2) in
-    let high : n < 0x800 = omega (arith, small.1, bytes.1) in
-    let first : 0xC0 + n / 64 ≡ b = omega (arith, small.0, bytes.0, bytes.1) in
-    let second : 0x80 + n % 64 ≡ c = omega (arith, bytes.0, bytes.1) in (
-      in_place_from n low high (small_not_soft n small.2) same,
+    let pair = pair_small b c e in
+    let letter = pair.4 in
+    let same : fold_character n ≡ n = folds_to_itself n (small_not_upper n letter) in
+    let low : 0x80 ≤ n = omega (arith, pair.0, pair.2) in
+    let high : n < 0x800 = omega (arith, pair.1, pair.3) in
+    let first : 0xC0 + n / 64 ≡ b = omega (arith, pair.0, pair.2, pair.3) in
+    let second : 0x80 + n % 64 ≡ c = omega (arith, pair.2, pair.3) in (
+      in_place_from n low high (small_not_soft n letter) same,
       ap encode_utf8 same ∙ encode_pair n low high ∙ ap (λ x. x ∷ (0x80 + n % 64) ∷ []) first ∙ ap (λ y. b ∷ y ∷ []) second,
     )
 
