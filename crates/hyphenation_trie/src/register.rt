@@ -8,10 +8,6 @@ ghost use Rattle.std.specs.Prelude.{◌≡◌, ◌+◌, ◌<◌, ◌≤◌, ℕ,
 use std::simd::prelude::*;
 
 /// Moves the lanes by one to the front, with 0 at the end.
-///
-/// ```text
-/// moved(u8x16::from_array([1, 2, 3, 4, 5, 6, 7, 8, 9, 10, 11, 12, 13, 14, 15, 16]))    // 2, 3, .. 16, 0
-/// ```
 #[inline(always)]
 pub fn moved(register: u8x16) -> u8x16
     requires { length register ≡ 16 }

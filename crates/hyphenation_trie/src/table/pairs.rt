@@ -19,13 +19,6 @@ const TRIES: usize = 64;
 const FREE: u32 = u32::MAX;
 
 /// Pairs of a vector and a count, at most 4,096.
-///
-/// ```text
-/// let mut pairs = Pairs::new(alloc)?;
-/// pairs.find_or_add(&[0; 16], 0)?    // Some(0)
-/// pairs.find_or_add(&[9; 16], 1)?    // Some(1)
-/// pairs.find_or_add(&[0; 16], 0)?    // Some(0): an equal pair has this number
-/// ```
 #[derive(Drop)]
 pub struct Pairs {
     /// The vector of each number.
