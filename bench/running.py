@@ -11,6 +11,8 @@ sys.path.insert(0, os.path.join(ROOT, "tools"))
 from programs import built  # noqa: E402, F401
 
 BIN = os.environ.get("HYPHENATE_BIN")
+# The test that does a task, up to the task, the kind and the path of its dictionary, and the path of its words.
+WORK = [built("tests_libraries"), "measuring::tasks_count_words_places_and_breaks"]
 COUNTED = ["valgrind", "--tool=callgrind", "--callgrind-out-file=/dev/null"]
 # Valgrind simulates a predictor of branches too.
 PREDICTED = [*COUNTED, "--branch-sim=yes"]

@@ -26,9 +26,13 @@ class Crate:
         """The crate as the crates above it read it, where `tools/rt-ci`, `tools/prove` or `rt lib` left it."""
         return self.folder / "out/rlib" / f"{self.name}.rlib"
 
+    def has_tests(self):
+        """Whether it has tests. Then no crate uses it, and what is built is the program of its tests."""
+        return any("#[test]" in path.read_text() for path in (self.folder / "src").rglob("*.rt"))
+
     def is_library(self):
-        """Whether crates above it use it; else it is a program or a static library."""
-        return self.top.endswith("lib.rt") and not self.is_static
+        """Whether crates above it may use it; else it is a program, a static library, or tests."""
+        return self.top.endswith("lib.rt") and not self.is_static and not self.has_tests()
 
     def is_made_of(self, stamp):
         """Whether there is its library, made of the sources with this stamp."""

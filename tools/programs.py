@@ -13,12 +13,13 @@ def program(name):
 
 
 def built(name):
-    """The file of a program that is proved: in the folder HYPHENATE_BIN, else in out/ of its crate. All users' programs are
-    one file, and that is called by a link of the program's name."""
+    """The file of a program that is proved, or of the tests of a crate: in the folder HYPHENATE_BIN, else in out/ of its crate.
+    All users' programs are one file, and that is called by a link of the program's name."""
+    is_tests = not name.startswith("hyphenate")
     if os.environ.get("HYPHENATE_BIN"):
-        return program(name)
-    if not name.startswith("hyphenate"):
-        return os.path.join(ROOT, "crates", name, "out", name)
+        return program(name + "_tests" * is_tests)
+    if is_tests:
+        return os.path.join(ROOT, "crates", name, "out", name + "_tests")
     link = os.path.join(ROOT, ".programs", name)
     if not os.path.lexists(link):
         os.makedirs(os.path.dirname(link), exist_ok=True)

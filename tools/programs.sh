@@ -18,12 +18,13 @@ crate_of() {
   esac
 }
 
-# file_of NAME: what is built for a program or the static library, in `built`. The name by which it is called is in `file`: for
-# a program that is a link. They are there once that is built.
+# file_of NAME: what is built for a program, the static library or the tests of tests_libraries, in `built`. The name by which it
+# is called is in `file`: for a program that is a link. They are there once that is built.
 file_of() {
   crate_of "$1"
   built=$root/crates/$crate/out/$crate
   [ "$1" != libhyphenation ] || built=$root/crates/$crate/out/lib$crate.a
+  [ "$1" != tests_libraries ] || built+=_tests
   file=$built
   if [ "$crate" = hyphenate_program ]; then
     # rt takes no link in out/
@@ -52,7 +53,7 @@ order_of() {
   done
 }
 
-# is_current NAME: whether the program or the static library is built, and no source of it is newer.
+# is_current NAME: whether what is built for the name is there, and no source of it is newer.
 is_current() {
   local -a order=()
   local newer

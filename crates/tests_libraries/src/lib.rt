@@ -4,6 +4,8 @@
 //! have is called once, and so is each caller in `callers`. Readers, writers and files fail. Texts in pieces are those of the
 //! kit's iterator. `tests/rows` has what programs show of dictionary texts, words and files of patterns, and
 //! `tests/long-texts` what they show of long ones.
+//!
+//! Scripts run the tests of `memory_free`, `refused_memory` and `measuring` by their names, over refused memory or to be measured.
 #![tactic(auto)]
 
 #[cfg(test)]
@@ -23,11 +25,17 @@ mod loading;
 #[cfg(test)]
 mod look_ups;
 #[cfg(test)]
+mod measuring;
+#[cfg(test)]
+mod memory_free;
+#[cfg(test)]
 mod names;
 #[cfg(test)]
 mod pieces;
 #[cfg(test)]
 mod questions;
+#[cfg(test)]
+mod refused_memory;
 #[cfg(test)]
 mod segments;
 #[cfg(test)]

@@ -2,6 +2,7 @@
 
 pub mod dictionaries;
 pub mod files;
+pub mod gate;
 pub mod io_errors;
 pub mod readers;
 pub mod writers;

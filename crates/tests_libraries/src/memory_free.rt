@@ -1,12 +1,21 @@
 //! Calls that have an allocator, and request no memory. A call without one can't request any.
+//!
+//! `tests/refused-memory` runs the test by its name, and refuses each request between two passings of the gate.
 
-use crate::gate::{WORDS, pass_gate, say, say_number, standard};
+use crate::support::dictionaries::load;
+use crate::support::expect_equal;
+use crate::support::gate::pass_gate;
 use hyphenation::Standard;
 use hyphenation::case_folding::refold;
 use hyphenation::hyphenator::{Hyphenator, Word, soft_hyphen_indices};
 use hyphenation::iter::{Hyphenating, Iter, SegmentText, Segments, SegmentsExt, Texts};
 use std::alloc::AllocError;
 use std::borrow::CowStr;
+use std::test::Fail;
+
+// A dictionary of exceptions.
+const WORDS: &str =
+    "hyphenation 1 standard\nlanguage en-us\nminima 2 3\ne hyphenation 2 6 7\ne kilim 2\n";
 
 // Counts results, and those that were right.
 #[derive(Clone, Copy)]
@@ -110,17 +119,19 @@ fn check_breaks(tally: &mut Tally, rt: &HostRuntime) {
     }
 }
 
-/// Makes each call, and says how many results were right.
-pub fn call_each(rt: &HostRuntime) {
+// Makes each call. It writes how many results there were, and how many were right.
+fn call_each(rt: &HostRuntime) -> Result<(), Fail> {
     let mut tally = Tally { made: 0, right: 0 };
     pass_gate(rt);
     check_folding(&mut tally, rt);
     pass_gate(rt);
-    if let Ok(words) = standard(rt, WORDS) {
-        check_dictionary(&mut tally, rt, words);
-    }
+    check_dictionary(&mut tally, rt, load(rt.alloc(), WORDS)?);
     check_breaks(&mut tally, rt);
-    say_number(rt, "", tally.made);
-    say_number(rt, " results, ", tally.right);
-    say(rt, " right");
+    let _ = println!(rt; "{} results, {} right", tally.made, tally.right);
+    expect_equal(&(tally.made, tally.right), &(15, 15))
+}
+
+#[test]
+fn calls_answer_without_memory(rt: HostRuntime) -> Result<(), Fail> {
+    call_each(&rt)
 }
