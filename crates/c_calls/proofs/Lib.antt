@@ -1,8 +1,10 @@
 pub mod Alike
 pub mod AsciiTexts
+pub mod Boxes
 pub mod Faults
 pub mod Finding
 pub mod ListEnds
 pub mod OfFiles
+pub mod Slots
 pub mod Stands
 pub mod WordLists

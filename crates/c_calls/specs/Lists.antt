@@ -5,7 +5,7 @@ use Rattle.std.specs.List.{flat_map, range_with_len, slice_range}
 use Rattle.std.specs.Str.{IsUtf8}
 use Rattle.any_dictionary.specs.Dictionaries.{all_places_by}
 use Rattle.any_dictionary.specs.declared.AnyDictionary.{AnyDictionary}
-use Rattle.c_handles.specs.Contents.{Held, Dictionary}
+use Rattle.c_calls.specs.Contents.{Held, Dictionary}
 use Rattle.c_calls.specs.Statuses.{Buffer, AreUnchanged, FillsBoth}
 use Rattle.c_calls.specs.declared.lists.NoList.{NoList}
 use Rattle.c_calls.specs.declared.lists.WordList.{WordList}

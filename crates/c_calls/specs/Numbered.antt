@@ -10,7 +10,7 @@ use Rattle.hyphenation_breaks.specs.Dictionary.{entries_of_keys}
 use Rattle.hyphenation_score.specs.Scoring.{Scored, own_change, scores, values}
 use Rattle.any_dictionary.specs.declared.AnyDictionary.{AnyDictionary}
 use Rattle.any_dictionary.specs.declared.AnyDictionary.TheVariants as of
-use Rattle.c_handles.specs.Contents.{Held, Dictionary}
+use Rattle.c_calls.specs.Contents.{Held, Dictionary}
 use Rattle.c_calls.specs.Statuses.{Buffer, AreUnchanged, FindsBoth}
 use Rattle.c_calls.specs.declared.numbered.NumberedChange.{NumberedChange}
 use Rattle.c_calls.specs.declared.numbered.NumberedChanges.{NumberedChanges}

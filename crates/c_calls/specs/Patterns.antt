@@ -13,7 +13,7 @@ use Rattle.pattern_results.specs.declared.errors.ConvertError.{ConvertError}
 use Rattle.pattern_results.specs.declared.errors.ConvertError.TheVariants as refusals
 use Rattle.c_calls.specs.declared.patterns.Failure.{Failure}
 use Rattle.c_calls.specs.declared.patterns.Failure.TheVariants.{Memory, NotUtf8, NotCode, Fault}
-use Rattle.c_handles.specs.Contents.{Dictionary}
+use Rattle.c_calls.specs.Contents.{Dictionary}
 use Rattle.c_calls.specs.Statuses.{Loading, kind_numbered}
 
 -- A number up to 255 is a minimum; each greater one leaves the minimum to the file.

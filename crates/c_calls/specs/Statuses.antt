@@ -14,7 +14,7 @@ use Rattle.any_dictionary.specs.Dictionaries.{all_places_by, breaks_by, canonica
 use Rattle.any_dictionary.specs.Kinds as kinds
 use Rattle.any_dictionary.specs.declared.AnyDictionary.{AnyDictionary}
 use Rattle.any_dictionary.specs.declared.AnyDictionary.TheVariants as of
-use Rattle.c_handles.specs.Contents.{Held, Dictionary}
+use Rattle.c_calls.specs.Contents.{Held, Dictionary}
 use Rattle.c_calls.specs.Dictionaries.{as_change, texts_of}
 use Rattle.c_calls.specs.declared.changes.BreakChange.{BreakChange}
 

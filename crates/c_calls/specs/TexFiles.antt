@@ -15,7 +15,7 @@ use Rattle.tex_files.specs.declared.group.File.{File}
 use Rattle.tex_files.specs.declared.group.FileForm.{FileForm}
 use Rattle.tex_files.specs.declared.group.FileForm.TheVariants.{Tex, Plain}
 use Rattle.tex_files.specs.declared.group.Group.TheVariants.{Patterns, Exceptions}
-use Rattle.c_handles.specs.Contents.{Held, Dictionary}
+use Rattle.c_calls.specs.Contents.{Held, Dictionary}
 use Rattle.c_calls.specs.declared.tex.NoDictionary.{NoDictionary}
 use Rattle.c_calls.specs.declared.tex.NoDictionary.TheVariants.{Memory, NotUtf8, NotCode, NoMinima, Fault}
 use Rattle.c_calls.specs.Patterns.{minimum_given, pattern_cause_number}

@@ -9,15 +9,15 @@ ghost use Rattle.hyphenation_grammar.specs.Judging.{refusal_of};
 ghost use Rattle.hyphenation_reader.specs.Refusals.{IsRefusal};
 ghost use Rattle.hyphenation_hyphenator.specs.Opportunities.{no_change, rules_of, all_breaks_of};
 ghost use Rattle.linefill.specs.Lines.{lines_by};
-ghost use Rattle.c_handles.specs.Contents.{dictionary_of, held_in, Dictionary};
+ghost use Rattle.c_calls.specs.Contents.{dictionary_of, held_in, Dictionary};
 ghost use Rattle.c_calls.specs.Statuses.{Finds, FindsBreaks, FindsMarkedText, FindsLines, FindsValues, FindChanges, into};
 
 use crate::buffers::{fill_buffer, fill_buffers};
 use crate::changes::{BreakChange, Changes};
+use crate::content::{Content, Loaded};
 use crate::statuses::{NOT_UTF8, OTHER_KIND, OUT_OF_MEMORY};
 use crate::utf8::word_of;
 use any_dictionary::AnyDictionary;
-use c_handles::content::{Content, Loaded};
 use hyphenation_dictionary::dictionary::Standard;
 use hyphenation_grammar::form::Kind;
 use hyphenation_load::Load;

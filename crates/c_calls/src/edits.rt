@@ -4,12 +4,12 @@ ghost use Rattle.std.specs.Prelude.{◌≡◌, IfOk, IsTrue, OnErr, not};
 ghost use Rattle.std.specs.Arc.{arc_value};
 ghost use Rattle.any_dictionary.specs.Dictionaries.{edited, kind_by};
 ghost use Rattle.hyphenation_reader.specs.Edits.{is_good_edit};
-ghost use Rattle.c_handles.specs.Contents.{dictionary_of};
+ghost use Rattle.c_calls.specs.Contents.{dictionary_of};
 ghost use Rattle.c_calls.specs.Statuses.{EditsDictionary};
 
+use crate::content::Loaded;
 use crate::statuses::{DONE, NOT_UTF8, OUT_OF_MEMORY, REFUSED};
 use any_dictionary::AnyDictionary;
-use c_handles::content::Loaded;
 use hyphenation_load::{Error, Load};
 use std::alloc::{AllocError, Global};
 use std::sync::Arc;

@@ -1,15 +1,15 @@
 //! The exceptions and the scores of words, for a dictionary that is loaded.
 
 ghost use Rattle.std.specs.Prelude.{IfOk};
-ghost use Rattle.c_handles.specs.Contents.{dictionary_of};
+ghost use Rattle.c_calls.specs.Contents.{dictionary_of};
 ghost use Rattle.c_calls.specs.Numbered.{AreOf, AreOfIfAny, FindsException, FindsScores, listed_by, scores_by};
 ghost use Rattle.c_calls.specs.Statuses.{into};
 
 use crate::buffers::fill_buffers;
+use crate::content::Loaded;
 use crate::numbered::{NumberedChange, NumberedChanges, collected, collected_if_any};
 use crate::statuses::{NO_EXCEPTION, NOT_UTF8, OUT_OF_MEMORY};
 use any_dictionary::AnyDictionary;
-use c_handles::content::Loaded;
 use hyphenation_score::Score;
 use std::alloc::{AllocError, Global};
 

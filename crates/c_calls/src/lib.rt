@@ -1,6 +1,6 @@
 //! The calls of C, as functions of Rattle. The crate `hyphenation_c` exports each of them, by a name of its own.
 //!
-//! A handle ([`c_handles`]) lies in the caller's memory, and holds one dictionary or none. Each call but [`kind_of`]
+//! A handle ([`handle`]) lies in the caller's memory, and holds one dictionary or none. Each call but [`kind_of`]
 //! returns a status ([`statuses`]). A call writes what it finds into a buffer of the caller's. If the buffer is too
 //! short, it stays unchanged, and the count says how much room is wanted. No memory passes from one side to the other.
 //!
@@ -9,7 +9,7 @@
 #![tactic(auto)]
 
 ghost use Rattle.std.specs.Prelude.{◌≡◌};
-ghost use Rattle.c_handles.specs.Contents.{holds};
+ghost use Rattle.c_calls.specs.Contents.{holds};
 ghost use Rattle.c_calls.specs.Lists.{WritesLists};
 ghost use Rattle.c_calls.specs.Numbered.{WritesListed, WritesScores};
 ghost use Rattle.c_calls.specs.Paths.{WritesPaths};
@@ -22,8 +22,10 @@ ghost use Rattle.c_calls.specs.TexFiles.{LoadsPatterns, PlacesFault};
 pub mod buffers;
 pub mod calls;
 pub mod changes;
+pub mod content;
 pub mod edits;
 pub mod exceptions;
+pub mod handle;
 pub mod lists;
 pub mod numbered;
 pub mod numbers;
@@ -33,10 +35,9 @@ pub mod statuses;
 pub mod tex;
 pub mod utf8;
 
-use c_handles::content::Content;
-use c_handles::handle::Handle;
-use c_handles::lend;
 use changes::BreakChange;
+use content::Content;
+use handle::Handle;
 use hyphenation_reader::reader::Refusal;
 use lists::WordList;
 use numbered::NumberedChange;
@@ -46,6 +47,26 @@ use statuses::{
 };
 use std::alloc::Global;
 use tex::NoDictionary;
+
+/// Lends what a handle holds to an expression, puts it back, and gives the value of the expression.
+///
+/// If the handle holds nothing that has the pattern, the value is that of the other expression.
+#[macro_export]
+macro_rules! lend {
+    ($handle:ident, $alloc:ident, $held:pat => $with:block else $without:expr) => {
+        match $handle.take($alloc) {
+            Some(content) => {
+                let value = match &*content {
+                    $held => $with,
+                    _ => $without,
+                };
+                *$handle = $crate::handle::Handle::of(content);
+                value
+            }
+            None => $without,
+        }
+    };
+}
 
 /// Returns the kind that the first line of a dictionary text names. It is 0 for a standard dictionary, 1 for an extended
 /// one, and 2 if the line names none.

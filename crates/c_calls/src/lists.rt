@@ -5,16 +5,16 @@
 
 ghost use Rattle.std.specs.Prelude.{◌≡◌, IfOk, IfErr, OnOk, map};
 ghost use Rattle.any_dictionary.specs.Dictionaries.{all_places_by};
-ghost use Rattle.c_handles.specs.Contents.{dictionary_of};
+ghost use Rattle.c_calls.specs.Contents.{dictionary_of};
 ghost use Rattle.c_calls.specs.Lists.{AreEnds, AreUtf8, words_of, places_of_all, ends_of_places};
 ghost use Rattle.c_calls.specs.Lists.{IsNoList, ListsWords};
 ghost use Rattle.c_calls.specs.Statuses.{into};
 
 use crate::buffers::fill_buffers;
+use crate::content::Loaded;
 use crate::statuses::{BAD_ENDS, NOT_UTF8, OUT_OF_MEMORY};
 use crate::utf8::word_of;
 use any_dictionary::AnyDictionary;
-use c_handles::content::Loaded;
 use std::alloc::{AllocError, Global};
 
 /// A list of words, as C hands it over: they are side by side in a text, and each has its end in it.

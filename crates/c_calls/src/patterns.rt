@@ -5,11 +5,11 @@ ghost use Rattle.std.specs.Str.{IsUtf8};
 ghost use Rattle.hyphenation_breaks.specs.Language.{IsCode};
 ghost use Rattle.pattern_results.specs.Errors.{IsConvertError};
 ghost use Rattle.libreoffice_files.specs.LibreOffice.{contents_of_dic, dic_fault};
-ghost use Rattle.c_handles.specs.Contents.{held_in, Dictionary as Held};
+ghost use Rattle.c_calls.specs.Contents.{held_in, Dictionary as Held};
 ghost use Rattle.c_calls.specs.Patterns.{dic_given, minimum_given, failure_of, pattern_cause_number, IsFailure};
 
+use crate::content::Content;
 use any_dictionary::AnyDictionary;
-use c_handles::content::Content;
 use hyphenation_breaks::entry::{Listing, Payload};
 use hyphenation_breaks::language::Language;
 use hyphenation_dictionary::dictionary::Dictionary;

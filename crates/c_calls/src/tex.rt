@@ -4,12 +4,12 @@ ghost use Rattle.std.specs.Prelude.{◌≡◌, ℕ, List, None, Some, IfOk, IfEr
 ghost use Rattle.hyphenation_breaks.specs.Language.{IsCode};
 ghost use Rattle.pattern_results.specs.Errors.{IsConvertError};
 ghost use Rattle.tex_files.specs.Converting.{fault_from};
-ghost use Rattle.c_handles.specs.Contents.{held_in};
+ghost use Rattle.c_calls.specs.Contents.{held_in};
 ghost use Rattle.c_calls.specs.TexFiles.{form_numbered, files_of, files_given, HoldsFiles, IsNoDictionary};
 
+use crate::content::Content;
 use crate::patterns::GivenMinima;
 use any_dictionary::AnyDictionary;
-use c_handles::content::Content;
 use hyphenation_breaks::language::Language;
 use hyphenation_grammar::form::Kind;
 use pattern_results::errors::{ConvertError, FileCause};

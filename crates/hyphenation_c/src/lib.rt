@@ -5,7 +5,7 @@
 #![tactic(auto)]
 
 ghost use Rattle.std.specs.Prelude.{◌≡◌, ◌<◌, None, length};
-ghost use Rattle.c_handles.specs.Contents.{holds};
+ghost use Rattle.c_calls.specs.Contents.{holds};
 ghost use Rattle.c_calls.specs.Lists.{WritesLists};
 ghost use Rattle.c_calls.specs.Numbered.{WritesListed, WritesScores};
 ghost use Rattle.c_calls.specs.Paths.{WritesPaths};
@@ -19,8 +19,8 @@ ghost use Rattle.level_calls.specs.Levels.{HasStatus, FillsOne, OneIsShort, Says
 ghost use Rattle.level_calls.specs.Levels.{digits_in, changes_in, texts_in, made_in};
 
 use c_calls::changes::BreakChange;
+use c_calls::handle::Handle;
 use c_calls::numbered::NumberedChange;
-use c_handles::handle::Handle;
 use level_calls::changes::LevelChange;
 use level_calls::head::LevelHead;
 use level_calls::minima::LevelMinima;

@@ -4,8 +4,8 @@ use Rattle.std.specs.Prelude.{◌≡◌, ◌⊎◌, ◌<◌, ◌≤◌, zero, su
 use Rattle.libhyphen_files.specs.Files.{Rules, rules_of}
 use Rattle.libhyphen_rule.specs.Calls.{Answer, answer_of, text_of_call, plain_digits}
 use Rattle.libhyphen_rule.specs.declared.calls.CallMinima.{CallMinima}
-use Rattle.c_handles.specs.Contents.{Held, Levels, holds}
-use Rattle.c_handles.specs.declared.handle.Handle.{Handle}
+use Rattle.c_calls.specs.Contents.{Held, Levels, holds}
+use Rattle.c_calls.specs.declared.handle.Handle.{Handle}
 use Rattle.c_calls.specs.Statuses.{Buffer, Fills, Finds, IsUnchanged}
 use Rattle.level_calls.specs.declared.calls.Asked.{Asked}
 use Rattle.level_calls.specs.declared.changes.LevelChange.{LevelChange}

@@ -1,14 +1,14 @@
 //! The calls of C for a `.dic` of LibreOffice, with the answers of libhyphen. The crate `hyphenation_c` exports each of
 //! them, by a name of its own.
 //!
-//! The handles are those of [`c_handles`]. The crate [`c_calls`] says of its statuses and buffers what holds here, too.
+//! The handles are those of the crate [`c_calls`], which says of its statuses and buffers what holds here, too.
 //! The functions here take the dictionary out of its handle and put it back. Those of [`calls`] have a dictionary that
 //! is loaded.
 #![tactic(auto)]
 
 ghost use Rattle.std.specs.Prelude.{◌≡◌, ◌<◌, length};
 ghost use Rattle.c_calls.specs.Statuses.{into};
-ghost use Rattle.c_handles.specs.Contents.{holds};
+ghost use Rattle.c_calls.specs.Contents.{holds};
 ghost use Rattle.level_calls.specs.Levels.{Loads, minima_given, answer_by, HasStatus, FillsOne, OneIsShort, Says};
 ghost use Rattle.level_calls.specs.Levels.{digits_in, changes_in, texts_in, made_in, WritesText, WritesDigits};
 
@@ -19,10 +19,10 @@ pub mod head;
 pub mod minima;
 
 use buffers::WordSaid;
+use c_calls::content::Content;
+use c_calls::handle::Handle;
+use c_calls::lend;
 use c_calls::statuses::{DONE, NO_DICTIONARY, OUT_OF_MEMORY};
-use c_handles::content::Content;
-use c_handles::handle::Handle;
-use c_handles::lend;
 use calls::Asked;
 use changes::LevelChange;
 use head::LevelHead;

@@ -2,7 +2,7 @@ use Rattle.std.proofs.Common.{ℕ, ap, ◌∙◌, subst}
 use Rattle.std.specs.Str.{IsUtf8}
 use Rattle.any_dictionary.specs.Dictionaries.{all_places_by}
 use Rattle.any_dictionary.specs.declared.AnyDictionary.{AnyDictionary}
-use Rattle.c_handles.specs.Contents.{dictionary_of}
+use Rattle.c_calls.specs.Contents.{dictionary_of}
 use Rattle.c_calls.specs.Statuses.{Fills}
 use Rattle.c_calls.proofs.Finding.{finds}
 use Rattle.c_calls.proofs.calls.write_breaks.Goals as goal

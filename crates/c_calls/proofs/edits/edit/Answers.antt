@@ -1,7 +1,7 @@
 use Rattle.std.proofs.Common.{◌≡◌, List, ℕ, IsFalse, false, not, ap, sym, ◌∙◌, subst, arith}
 use Rattle.hyphenation_reader.specs.Edits.{is_good_edit}
 use Rattle.any_dictionary.specs.Dictionaries.{kind_by}
-use Rattle.c_handles.specs.Contents.{dictionary_of}
+use Rattle.c_calls.specs.Contents.{dictionary_of}
 use Rattle.c_calls.proofs.edits.edit.Goals as goal
 
 pub returns-in-Ok-false : goal.returns-in-Ok-false

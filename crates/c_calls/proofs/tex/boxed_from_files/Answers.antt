@@ -1,6 +1,6 @@
 use Rattle.std.proofs.Common.{◌≡◌, ℕ, ap, sym, ◌∙◌, subst}
 use Rattle.std.specs.Prelude.{Option, Some, unwrap_or}
-use Rattle.c_handles.specs.Contents.{Held}
+use Rattle.c_calls.specs.Contents.{Held}
 use Rattle.c_calls.specs.TexFiles.{files_given, HoldsFiles}
 use Rattle.c_calls.proofs.OfFiles.{of_files}
 use Rattle.c_calls.proofs.tex.boxed_from_files.Goals as goal

@@ -1,6 +1,6 @@
 use Rattle.std.proofs.Common.{List, ℕ, ◌∙◌, subst}
 use Rattle.std.specs.Prelude.{IfOk, Some}
-use Rattle.c_handles.specs.Contents.{held_in}
+use Rattle.c_calls.specs.Contents.{held_in}
 use Rattle.c_calls.specs.TexFiles.{files_of, HoldsFiles}
 use Rattle.c_calls.proofs.tex.load_patterns.Goals as goal
 

@@ -6,8 +6,8 @@ use denote.RawPtr.{Ptr}
 use Rattle.std.specs.Box.Ownership.{box_owns}
 use Rattle.std_heap.specs.declared.Global.{Global}
 use Rattle.std_heap.specs.contracts.GlobalAllocator.TheImpl.{ghosts}
-use Rattle.c_handles.specs.declared.content.Content.{Content}
-use Rattle.c_handles.specs.contracts.content.Content as content
+use Rattle.c_calls.specs.declared.content.Content.{Content}
+use Rattle.c_calls.specs.contracts.content.Content as content
 
 -- The code by which the logic keeps what a handle holds.
 abbrev pub kept_code : Coded (Option Content)

@@ -12,11 +12,11 @@ use contract.Monad.{fact, fact_i}
 use denote.RawPtr.{null_ptr}
 use denote.Steps.{nothing}
 use Rattle.std.proofs.raw_atomic.Walks.{proved, leaves}
-use Rattle.c_handles.proofs.Slots.{alone, slot_in}
-use Rattle.c_handles.specs.declared.content.Content.{Content}
-use Rattle.c_handles.specs.contracts.handle.Slot.empty as f
-use Rattle.c_handles.proofs.handle.Slot.empty.Statement.{statement}
-use Rattle.c_handles.proofs.handle.Slot.empty.Code as code
+use Rattle.c_calls.proofs.Slots.{alone, slot_in}
+use Rattle.c_calls.specs.declared.content.Content.{Content}
+use Rattle.c_calls.specs.contracts.handle.Slot.empty as f
+use Rattle.c_calls.proofs.handle.Slot.empty.Statement.{statement}
+use Rattle.c_calls.proofs.handle.Slot.empty.Code as code
 
 pub empty_spec : {M : Type 1} → statement M
 empty_spec 𝓤 𝓛 𝓜 𝓡 wired =

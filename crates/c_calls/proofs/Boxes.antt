@@ -29,13 +29,13 @@ use Rattle.std_alloc.proofs.BoxSteps.Form.{Bx}
 use Rattle.std_heap.specs.contracts.Global as heap
 use Rattle.std_heap.specs.contracts.GlobalAllocator.TheImpl.{ghosts, dict}
 use Rattle.std_heap.proofs.Global.TheLaws as heap_laws
-use Rattle.c_handles.proofs.Destruct++none.drop.Code as none_code
-use Rattle.c_handles.proofs.Destruct++none.drop.Symbol as none_symbol
-use Rattle.c_handles.specs.contracts.content.Content as content
-use Rattle.c_handles.proofs.content.Content.TheLaws as content_laws
-use Rattle.c_handles.specs.contracts.c_handles++content++Content+Destruct.drop as let_go
-use Rattle.c_handles.proofs.c_handles++content++Content+Destruct.drop.Symbol as let_go_symbol
-use Rattle.c_handles.proofs.c_handles++content++Content+Destruct.drop.Met as let_go_met
+use Rattle.c_calls.proofs.Destruct++none.drop.Code as none_code
+use Rattle.c_calls.proofs.Destruct++none.drop.Symbol as none_symbol
+use Rattle.c_calls.specs.contracts.content.Content as content
+use Rattle.c_calls.proofs.content.Content.TheLaws as content_laws
+use Rattle.c_calls.specs.contracts.c_calls++content++Content+Destruct.drop as let_go
+use Rattle.c_calls.proofs.c_calls++content++Content+Destruct.drop.Symbol as let_go_symbol
+use Rattle.c_calls.proofs.c_calls++content++Content+Destruct.drop.Met as let_go_met
 
 -- a type as the argument of a generic call
 abbrev pub arg : RattleType → RattleType
@@ -43,10 +43,10 @@ arg R = Param.arg (raw_ty (layout R)) no R
 
 -- the allocator's handle needs no drop
 abbrev pub no_drop : Dict
-no_drop = impl ("c_handles::Destruct++none::drop" ∷ []) (tcons (layout (arg heap.the_row)) tnil) dnil
+no_drop = impl ("c_calls::Destruct++none::drop" ∷ []) (tcons (layout (arg heap.the_row)) tnil) dnil
 
 abbrev pub lets_go : Dict
-lets_go = impl ("c_handles::c_handles++content++Content+Destruct::drop" ∷ []) tnil dnil
+lets_go = impl ("c_calls::c_calls++content++Content+Destruct::drop" ∷ []) tnil dnil
 
 pub heap_arg_laws : Laws (arg heap.the_row)
 heap_arg_laws = arg_laws (raw_ty (layout heap.the_row)) no heap.the_row heap_laws.the_row_laws refl
@@ -57,7 +57,7 @@ content_arg_laws = arg_laws (raw_ty (layout content.the_row)) no content.the_row
 -- nothing is done to let the handle go
 pub heap_dropped : (γ : Env) → Wired γ none_symbol.code → glue.Bound γ (arg heap.the_row) no_drop
 unfolding none_code.code
-heap_dropped γ wired = glues "c_handles::Destruct++none::drop" γ wired (arg heap.the_row) heap_arg_laws
+heap_dropped γ wired = glues "c_calls::Destruct++none::drop" γ wired (arg heap.the_row) heap_arg_laws
 
 module _ {M : Type 1} (𝓤 : Ura M) (𝓛 : Logic 𝓤) (𝓜 : Model 𝓤 𝓛.H) (𝓡 : Running 𝓤 𝓛.H 𝓜) where
   abbrev key : Callee

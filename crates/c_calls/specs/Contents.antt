@@ -4,10 +4,10 @@ use Rattle.std.specs.Option.{option_map}
 use Rattle.std.specs.Arc.{arc_value}
 use Rattle.any_dictionary.specs.declared.AnyDictionary.{AnyDictionary}
 use Rattle.libhyphen_files.specs.Files.{Rules}
-use Rattle.c_handles.specs.declared.content.Content.{Content}
-use Rattle.c_handles.specs.declared.content.Content.TheVariants as of
-use Rattle.c_handles.specs.declared.content.Loaded.{Loaded}
-use Rattle.c_handles.specs.declared.handle.Handle.{Handle}
+use Rattle.c_calls.specs.declared.content.Content.{Content}
+use Rattle.c_calls.specs.declared.content.Content.TheVariants as of
+use Rattle.c_calls.specs.declared.content.Loaded.{Loaded}
+use Rattle.c_calls.specs.declared.handle.Handle.{Handle}
 
 -- A dictionary of either kind, or the rules of a dictionary of two levels.
 pub data Held : Type 0 where

@@ -1,9 +1,13 @@
-//! Handles, and the slots in them.
+//! Handles: the two machine words in the memory of C that hold a dictionary, for all calls of C; and the slots in them.
+//!
+//! A [`Handle`] is a struct that exported functions take, and such a struct is not generic. So there is one, with a box of
+//! [`crate::content::Content`]. Its content is a dictionary of either kind, for the calls of this crate, or one of two levels,
+//! for those of `level_calls`. A call finds no dictionary where the handle holds one of the other sort.
 
 ghost use Rattle.std.specs.Prelude.{◌≡◌, Option, Some, None, IsSome, true, false};
 ghost use Rattle.std.specs.Option.{option_map};
-ghost use Rattle.c_handles.specs.declared.content.Content.{Content as Kept};
-ghost use Rattle.c_handles.specs.Held.{is_kept, kept_code};
+ghost use Rattle.c_calls.specs.declared.content.Content.{Content as Kept};
+ghost use Rattle.c_calls.specs.Held.{is_kept, kept_code};
 
 use crate::content::Content;
 use std::alloc::Global;
@@ -19,7 +23,7 @@ pub struct Slot {
 }
 
 impl Model for Slot {
-    ghost use Rattle.c_handles.specs.Held.{owned};
+    ghost use Rattle.c_calls.specs.Held.{owned};
 
     ghost also_owns = { λ s. owned s.kept s.at };
 }

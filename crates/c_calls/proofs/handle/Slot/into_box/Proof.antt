@@ -34,13 +34,13 @@ use Rattle.std_alloc.proofs.boxed.Box.from_raw.Met as from_met
 use Rattle.std_heap.specs.contracts.Global as heap
 use Rattle.std_heap.specs.contracts.GlobalAllocator.TheImpl.{ghosts, dict}
 use Rattle.std_heap.proofs.GlobalAllocator.TheImpl.Met.{passed}
-use Rattle.c_handles.specs.contracts.content.Content as content
-use Rattle.c_handles.proofs.Boxes.{E, arg, heap_arg_laws, content_arg_laws, no_drop, heap_dropped}
-use Rattle.c_handles.proofs.Slots.{alone, slot_out, there}
-use Rattle.c_handles.specs.contracts.handle.Slot as slot
-use Rattle.c_handles.specs.contracts.handle.Slot.into_box as f
-use Rattle.c_handles.proofs.handle.Slot.into_box.Statement.{statement}
-use Rattle.c_handles.proofs.handle.Slot.into_box.Code as code
+use Rattle.c_calls.specs.contracts.content.Content as content
+use Rattle.c_calls.proofs.Boxes.{E, arg, heap_arg_laws, content_arg_laws, no_drop, heap_dropped}
+use Rattle.c_calls.proofs.Slots.{alone, slot_out, there}
+use Rattle.c_calls.specs.contracts.handle.Slot as slot
+use Rattle.c_calls.specs.contracts.handle.Slot.into_box as f
+use Rattle.c_calls.proofs.handle.Slot.into_box.Statement.{statement}
+use Rattle.c_calls.proofs.handle.Slot.into_box.Code as code
 
 abbrev stayed : Stays f.ended.signature.params f.ended.kept
 stayed = (stay_dropped (plain (λ _. slot.the_row)) yes, (stay_dropped (plain (λ _. heap.the_row)) yes, tt))
@@ -51,7 +51,7 @@ into_box_spec {M} 𝓤 𝓛 𝓜 𝓡 wired =
     let k = triple_of 𝓛 (from.signature (arg content.the_row) (arg heap.the_row) ghosts dict no_drop) (from.spec (arg content.the_row) (arg heap.the_row) ghosts dict no_drop 𝓛 𝓜.mem 𝓡.returns) in
     let met = from_met.met 𝓤 𝓛 𝓜 𝓡 (code.calls-std_alloc::boxed::Box::from_raw 𝓡.env wired) (arg content.the_row) (arg heap.the_row) content_arg_laws heap_arg_laws ghosts dict no_drop
     (passed 𝓡.env (code.calls-std_heap::GlobalAllocator::allocate 𝓡.env wired) (code.calls-std_heap::GlobalAllocator::deallocate 𝓡.env wired) (code.calls-std_heap::GlobalAllocator::grow 𝓡.env wired) (code.calls-std_heap::GlobalAllocator::shrink 𝓡.env wired) M 𝓤 𝓛 𝓜 𝓡)
-    (heap_dropped 𝓡.env (code.calls-c_handles::Destruct++none::drop 𝓡.env wired) M 𝓤 𝓛 𝓜 𝓡) in
+    (heap_dropped 𝓡.env (code.calls-c_calls::Destruct++none::drop 𝓡.env wired) M 𝓤 𝓛 𝓜 𝓡) in
     proved_at 𝓛 f.ended stayed c 𝓜 𝓡 (Goes-blank 𝓛 0 (plain (λ _. slot.the_row)) yes (λ κs x w. tt), (Goes-blank 𝓛 0 (plain (λ _. heap.the_row)) yes (λ κs x w. tt), tt)) f.Key.name fn (code.unfolded 𝓤 H 𝓜 𝓡 wired) (λ z are.
     let d = z.0.3.0 in let a = z.0.3.1.0 in let Post : Val → SProp 𝓤 = (walk_of 𝓛 f.ended stayed c).post z in let Run : List Val → List Val → SProp 𝓤 = λ ws us. WpFn 𝓤 H 𝓣.C 𝓣.Λ fn (ws ++ (us ++ [])) Post in
     qed 𝓛 ((‵ ftrue ⊛ ‵ (owns (types_at f.ended.signature.params z.0.0) z.0.3 z.0.4)) ∷ raw (fact 𝓤 (IsSome d.kept)) ∷ []) ∵ move ! (1 ∷ []) $ heard ! (IsSome d.kept) (λ full.

@@ -29,7 +29,7 @@ use denote.Triple.Walked.{Stays, stay_dropped, walk_of}
 use Rattle.core.proofs.alloc.Calls.{Goes-blank}
 use Rattle.core.proofs.atomic.Steps.{fm}
 use Rattle.std.proofs.raw_atomic.Walks.{proved_at, leaves}
-use Rattle.c_handles.specs.Held.{the_heap}
+use Rattle.c_calls.specs.Held.{the_heap}
 use Rattle.std_alloc.specs.Box.Ownership.{box_owns}
 use Rattle.std_alloc.proofs.BoxSteps.Form.{word, box_typed}
 use Rattle.std_alloc.proofs.BoxSteps.Steps.{box_out, box_in}
@@ -38,13 +38,13 @@ use Rattle.std_alloc.proofs.boxed.Box.into_raw.Met as into_met
 use Rattle.std_heap.specs.contracts.Global as heap
 use Rattle.std_heap.specs.contracts.GlobalAllocator.TheImpl.{ghosts, dict}
 use Rattle.std_heap.proofs.GlobalAllocator.TheImpl.Met.{passed}
-use Rattle.c_handles.specs.contracts.content.Content as content
+use Rattle.c_calls.specs.contracts.content.Content as content
 use Rattle.std_alloc.specs.contracts.boxed.Box as box
-use Rattle.c_handles.proofs.Boxes.{E, arg, heap_arg_laws, content_arg_laws, no_drop, lets_go, heap_dropped, content_dropped}
-use Rattle.c_handles.proofs.Slots.{alone, slot_in}
-use Rattle.c_handles.specs.contracts.handle.Slot.of as f
-use Rattle.c_handles.proofs.handle.Slot.of.Statement.{statement}
-use Rattle.c_handles.proofs.handle.Slot.of.Code as code
+use Rattle.c_calls.proofs.Boxes.{E, arg, heap_arg_laws, content_arg_laws, no_drop, lets_go, heap_dropped, content_dropped}
+use Rattle.c_calls.proofs.Slots.{alone, slot_in}
+use Rattle.c_calls.specs.contracts.handle.Slot.of as f
+use Rattle.c_calls.proofs.handle.Slot.of.Statement.{statement}
+use Rattle.c_calls.proofs.handle.Slot.of.Code as code
 
 abbrev stayed : Stays f.ended.signature.params f.ended.kept
 stayed = (stay_dropped (plain (λ _. box.the_row content.the_row heap.the_row ghosts)) yes, tt)
@@ -55,8 +55,8 @@ of_spec {M} 𝓤 𝓛 𝓜 𝓡 wired =
     let k = triple_of 𝓛 (into.signature (arg content.the_row) (arg heap.the_row) ghosts dict no_drop lets_go) (into.spec (arg content.the_row) (arg heap.the_row) ghosts dict no_drop lets_go 𝓛 𝓜.mem 𝓡.returns) in
     let met = into_met.met 𝓤 𝓛 𝓜 𝓡 (code.calls-std_alloc::boxed::Box::into_raw 𝓡.env wired) (arg content.the_row) (arg heap.the_row) content_arg_laws heap_arg_laws ghosts dict no_drop lets_go
     (passed 𝓡.env (code.calls-std_heap::GlobalAllocator::allocate 𝓡.env wired) (code.calls-std_heap::GlobalAllocator::deallocate 𝓡.env wired) (code.calls-std_heap::GlobalAllocator::grow 𝓡.env wired) (code.calls-std_heap::GlobalAllocator::shrink 𝓡.env wired) M 𝓤 𝓛 𝓜 𝓡)
-    (heap_dropped 𝓡.env (code.calls-c_handles::Destruct++none::drop 𝓡.env wired) M 𝓤 𝓛 𝓜 𝓡)
-    (content_dropped 𝓤 𝓛 𝓜 𝓡 (code.calls-c_handles::c_handles++content++Content+Destruct::drop 𝓡.env wired)) in
+    (heap_dropped 𝓡.env (code.calls-c_calls::Destruct++none::drop 𝓡.env wired) M 𝓤 𝓛 𝓜 𝓡)
+    (content_dropped 𝓤 𝓛 𝓜 𝓡 (code.calls-c_calls::c_calls++content++Content+Destruct::drop 𝓡.env wired)) in
     proved_at 𝓛 f.ended stayed c 𝓜 𝓡 (Goes-blank 𝓛 0 (plain (λ _. box.the_row content.the_row heap.the_row ghosts)) yes (λ κs x w. tt), tt) f.Key.name fn (code.unfolded 𝓤 H 𝓜 𝓡 wired) (λ z are.
     let v = z.0.3.0 in let Post : Val → SProp 𝓤 = (walk_of 𝓛 f.ended stayed c).post z in let Run : List Val → SProp 𝓤 = λ ws. WpFn 𝓤 H 𝓣.C 𝓣.Λ fn ws Post in
     qed 𝓛 ((‵ ftrue ⊛ ‵ (owns (types_at f.ended.signature.params z.0.0) z.0.3 z.0.4)) ∷ ‵ ftrue ∷ []) ∵ split ! $ drop ! $ fsplit ! $

@@ -2,7 +2,7 @@
 
 ghost use Rattle.std.specs.Prelude.{◌≡◌, IfOk};
 ghost use Rattle.std.specs.Arc.{arc_value};
-ghost use Rattle.c_handles.specs.Contents.{dictionary_of, held_in, Dictionary, Levels};
+ghost use Rattle.c_calls.specs.Contents.{dictionary_of, held_in, Dictionary, Levels};
 
 use any_dictionary::AnyDictionary;
 use libhyphen_files::LevelDictionary;

@@ -8,11 +8,11 @@ use denote.Struct.Owning.{shape, fields, to}
 use denote.Param.Send.{IsSend, AllSend, owning_send, struct_send, sendable}
 use Rattle.std.proofs.Crossing.{frees}
 use Rattle.std_alloc.proofs.SendSync.{quiet, lies}
-use Rattle.c_handles.specs.Held.{owned, the_heap}
-use Rattle.c_handles.specs.declared.content.Content.{Content}
-use Rattle.c_handles.specs.contracts.content.Content as content
-use Rattle.c_handles.proofs.content.Content.TheSendSync.{the_send as content_send}
-use Rattle.c_handles.specs.contracts.handle.Slot.{the_row, the_type}
+use Rattle.c_calls.specs.Held.{owned, the_heap}
+use Rattle.c_calls.specs.declared.content.Content.{Content}
+use Rattle.c_calls.specs.contracts.content.Content as content
+use Rattle.c_calls.proofs.content.Content.TheSendSync.{the_send as content_send}
+use Rattle.c_calls.specs.contracts.handle.Slot.{the_row, the_type}
 
 keyless : (kept : Option Content) (p : Ptr) → Keyless (owned kept p)
 keyless (Some x) p = (lies content.the_row content_send p x, frees.frees the_heap (raw (lone content.the_row.mir)) p)

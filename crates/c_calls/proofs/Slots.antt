@@ -16,10 +16,10 @@ use denote.Struct.Struct.{within}
 use denote.Struct.Owning.{shape}
 use Rattle.std_heap.specs.contracts.GlobalAllocator.TheImpl.{ghosts}
 use Rattle.std_alloc.specs.Box.Ownership.{box_owns}
-use Rattle.c_handles.specs.Held.{owned, the_heap}
-use Rattle.c_handles.specs.declared.content.Content.{Content}
-use Rattle.c_handles.specs.contracts.content.Content as content
-use Rattle.c_handles.specs.contracts.handle.Slot as slot
+use Rattle.c_calls.specs.Held.{owned, the_heap}
+use Rattle.c_calls.specs.declared.content.Content.{Content}
+use Rattle.c_calls.specs.contracts.content.Content as content
+use Rattle.c_calls.specs.contracts.handle.Slot as slot
 
 abbrev pub alone : Val → Val
 alone v = vstruct (vcons v vnil)
