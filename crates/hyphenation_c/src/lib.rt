@@ -440,7 +440,7 @@ pub extern "C" fn hyphenation_levels_both(
     )
 }
 
-/// Writes the digits of a word's bytes by the patterns of the level at the top that change nothing to the front of a
+/// Writes the digits of a word's bytes by the patterns of the first level that change nothing to the front of a
 /// buffer.
 #[unsafe(no_mangle)]
 pub extern "C" fn hyphenation_levels_digits(

@@ -7,13 +7,13 @@ use Rattle.level_calls.specs.declared.head.LevelHead.{LevelHead}
 abbrev pub with_zeros : List ℕ → List ℕ
 with_zeros charset = take 19 charset ++ replicate (20 - length (take 19 charset)) 0
 
--- The charset of the file, and the minima of its level at the top.
+-- The charset of the file, and the minima of its first level.
 unfoldable pub head_of : Rules → LevelHead
 head_of rules = record {
   charset = with_zeros rules.charset;
-  left = rules.top.minima.left;
-  right = rules.top.minima.right;
-  compound_left = rules.top.minima.compound_left;
-  compound_right = rules.top.minima.compound_right;
+  left = rules.first_level.minima.left;
+  right = rules.first_level.minima.right;
+  compound_left = rules.first_level.minima.compound_left;
+  compound_right = rules.first_level.minima.compound_right;
   utf8 = rules.utf8;
 }

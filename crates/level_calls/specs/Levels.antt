@@ -132,7 +132,7 @@ WritesText _ given text size b status = (status ≡ 3) × IsLeft b
 
 -- 0 and 1: the buffer is filled, or too short. 2: out of memory. No other status comes.
 abbrev pub FindsDigits : Rules → List ℕ → Buffer ℕ → ℕ → Type 0
-FindsDigits rules word b status = Finds (Unit {0}) (plain_digits rules.top word) b.old b.new b.before b.after status
+FindsDigits rules word b status = Finds (Unit {0}) (plain_digits rules.first_level word) b.old b.new b.before b.after status
 
 -- 3: the handle holds no dictionary, and all is unchanged. A handle with a dictionary has the statuses above.
 abbrev pub WritesDigits : Option Held → List ℕ → Buffer ℕ → ℕ → Type 0

@@ -229,7 +229,7 @@ pub fn write_both(
     write_any_word(dictionary, alloc, asked, digits, changes, texts, said)
 }
 
-/// Writes the digits of a word's bytes by the patterns of the level at the top that change nothing to the front of a
+/// Writes the digits of a word's bytes by the patterns of the first level that change nothing to the front of a
 /// buffer. The result is the status.
 pub fn write_digits(
     dictionary: &LevelDictionary,

@@ -5,7 +5,7 @@ ghost use Rattle.level_calls.specs.Head.{head_of, with_zeros};
 
 use libhyphen_files::LevelDictionary;
 
-/// The charset of a file, and the minima of its level at the top.
+/// The charset of a file, and the minima of its first level.
 #[repr(C)]
 #[derive(Clone, Copy)]
 pub struct LevelHead {
@@ -38,7 +38,7 @@ fn with_zeros(charset: &[u8]) -> [u8; 20]
 pub fn head_of(dictionary: &LevelDictionary) -> LevelHead
     ensures { result ≡ head_of dictionary.now }
 {
-    let minima = dictionary.top().minima();
+    let minima = dictionary.first_level().minima();
     LevelHead {
         charset: with_zeros(dictionary.charset()),
         left: minima.left,

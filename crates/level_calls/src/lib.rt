@@ -190,7 +190,7 @@ pub fn write_both(
     status
 }
 
-/// Writes the digits of a word's bytes by the patterns of the level at the top that change nothing to the front of a
+/// Writes the digits of a word's bytes by the patterns of the first level that change nothing to the front of a
 /// buffer.
 pub fn write_digits(
     alloc: Global,

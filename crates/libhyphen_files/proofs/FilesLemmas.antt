@@ -6,7 +6,7 @@ use Rattle.std.specs.List.{take-map}
 use Rattle.std.proofs.lemmas.List.{take_all, drop-map, length-map}
 use Rattle.std.proofs.lemmas.List.Sums.{fold_more, prefix_len-drop_yes, prefix_len-drop_no}
 use Rattle.libhyphen_files.proofs.CutTexts.{none_passes_from, some_passes_from}
-use Rattle.libhyphen_files.specs.Files.{Rules, rules_of, charset_of, is_utf8_name, is_next_level, level_of, dash_lines, dashes, default_minima, default_top, rules_of_lines}
+use Rattle.libhyphen_files.specs.Files.{Rules, rules_of, charset_of, is_utf8_name, is_next_level, level_of, dash_lines, dashes, default_minima, default_first_level, rules_of_lines}
 use Rattle.libhyphen_files.specs.Lines.{lines_of}
 use Rattle.libhyphen_files.specs.Levels.{Level, empty_level, with_line}
 use Rattle.libhyphen_files.specs.declared.minima.Minima.{Minima}
@@ -90,26 +90,26 @@ level_done utf8 lines i level over is =
 abbrev with_both : Minima → List (List ℕ) → Level → Level
 with_both minima no_hyphen level = record { minima = minima; no_hyphen = no_hyphen; patterns = level.patterns }
 
-pub default_made : (utf8 : Bool) (below top : Level) (minima : Minima) (no_hyphen : List (List ℕ)) → top ≡ level_of utf8 (dash_lines utf8) → minima ≡ default_minima below.minima → no_hyphen ≡ dashes utf8
-    → with_both minima no_hyphen top ≡ default_top utf8 below
-default_made utf8 below top minima no_hyphen t m n =
-    ap (λ (x : Minima). with_both x no_hyphen top) m ∙ ap (λ x. with_both (default_minima below.minima) x top) n ∙ ap (λ (x : Level). with_both (default_minima below.minima) (dashes utf8) x) t
+pub default_made : (utf8 : Bool) (next_level first_level : Level) (minima : Minima) (no_hyphen : List (List ℕ)) → first_level ≡ level_of utf8 (dash_lines utf8) → minima ≡ default_minima next_level.minima → no_hyphen ≡ dashes utf8
+    → with_both minima no_hyphen first_level ≡ default_first_level utf8 next_level
+default_made utf8 next_level first_level minima no_hyphen t m n =
+    ap (λ (x : Minima). with_both x no_hyphen first_level) m ∙ ap (λ x. with_both (default_minima next_level.minima) x first_level) n ∙ ap (λ (x : Level). with_both (default_minima next_level.minima) (dashes utf8) x) t
 
 -- ---- Rules.
 
 abbrev rules : List ℕ → Bool → Level → Level → Rules
-rules charset utf8 top below = record { charset = charset; utf8 = utf8; top = top; below = below }
+rules charset utf8 first_level next_level = record { charset = charset; utf8 = utf8; first_level = first_level; next_level = next_level }
 
-pub one_level : (charset : List ℕ) (utf8 : Bool) (lines : List (List ℕ)) (top below : Level) → list_any is_next_level lines ≡ false → below ≡ level_of utf8 lines → top ≡ default_top utf8 below
-    → rules charset utf8 top below ≡ rules_of_lines charset utf8 lines
-one_level charset utf8 lines top below none b t =
-    rw none (ap (λ (x : Level). rules charset utf8 x below) (t ∙ ap (default_top utf8) b) ∙ ap (λ (x : Level). rules charset utf8 (default_top utf8 (level_of utf8 lines)) x) b)
+pub one_level : (charset : List ℕ) (utf8 : Bool) (lines : List (List ℕ)) (first_level next_level : Level) → list_any is_next_level lines ≡ false → next_level ≡ level_of utf8 lines → first_level ≡ default_first_level utf8 next_level
+    → rules charset utf8 first_level next_level ≡ rules_of_lines charset utf8 lines
+one_level charset utf8 lines first_level next_level none b t =
+    rw none (ap (λ (x : Level). rules charset utf8 x next_level) (t ∙ ap (default_first_level utf8) b) ∙ ap (λ (x : Level). rules charset utf8 (default_first_level utf8 (level_of utf8 lines)) x) b)
 
-pub two_levels : (charset : List ℕ) (utf8 : Bool) (lines : List (List ℕ)) (top below : Level) → list_any is_next_level lines ≡ true
-    → top ≡ level_of utf8 (before_first is_next_level lines) → below ≡ level_of utf8 (before_first is_next_level (after_first is_next_level lines))
-    → rules charset utf8 top below ≡ rules_of_lines charset utf8 lines
-two_levels charset utf8 lines top below some t b =
-    rw some (ap (λ (x : Level). rules charset utf8 x below) t ∙ ap (λ (x : Level). rules charset utf8 (level_of utf8 (before_first is_next_level lines)) x) b)
+pub two_levels : (charset : List ℕ) (utf8 : Bool) (lines : List (List ℕ)) (first_level next_level : Level) → list_any is_next_level lines ≡ true
+    → first_level ≡ level_of utf8 (before_first is_next_level lines) → next_level ≡ level_of utf8 (before_first is_next_level (after_first is_next_level lines))
+    → rules charset utf8 first_level next_level ≡ rules_of_lines charset utf8 lines
+two_levels charset utf8 lines first_level next_level some t b =
+    rw some (ap (λ (x : Level). rules charset utf8 x next_level) t ∙ ap (λ (x : Level). rules charset utf8 (level_of utf8 (before_first is_next_level lines)) x) b)
 
 rules_of_none : (bytes : List ℕ) → lines_of bytes ≡ [] → rules_of bytes ≡ rules_of_lines [] (is_utf8_name []) []
 unfolding rules_of

@@ -8,13 +8,13 @@ use Rattle.libhyphen_files.specs.Levels.{Level, empty_level, with_line}
 use Rattle.libhyphen_files.specs.Lines.{lines_of}
 use Rattle.libhyphen_files.specs.declared.minima.Minima.{Minima}
 
--- The rules of a file: its charset, whether that is UTF-8, and two levels. The one at the top parts compounds; the one
--- below breaks their parts.
+-- The rules of a file: its charset, whether that is UTF-8, and two levels. The first one parts compounds; the next one
+-- breaks their parts.
 pub record Rules : Type 0 where
   pub charset : List ℕ
   pub utf8 : Bool
-  pub top : Level
-  pub below : Level
+  pub first_level : Level
+  pub next_level : Level
 
 -- The charset that the first line names.
 abbrev pub charset_of : List ℕ → List ℕ
@@ -50,40 +50,40 @@ dashes utf8 =
 abbrev pub first_set : ℤ → ℤ → ℤ → ℤ
 first_set first second third = if nat_abs first == 0 then (if nat_abs second == 0 then third else second) else first
 
--- The minima of the level at the top, by those of the file.
+-- The minima of the first level, by those of the file.
 abbrev pub default_minima : Minima → Minima
-default_minima below = record {
-  left = below.left;
-  right = below.right;
-  compound_left = first_set below.compound_left below.left (pos 3);
-  compound_right = first_set below.compound_right below.right (pos 3);
+default_minima next_level = record {
+  left = next_level.left;
+  right = next_level.right;
+  compound_left = first_set next_level.compound_left next_level.left (pos 3);
+  compound_right = first_set next_level.compound_right next_level.right (pos 3);
 }
 
--- The level at the top where the file has one level.
-abbrev pub default_top : Bool → Level → Level
-default_top utf8 below = record (level_of utf8 (dash_lines utf8)) {
-  minima = default_minima below.minima;
+-- The first level where the file has one level.
+abbrev pub default_first_level : Bool → Level → Level
+default_first_level utf8 next_level = record (level_of utf8 (dash_lines utf8)) {
+  minima = default_minima next_level.minima;
   no_hyphen = dashes utf8;
 }
 
 -- ---- The whole file.
 
--- The two levels of the lines after the first one. The lines before NEXTLEVEL are at the top, and those after it, up to another
--- one, are below. Without NEXTLEVEL all lines are the level below.
+-- The two levels of the lines after the first one. The lines before NEXTLEVEL are the first level, and those after it, up to
+-- another one, are the next level. Without NEXTLEVEL all lines are the next level.
 abbrev pub rules_of_lines : List ℕ → Bool → List (List ℕ) → Rules
 rules_of_lines charset utf8 lines =
     if list_any is_next_level lines
     then record {
       charset = charset;
       utf8 = utf8;
-      top = level_of utf8 (before_first is_next_level lines);
-      below = level_of utf8 (before_first is_next_level (after_first is_next_level lines));
+      first_level = level_of utf8 (before_first is_next_level lines);
+      next_level = level_of utf8 (before_first is_next_level (after_first is_next_level lines));
     }
     else record {
       charset = charset;
       utf8 = utf8;
-      top = default_top utf8 (level_of utf8 lines);
-      below = level_of utf8 lines;
+      first_level = default_first_level utf8 (level_of utf8 lines);
+      next_level = level_of utf8 lines;
     }
 
 abbrev pub rules_by : List ℕ → List (List ℕ) → Rules

@@ -17,7 +17,7 @@ pub record IsOrdinaryIn (texts : List (List ℕ)) (byte : ℕ) : Type 0 where
 
 -- A byte of most words: no byte 0, no digit, and the first byte of no text without breaks.
 abbrev pub IsOrdinary : Rules → ℕ → Type 0
-IsOrdinary rules byte = IsOrdinaryIn rules.top.no_hyphen byte
+IsOrdinary rules byte = IsOrdinaryIn rules.first_level.no_hyphen byte
 
 -- Only bytes of most words are marked.
 pub record AreOrdinary (texts : List (List ℕ)) (marks : List Bool) : Type 0 where

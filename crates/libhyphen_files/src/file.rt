@@ -3,7 +3,7 @@
 ghost use Rattle.std.specs.Prelude.{◌≡◌, ◌≤◌, false, length, map, IfOk, IsTrue};
 ghost use Rattle.std.specs.List.{position_or_len, list_any, before_first, after_first};
 ghost use Rattle.libhyphen_files.specs.Files.{rules_of, rules_of_lines, charset_of, is_utf8_name, is_next_level};
-ghost use Rattle.libhyphen_files.specs.Files.{level_of, default_top, default_minima, first_set, dash_lines, dashes};
+ghost use Rattle.libhyphen_files.specs.Files.{level_of, default_first_level, default_minima, first_set, dash_lines, dashes};
 ghost use Rattle.libhyphen_files.specs.Private.Growing.{IsGrowing, level_in};
 ghost use Rattle.libhyphen_files.specs.Ordinary.{may_begin_with, AreOrdinary, IsOrdinary, IsOrdinaryIn};
 
@@ -21,8 +21,8 @@ use std::marker::Model;
 pub struct LevelDictionary {
     charset: Vec<u8>,
     utf8: bool,
-    top: FrozenLevel,
-    below: FrozenLevel,
+    first_level: FrozenLevel,
+    next_level: FrozenLevel,
     // For each byte whether it is one of most words.
     ordinary: [bool; 256],
 }
@@ -36,9 +36,9 @@ impl Model for LevelDictionary {
 
     ghost coded = { rules_code };
 
-    ghost view = { λ d. record { charset = d.charset.items; utf8 = d.utf8; top = d.top; below = d.below } };
+    ghost view = { λ d. record { charset = d.charset.items; utf8 = d.utf8; first_level = d.first_level; next_level = d.next_level } };
 
-    ghost invariant = { λ d. AreOrdinary d.top.no_hyphen d.ordinary };
+    ghost invariant = { λ d. AreOrdinary d.first_level.no_hyphen d.ordinary };
 }
 
 impl LevelDictionary {
@@ -59,22 +59,22 @@ impl LevelDictionary {
 
     /// Returns the level that parts compounds. It is asked first.
     #[inline(always)]
-    pub fn top(&self) -> &FrozenLevel
-        ensures { result.now ≡ self.now.top }
+    pub fn first_level(&self) -> &FrozenLevel
+        ensures { result.now ≡ self.now.first_level }
     {
-        &self.top
+        &self.first_level
     }
 
-    /// Returns the level that breaks a word, or a part, in which the level at the top finds no break.
+    /// Returns the level that breaks a word, or a part, in which the first level finds no break.
     #[inline(always)]
-    pub fn below(&self) -> &FrozenLevel
-        ensures { result.now ≡ self.now.below }
+    pub fn next_level(&self) -> &FrozenLevel
+        ensures { result.now ≡ self.now.next_level }
     {
-        &self.below
+        &self.next_level
     }
 
     /// Reports whether a byte is one of most words. It is no byte 0, no digit, and begins no text without breaks of the
-    /// level at the top.
+    /// first level.
     #[inline(always)]
     pub fn is_ordinary(&self, byte: u8) -> bool
         ensures { IsTrue result → IsOrdinary self.now byte }
@@ -85,7 +85,7 @@ impl LevelDictionary {
 
 /// Reads a `.dic`. Any bytes are one, also none, as they are for libhyphen. The only error is out of memory.
 ///
-/// If no line begins with `NEXTLEVEL`, the file is the level below. The level at the top then parts compounds at
+/// If no line begins with `NEXTLEVEL`, the file is the next level. The first level then parts compounds at
 /// hyphens and apostrophes, and takes its minima from the file.
 ///
 /// ```text
@@ -102,8 +102,8 @@ pub fn load(alloc: Global, bytes: &[u8]) -> Result<LevelDictionary, AllocError>
     }
 }
 
-// Returns the rules of a charset and the lines after the first one. The lines before NEXTLEVEL are the level at the
-// top, and those after it, up to another one, are the level below. The only error is out of memory.
+// Returns the rules of a charset and the lines after the first one. The lines before NEXTLEVEL are the first level, and
+// those after it, up to another one, are the next level. The only error is out of memory.
 fn dictionary_of_lines(
     alloc: Global,
     charset: &[u8],
@@ -114,13 +114,13 @@ fn dictionary_of_lines(
 {
     let utf8 = is_utf8_name(charset);
     if !has_next_level(lines) {
-        let below = level_of(alloc, utf8, lines)?;
-        let top = default_top(alloc, utf8, &below)?;
-        return dictionary_of_levels(alloc, charset, utf8, top, below);
+        let next_level = level_of(alloc, utf8, lines)?;
+        let first_level = default_first_level(alloc, utf8, &next_level)?;
+        return dictionary_of_levels(alloc, charset, utf8, first_level, next_level);
     }
-    let top = level_of(alloc, utf8, before_next_level(lines))?;
-    let below = level_of(alloc, utf8, before_next_level(after_next_level(lines)))?;
-    dictionary_of_levels(alloc, charset, utf8, top, below)
+    let first_level = level_of(alloc, utf8, before_next_level(lines))?;
+    let next_level = level_of(alloc, utf8, before_next_level(after_next_level(lines)))?;
+    dictionary_of_levels(alloc, charset, utf8, first_level, next_level)
 }
 
 // Makes the levels ready for words. The only error is out of memory.
@@ -128,21 +128,21 @@ fn dictionary_of_levels(
     alloc: Global,
     charset: &[u8],
     utf8: bool,
-    top: GrowingLevel,
-    below: GrowingLevel,
+    first_level: GrowingLevel,
+    next_level: GrowingLevel,
 ) -> Result<LevelDictionary, AllocError>
-    requires top { IsGrowing top }
-    requires below { IsGrowing below }
+    requires first_level { IsGrowing first_level }
+    requires next_level { IsGrowing next_level }
     ensures { IfOk result (λ dictionary. dictionary
-        ≡ record { charset = charset.now; utf8 = utf8; top = level_in top; below = level_in below }) }
+        ≡ record { charset = charset.now; utf8 = utf8; first_level = level_in first_level; next_level = level_in next_level }) }
 {
-    let top = top.freeze(alloc)?;
-    let ordinary = ordinary_bytes(top.no_hyphen());
+    let first_level = first_level.freeze(alloc)?;
+    let ordinary = ordinary_bytes(first_level.no_hyphen());
     Ok(LevelDictionary {
         charset: charset.to_vec(alloc)?,
         utf8,
-        top,
-        below: below.freeze(alloc)?,
+        first_level,
+        next_level: next_level.freeze(alloc)?,
         ordinary,
     })
 }
@@ -213,21 +213,21 @@ fn is_utf8_name(charset: &[u8]) -> bool
 fn has_next_level(lines: &[&[u8]]) -> bool
     ensures { result ≡ list_any is_next_level (map (λ l. l.now) lines.now) }
 {
-    next_level(lines) < lines.len()
+    next_level_at(lines) < lines.len()
 }
 
 // Returns the lines before the first one that parts two levels.
 fn before_next_level<'l, 'b>(lines: &'l [&'b [u8]]) -> &'l [&'b [u8]]
     ensures { map (λ l. l.now) result.now ≡ before_first is_next_level (map (λ l. l.now) lines.now) }
 {
-    &lines[..next_level(lines)]
+    &lines[..next_level_at(lines)]
 }
 
 // Returns the lines after the first one that parts two levels.
 fn after_next_level<'l, 'b>(lines: &'l [&'b [u8]]) -> &'l [&'b [u8]]
     ensures { map (λ l. l.now) result.now ≡ after_first is_next_level (map (λ l. l.now) lines.now) }
 {
-    let end = next_level(lines);
+    let end = next_level_at(lines);
     if end < lines.len() {
         &lines[end + 1..]
     } else {
@@ -236,7 +236,7 @@ fn after_next_level<'l, 'b>(lines: &'l [&'b [u8]]) -> &'l [&'b [u8]]
 }
 
 // Returns the number of lines before the first one that parts two levels.
-fn next_level(lines: &[&[u8]]) -> usize
+fn next_level_at(lines: &[&[u8]]) -> usize
     ensures number { result ≡ position_or_len is_next_level (map (λ l. l.now) lines.now) }
     ensures within { result ≤ length lines.now }
 {
@@ -274,16 +274,20 @@ fn level_of(alloc: Global, utf8: bool, lines: &[&[u8]]) -> Result<GrowingLevel, 
     Ok(level)
 }
 
-// Returns the level at the top where the file has one level. It parts compounds at hyphens and apostrophes, and its
+// Returns the first level where the file has one level. It parts compounds at hyphens and apostrophes, and its
 // minima are those of the file. The only error is out of memory.
-fn default_top(alloc: Global, utf8: bool, below: &GrowingLevel) -> Result<GrowingLevel, AllocError>
-    ensures level { IfOk result (λ top. level_in top ≡ default_top utf8 (level_in below.now)) }
-    ensures growing { IfOk result (λ top. IsGrowing top) }
+fn default_first_level(
+    alloc: Global,
+    utf8: bool,
+    next_level: &GrowingLevel,
+) -> Result<GrowingLevel, AllocError>
+    ensures level { IfOk result (λ first_level. level_in first_level ≡ default_first_level utf8 (level_in next_level.now)) }
+    ensures growing { IfOk result (λ first_level. IsGrowing first_level) }
 {
-    let mut top = dash_level(alloc, utf8)?;
-    top.minima = default_minima(&below.minima);
-    top.no_hyphen = dashes(alloc, utf8)?;
-    Ok(top)
+    let mut first_level = dash_level(alloc, utf8)?;
+    first_level.minima = default_minima(&next_level.minima);
+    first_level.no_hyphen = dashes(alloc, utf8)?;
+    Ok(first_level)
 }
 
 // Returns the level with the patterns that break at hyphens and apostrophes. The only error is out of memory.
@@ -310,16 +314,16 @@ fn dashes(alloc: Global, utf8: bool) -> Result<Vec<Vec<u8>>, AllocError>
     }
 }
 
-// Returns the minima of the level at the top, by those of the file. Within a part of a compound, where the file sets
+// Returns the minima of the first level, by those of the file. Within a part of a compound, where the file sets
 // none, those of the word count, or else 3.
-fn default_minima(below: &Minima) -> Minima
-    ensures { result ≡ default_minima below.now }
+fn default_minima(next_level: &Minima) -> Minima
+    ensures { result ≡ default_minima next_level.now }
 {
     Minima {
-        left: below.left,
-        right: below.right,
-        compound_left: first_set(below.compound_left, below.left, 3),
-        compound_right: first_set(below.compound_right, below.right, 3),
+        left: next_level.left,
+        right: next_level.right,
+        compound_left: first_set(next_level.compound_left, next_level.left, 3),
+        compound_right: first_set(next_level.compound_right, next_level.right, 3),
     }
 }
 

@@ -27,8 +27,8 @@ use std::marker::Model;
 ///
 /// ```text
 /// let dictionary = load(alloc, b"UTF-8\nLEFTHYPHENMIN 2\nr5kin\n")?;
-/// dictionary.below().minima().left        // 2
-/// dictionary.below().has_changes()        // false
+/// dictionary.next_level().minima().left        // 2
+/// dictionary.next_level().has_changes()        // false
 /// ```
 #[derive(Drop)]
 pub struct FrozenLevel {

@@ -151,8 +151,8 @@ given_first f a high p rest (Some c) is lt later =
 
 all_given : (f : ℕ → Option Counted) (a n p high : ℕ) → high ≡ a + n
     → (digit_at (offers (filter_map f (range_with_len a n))) p ≡ 48) ⊎ Borne f a high p (digit_at (offers (filter_map f (range_with_len a n))) p)
-all_given f a zero p high top = inl (offers_none p)
-all_given f a (suc n) p high top =
+all_given f a zero p high first_level = inl (offers_none p)
+all_given f a (suc n) p high first_level =
     let rest : List Counted = filter_map f (range_with_len (a + 1) n) in
     let later = all_given f (a + 1) n p high (omega arith) in
     given_first f a high p rest (f a) refl (omega arith) later
@@ -191,21 +191,21 @@ find_within test a (suc n) k low high passes = elim (cases_Bool (test a)) [
   ]
 ]
 
-find_below : (test : ℕ → Bool) (a n s : ℕ) → find test (range_with_len a n) ≡ Some s → s < a + n
-find_below test a zero s is = cc
-find_below test a (suc n) s is = elim (cases_Bool (test a)) [
+find_by_next_level : (test : ℕ → Bool) (a n s : ℕ) → find test (range_with_len a n) ≡ Some s → s < a + n
+find_by_next_level test a zero s is = cc
+find_by_next_level test a (suc n) s is = elim (cases_Bool (test a)) [
   | inl here ↦
       let e : Some a ≡ Some s = sym (ap (λ b. cond {A = Option ℕ} b (Some a) (find test (range_with_len (a + 1) n))) here) ∙ is in
       let same : a ≡ s = cc in omega (arith, same)
   | inr fails ↦
       let e = sym (ap (λ b. cond {A = Option ℕ} b (Some a) (find test (range_with_len (a + 1) n))) fails) ∙ is in
-      omega (arith, find_below test (a + 1) n s e)
+      omega (arith, find_by_next_level test (a + 1) n s e)
 ]
 
 longest_below : (patterns : TextMap (List Pattern)) (frame : List ℕ) (end s : ℕ) → longest_start patterns frame end ≡ Some s → s < end
 unfolding longest_start
 longest_below patterns frame end s is =
-    let below = find_below (λ start. begins_key patterns (slice_range frame start end)) 0 end s is in omega (arith, below)
+    let next_level = find_by_next_level (λ start. begins_key patterns (slice_range frame start end)) 0 end s is in omega (arith, next_level)
 
 longest_within : (patterns : TextMap (List Pattern)) (frame : List ℕ) (end start : ℕ) → start < end → begins_key patterns (slice_range frame start end) ≡ true
     → FirstFound (λ s. begins_key patterns (slice_range frame s end)) (longest_start patterns frame end) 0 start
@@ -322,7 +322,7 @@ borne_gives patterns frame place digit low b =
     let c : Counted = b.counted in
     let from = counts_start patterns frame b.end c (longest_start patterns frame b.end) refl b.is in
     let s : ℕ = from.start in
-    let below = longest_below patterns frame b.end s from.long in
+    let next_level = longest_below patterns frame b.end s from.long in
     let starts : s ≡ c.start = ap (λ x. x.start) from.same in
     elim (one_given c 0 (length c.digits) place) [
       | inl nil ↦ inl (sym b.same ∙ nil)
@@ -330,7 +330,7 @@ borne_gives patterns frame place digit low b =
           let k : ℕ = one.0 in
           let within : b.end ≤ length frame = omega (arith, b.to) in
           let number : place - s ≡ k = omega (arith, starts, one.1) in
-          let size : length (slice_range frame s b.end) + 1 ≡ b.end + 1 - s = omega (arith, below, length_slice frame s b.end within) in
+          let size : length (slice_range frame s b.end) + 1 ≡ b.end + 1 - s = omega (arith, next_level, length_slice frame s b.end within) in
           let digits : take (length (slice_range frame s b.end) + 1) from.pattern.digits ≡ c.digits =
           ap (λ n. take n from.pattern.digits) size ∙ ap (λ x. x.digits) from.same in
           let value : get_or (take (length (slice_range frame s b.end) + 1) from.pattern.digits) (place - s) 0 ≡ digit =
@@ -339,7 +339,7 @@ borne_gives patterns frame place digit low b =
             s,
             b.end,
             record {
-              nonempty = below;
+              nonempty = next_level;
               within = within;
               before = omega (arith, starts, one.1);
               gives = ap (digit_of_pattern (length (slice_range frame s b.end)) (place - s)) from.key ∙ omega (arith, value, low);

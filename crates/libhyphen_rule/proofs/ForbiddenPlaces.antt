@@ -9,7 +9,7 @@ use Rattle.hyphenation_breaks.specs.Ascii.{digit_zero}
 use Rattle.libhyphen_files.specs.Bytes.{before_nul}
 use Rattle.libhyphen_files.specs.Files.{Rules}
 use Rattle.libhyphen_rule.specs.declared.calls.CallMinima.{CallMinima}
-use Rattle.libhyphen_rule.specs.Calls.{at_least_two, digits_kept, found_by_call, least_of, taken_digit, part_minima}
+use Rattle.libhyphen_rule.specs.Calls.{at_least_two, digits_by_no_hyphen, found_by_call, least_of, no_hyphen_digit, part_minima}
 use Rattle.libhyphen_rule.specs.Laws.{ForbiddenPlacesAreEven, is_beside_some}
 use Rattle.libhyphen_rule.specs.Minima.{changes_but, digits_but, is_short_after, is_short_before, left_goes, right_goes}
 use Rattle.libhyphen_rule.specs.OneLevel.{ChangeAt, is_odd}
@@ -84,34 +84,34 @@ kept_at : (parts : List (List ℕ)) (instead : ℕ) (text digits : List ℕ) (k 
 kept_at parts instead text digits k lt =
     get_or-map-range_with_len (λ byte. cond (list_any (is_beside text byte) parts) instead (get_or digits byte 0)) 0 (length digits) k k 0 lt (zero-add k)
 
-taken_even : (given : Option CallMinima) → is_odd (taken_digit given) ≡ false
+taken_even : (given : Option CallMinima) → is_odd (no_hyphen_digit given) ≡ false
 taken_even None = refl
 taken_even (Some least) = refl
 
-zero_even : (given : Option CallMinima) (b : Bool) → is_odd (cond b (taken_digit given) digit_zero) ≡ false
+zero_even : (given : Option CallMinima) (b : Bool) → is_odd (cond b (no_hyphen_digit given) digit_zero) ≡ false
 zero_even given true = taken_even given
 zero_even given false = refl
 
 kept_beside : (rules : Rules) (given : Option CallMinima) (text digits : List ℕ) (k : ℕ) → k < length digits → is_beside_some rules text k ≡ true
-    → get_or (digits_kept rules given text digits) k 0 ≡ taken_digit given
+    → get_or (digits_by_no_hyphen rules given text digits) k 0 ≡ no_hyphen_digit given
 kept_beside rules given text digits k lt is =
-    kept_at rules.top.no_hyphen (taken_digit given) (before_nul text) digits k lt ∙ ap (λ b. cond b (taken_digit given) (get_or digits k 0)) is
+    kept_at rules.first_level.no_hyphen (no_hyphen_digit given) (before_nul text) digits k lt ∙ ap (λ b. cond b (no_hyphen_digit given) (get_or digits k 0)) is
 
 kept_zero : (rules : Rules) (given : Option CallMinima) (text digits : List ℕ) (k : ℕ) → k < length digits → get_or digits k 0 ≡ digit_zero
-    → is_odd (get_or (digits_kept rules given text digits) k 0) ≡ false
+    → is_odd (get_or (digits_by_no_hyphen rules given text digits) k 0) ≡ false
 kept_zero rules given text digits k lt is =
-    ap is_odd (kept_at rules.top.no_hyphen (taken_digit given) (before_nul text) digits k lt
-    ∙ ap (cond (is_beside_some rules text k) (taken_digit given)) is)
+    ap is_odd (kept_at rules.first_level.no_hyphen (no_hyphen_digit given) (before_nul text) digits k lt
+    ∙ ap (cond (is_beside_some rules text k) (no_hyphen_digit given)) is)
     ∙ zero_even given (is_beside_some rules text k)
 
 found_near : (rules : Rules) (given : Option CallMinima) (text : List ℕ) (size byte : ℕ) → byte < length (found_by_call rules given text size).digits
-    → (is_short_before rules.utf8 (at_least_two (least_of rules.top.minima given).left) (before_nul text) byte
-    || is_short_after rules.utf8 (at_least_two (least_of rules.top.minima given).right) (take size text) byte) ≡ true
+    → (is_short_before rules.utf8 (at_least_two (least_of rules.first_level.minima given).left) (before_nul text) byte
+    || is_short_after rules.utf8 (at_least_two (least_of rules.first_level.minima given).right) (take size text) byte) ≡ true
     → get_or (found_by_call rules given text size).changes byte None ≡ None
     → get_or (found_by_call rules given text size).digits byte 0 ≡ digit_zero
 unfolding found_by_call
 found_near rules given text size byte lt near none =
-    let least = least_of rules.top.minima given in
+    let least = least_of rules.first_level.minima given in
     let base : Found = word_found rules (part_minima least) (take size text) (drop size text) in
     near_zero rules.utf8 (at_least_two least.left) (at_least_two least.right) (take size text) (before_nul text) base.digits base.changes byte lt near none
 
@@ -122,6 +122,6 @@ forbidden_even rules given text size byte lt =
           let is : get_or digits byte 0 ≡ digit_zero = found_near rules given text size byte lt near none in
           (is, kept_zero rules given text digits byte lt is),
       λ beside.
-          let is : get_or (digits_kept rules given text digits) byte 0 ≡ taken_digit given = kept_beside rules given text digits byte lt beside in
+          let is : get_or (digits_by_no_hyphen rules given text digits) byte 0 ≡ no_hyphen_digit given = kept_beside rules given text digits byte lt beside in
           (is, ap is_odd is ∙ taken_even given),
     )

@@ -13,12 +13,12 @@ use Rattle.libhyphen_files.specs.Bytes.{before_nul, continues}
 use Rattle.libhyphen_files.specs.Files.{Rules}
 use Rattle.libhyphen_files.specs.Levels.{Level}
 use Rattle.libhyphen_rule.specs.declared.calls.CallMinima.{CallMinima}
-use Rattle.libhyphen_rule.specs.Calls.{Answer, answer_by, answer_in_bytes, answer_in_characters, answer_of, answer_of_found, begins_within, digits_kept, found_by_call, least_of, part_minima}
+use Rattle.libhyphen_rule.specs.Calls.{Answer, answer_by, answer_in_bytes, answer_in_characters, answer_of, answer_of_found, begins_within, digits_by_no_hyphen, found_by_call, least_of, part_minima}
 use Rattle.libhyphen_rule.specs.Counting.{Counted, counted_in, framed, shown}
 use Rattle.libhyphen_rule.specs.Laws.{DigitsLieWithinTheWord, HasEachCharacter}
 use Rattle.libhyphen_rule.specs.Minima.{left_goes, right_goes}
 use Rattle.libhyphen_rule.specs.OneLevel.{ChangeAt, Claim, Made, claim, digit_behind, is_odd, level_changes, level_digits, made_at, made_up_to, made_with, offers, put}
-use Rattle.libhyphen_rule.specs.Parts.{Asked, Asking, Found, PartMinima, Parting, ask_by, ask_none, below_found, changes_with, digits_with, ends_part, found_below, found_by_top, found_in, most_depth, part_asked, parted_up_to, top_found, with_part, with_part_to, without_left, without_left_of_part, without_right, without_right_of_part}
+use Rattle.libhyphen_rule.specs.Parts.{Asked, Asking, Found, PartMinima, Parting, ask_by, ask_none, next_level_found, changes_with, digits_with, ends_part, found_by_next_level, found_by_first_level, found_in, most_depth, part_asked, parted_up_to, first_level_found, with_part, with_part_to, without_left, without_left_of_part, without_right, without_right_of_part}
 use Rattle.libhyphen_rule.specs.Words.{begins, characters, is_last, last_bytes}
 use Rattle.libhyphen_rule.proofs.RaisedDigits.{behind_last}
 use Rattle.libhyphen_rule.proofs.WordSteps.{kept_more, left_more}
@@ -107,18 +107,18 @@ right_part-size : (utf8 : Bool) (minima : PartMinima) (asked : Asked) (found : F
 unfolding without_right_of_part
 right_part-size utf8 minima asked found n has = either-size asked.at_right found _ n has (right-size utf8 minima.right asked.text _ found n has)
 
-below-size : (rules : Rules) (parts : ℕ) (text : List ℕ) (tops : List (Option ChangeAt)) → length tops ≡ length text → HasSize (below_found rules parts text tops) (length text)
-unfolding below_found
-below-size rules parts text tops long = record {
-  digits = level_digits-length rules.below text;
-  changes = changes_with-length tops 0 (length text) (level_changes rules.below text) ∙ long;
+next_level-size : (rules : Rules) (parts : ℕ) (text : List ℕ) (tops : List (Option ChangeAt)) → length tops ≡ length text → HasSize (next_level_found rules parts text tops) (length text)
+unfolding next_level_found
+next_level-size rules parts text tops long = record {
+  digits = level_digits-length rules.next_level text;
+  changes = changes_with-length tops 0 (length text) (level_changes rules.next_level text) ∙ long;
 }
 
-found_below-size : (rules : Rules) (minima : PartMinima) (parts : ℕ) (asked : Asked) (tops : List (Option ChangeAt)) → length tops ≡ length asked.text
-    → HasSize (found_below rules minima parts asked tops) (length asked.text)
-unfolding found_below
-found_below-size rules minima parts asked tops long =
-    right_part-size rules.utf8 minima asked _ _ (left_part-size rules.utf8 minima asked _ _ (below-size rules parts asked.text tops long))
+found_by_next_level-size : (rules : Rules) (minima : PartMinima) (parts : ℕ) (asked : Asked) (tops : List (Option ChangeAt)) → length tops ≡ length asked.text
+    → HasSize (found_by_next_level rules minima parts asked tops) (length asked.text)
+unfolding found_by_next_level
+found_by_next_level-size rules minima parts asked tops long =
+    right_part-size rules.utf8 minima asked _ _ (left_part-size rules.utf8 minima asked _ _ (next_level-size rules parts asked.text tops long))
 
 with_part-size : (whole : Found) (begin count : ℕ) (part : Option Found) (n : ℕ) → HasSize whole n → HasSize (with_part whole begin count part) n
 unfolding with_part
@@ -145,22 +145,22 @@ parted-size : (ask : Asking) (whole : Asked) (found : Found) (bytes n : ℕ) →
 unfolding parted_up_to
 parted-size ask whole found bytes n has = fold_parts-size ask whole (record { found = found; begin = 0; seen = map shown whole.text }) (filter (ends_part found.digits) (range_with_len 0 bytes)) n has
 
-top-size : (rules : Rules) (parts : ℕ) (text : List ℕ) → HasSize (top_found rules parts text) (length text)
-unfolding top_found
-top-size rules parts text = record { digits = level_digits-length rules.top text; changes = level_changes-length rules.top text }
+first_level-size : (rules : Rules) (parts : ℕ) (text : List ℕ) → HasSize (first_level_found rules parts text) (length text)
+unfolding first_level_found
+first_level-size rules parts text = record { digits = level_digits-length rules.first_level text; changes = level_changes-length rules.first_level text }
 
-found_by_top-size : (rules : Rules) (minima : PartMinima) (ask : Asking) (parts : ℕ) (asked : Asked)
-    → HasSize (found_by_top rules minima ask parts asked (top_found rules parts asked.text)) (length asked.text)
-found_by_top-size rules minima ask parts asked =
-    let top = top_found rules parts asked.text in
-    let has = top-size rules parts asked.text in
-    either-size (list_any is_odd top.digits) _ _ (length asked.text) (parted-size ask asked top (length asked.text) (length asked.text) has)
-    (found_below-size rules minima parts asked top.changes has.changes)
+found_by_first_level-size : (rules : Rules) (minima : PartMinima) (ask : Asking) (parts : ℕ) (asked : Asked)
+    → HasSize (found_by_first_level rules minima ask parts asked (first_level_found rules parts asked.text)) (length asked.text)
+found_by_first_level-size rules minima ask parts asked =
+    let first_level = first_level_found rules parts asked.text in
+    let has = first_level-size rules parts asked.text in
+    either-size (list_any is_odd first_level.digits) _ _ (length asked.text) (parted-size ask asked first_level (length asked.text) (length asked.text) has)
+    (found_by_next_level-size rules minima parts asked first_level.changes has.changes)
 
 found_in-size : (rules : Rules) (minima : PartMinima) (depth parts : ℕ) (asked : Asked) → HasSize (found_in rules minima depth parts asked) (length asked.text)
 unfolding found_in
-found_in-size rules minima zero parts asked = found_by_top-size rules minima ask_none parts asked
-found_in-size rules minima (suc depth) parts asked = found_by_top-size rules minima (ask_by (found_in rules minima depth)) parts asked
+found_in-size rules minima zero parts asked = found_by_first_level-size rules minima ask_none parts asked
+found_in-size rules minima (suc depth) parts asked = found_by_first_level-size rules minima (ask_by (found_in rules minima depth)) parts asked
 
 -- ---- A call.
 
@@ -169,10 +169,10 @@ unfolding found_by_call
 call-size rules given text size =
     right-size rules.utf8 _ (take size text) (before_nul text) _ _
     (left-size rules.utf8 _ (before_nul text) _ _
-    (found_in-size rules (part_minima (least_of rules.top.minima given)) most_depth (length (take size text))
+    (found_in-size rules (part_minima (least_of rules.first_level.minima given)) most_depth (length (take size text))
     (record { text = take size text; behind = drop size text; at_left = true; at_right = true })))
 
-kept-length : (rules : Rules) (given : Option CallMinima) (text digits : List ℕ) → length (digits_kept rules given text digits) ≡ length digits
+kept-length : (rules : Rules) (given : Option CallMinima) (text digits : List ℕ) → length (digits_by_no_hyphen rules given text digits) ≡ length digits
 kept-length rules given text digits = length-map-range_with_len _ 0 (length digits)
 
 -- ---- Characters.
@@ -277,7 +277,7 @@ answer-size rules given text size answer is =
     let has = call-size rules given text size in
     let parts = some_answer (begins_within rules text) made answer is in
     same_size rules (take size text) made answer parts.1
-    (answer_by-size rules text size found (digits_kept rules given text found.digits) parts.0
+    (answer_by-size rules text size found (digits_by_no_hyphen rules given text found.digits) parts.0
     (kept-length rules given text found.digits ∙ has.digits) has.changes)
 
 pub digits_within : DigitsLieWithinTheWord

@@ -24,9 +24,9 @@ pub mod FoundSizes
 pub mod Regions
 pub mod ClosedPatterns
 pub mod OddLanes
-pub mod UnchangedDigits
+pub mod PlainDigits
 pub mod PassedVectors
-pub mod UnchangedWords
-pub mod UnchangedCalls
-pub mod UnchangedParts
+pub mod PlainWords
+pub mod PlainCalls
+pub mod PlainCompounds
 pub mod OrdinaryWords

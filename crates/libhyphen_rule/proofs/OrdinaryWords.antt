@@ -9,14 +9,14 @@ use Rattle.std.proofs.lemmas.List.{get_or-take, length-take-le, take_all}
 use Rattle.libhyphen_files.specs.Bytes.{before_nul}
 use Rattle.libhyphen_files.specs.Files.{Rules}
 use Rattle.libhyphen_files.specs.Ordinary.{IsOrdinary, may_begin_with}
-use Rattle.libhyphen_rule.specs.Calls.{digits_kept, taken_digit}
+use Rattle.libhyphen_rule.specs.Calls.{digits_by_no_hyphen, no_hyphen_digit}
 use Rattle.libhyphen_rule.specs.Private.Ordinary.{AllOrdinary}
-use Rattle.libhyphen_rule.specs.Private.Unchanged.{HasNoDigits}
+use Rattle.libhyphen_rule.specs.Private.PlainWords.{HasNoDigits}
 use Rattle.libhyphen_rule.specs.Words.{digits_beside, is_beside}
 use Rattle.libhyphen_rule.specs.declared.calls.CallMinima.{CallMinima}
 use Rattle.libhyphen_rule.proofs.Absent.{digits_stay, not_beside}
 use Rattle.libhyphen_rule.proofs.OddLanes.{none_of}
-use Rattle.libhyphen_rule.proofs.UnchangedParts.{no_digits}
+use Rattle.libhyphen_rule.proofs.PlainCompounds.{no_digits}
 
 -- ---- What holds for each byte.
 
@@ -38,8 +38,8 @@ ends_nowhere p (x ∷ xs) none = by (p x) none (ends_nowhere p xs)
 -- The first bytes of such a text are such a text.
 pub ordinary_word : (rules : Rules) (text : List ℕ) (size : ℕ) → size ≤ length text → AllOrdinary rules text → AllOrdinary rules (take size text)
 ordinary_word rules text size within all = λ k l.
-    let below : k < size = omega (arith, l, length-take-le size text within) in
-    subst (λ (b : ℕ). IsOrdinary rules b) (sym (get_or-take size text k 0 below)) (all k (omega (arith, below, within)))
+    let next_level : k < size = omega (arith, l, length-take-le size text within) in
+    subst (λ (b : ℕ). IsOrdinary rules b) (sym (get_or-take size text k 0 next_level)) (all k (omega (arith, next_level, within)))
 
 -- Such a text has no digits.
 pub ordinary_digits : (rules : Rules) (text : List ℕ) → AllOrdinary rules text → HasNoDigits text
@@ -84,7 +84,7 @@ kept_in parts instead text (digit ∷ digits) within none =
 
 -- The digits of such a word stay.
 pub ordinary_kept : (rules : Rules) (given : Option CallMinima) (text digits : List ℕ) → AllOrdinary rules text → length digits ≤ length text
-    → digits ≡ digits_kept rules given text digits
+    → digits ≡ digits_by_no_hyphen rules given text digits
 ordinary_kept rules given text digits all within =
-    kept_in rules.top.no_hyphen (taken_digit given) text digits within (λ k l. (all k l).begins_no_text)
-    ∙ ap (λ (seen : List ℕ). digits_beside rules.top.no_hyphen (taken_digit given) seen digits) (sym (ordinary_seen rules text all))
+    kept_in rules.first_level.no_hyphen (no_hyphen_digit given) text digits within (λ k l. (all k l).begins_no_text)
+    ∙ ap (λ (seen : List ℕ). digits_beside rules.first_level.no_hyphen (no_hyphen_digit given) seen digits) (sym (ordinary_seen rules text all))

@@ -11,7 +11,7 @@ use Rattle.libhyphen_rule.specs.declared.one_level.PlacedChange.{PlacedChange}
 use Rattle.std.specs.Option.{option_map}
 use Rattle.std.proofs.lemmas.List.Sums.{fold-append}
 use Rattle.libhyphen_rule.proofs.WordSteps.{range_more}
-use Rattle.libhyphen_rule.specs.Parts.{Asked, Asking, Found, PartMinima, Parting, Texts, ask_by, ask_none, asked_of, ends_part, found_below, found_by_top, found_in, part_asked, part_text, parted_up_to, seen_after, some_change, top_found, with_part, with_part_to}
+use Rattle.libhyphen_rule.specs.Parts.{Asked, Asking, Found, PartMinima, Parting, Texts, ask_by, ask_none, asked_of, ends_part, found_by_next_level, found_by_first_level, found_in, part_asked, part_text, parted_up_to, seen_after, some_change, first_level_found, with_part, with_part_to}
 
 -- How parts are asked at a depth.
 abbrev pub ask_at : Rules → PartMinima → ℕ → Asking
@@ -19,7 +19,7 @@ ask_at rules minima zero = ask_none
 ask_at rules minima (suc depth) = ask_by (found_in rules minima depth)
 
 pub found_in_is : (rules : Rules) (minima : PartMinima) (depth parts : ℕ) (asked : Asked) →
-    found_in rules minima depth parts asked ≡ found_by_top rules minima (ask_at rules minima depth) parts asked (top_found rules parts asked.text)
+    found_in rules minima depth parts asked ≡ found_by_first_level rules minima (ask_at rules minima depth) parts asked (first_level_found rules parts asked.text)
 unfolding found_in
 found_in_is rules minima zero parts asked = refl
 found_in_is rules minima (suc depth) parts asked = refl
@@ -102,32 +102,32 @@ parted_asked ask whole found byte p change texts after seen ends long before cha
     ∙ ap (λ f. let q : Parting = record { found = f; begin = byte + 1; seen = seen_after whole p.seen (byte + 1) change } in q) (sym after_is)
     ∙ ap (λ s. let q : Parting = record { found = after; begin = byte + 1; seen = s } in q) (sym seen_is)
 
--- The whole, with breaks of the level at the top or without.
-pub found_parted : (rules : Rules) (minima : PartMinima) (depth parts : ℕ) (asked : Asked) (top found : Found) (begin : ℕ) (seen : List ℕ) →
-    top ≡ top_found rules parts asked.text → list_any is_odd top.digits ≡ true →
-    parted_up_to (ask_at rules minima depth) asked top (length asked.text) ≡ record { found = found; begin = begin; seen = seen } →
+-- The whole, with breaks of the first level or without.
+pub found_parted : (rules : Rules) (minima : PartMinima) (depth parts : ℕ) (asked : Asked) (first_level found : Found) (begin : ℕ) (seen : List ℕ) →
+    first_level ≡ first_level_found rules parts asked.text → list_any is_odd first_level.digits ≡ true →
+    parted_up_to (ask_at rules minima depth) asked first_level (length asked.text) ≡ record { found = found; begin = begin; seen = seen } →
     found ≡ found_in rules minima depth parts asked
-found_parted rules minima depth parts asked top found begin seen top_is odd parted =
+found_parted rules minima depth parts asked first_level found begin seen first_level_is odd parted =
     sym (found_in_is rules minima depth parts asked
-    ∙ ap (found_by_top rules minima (ask_at rules minima depth) parts asked) (sym top_is)
-    ∙ ap (λ b. cond b (parted_up_to (ask_at rules minima depth) asked top (length asked.text)).found (found_below rules minima parts asked top.changes)) odd
+    ∙ ap (found_by_first_level rules minima (ask_at rules minima depth) parts asked) (sym first_level_is)
+    ∙ ap (λ b. cond b (parted_up_to (ask_at rules minima depth) asked first_level (length asked.text)).found (found_by_next_level rules minima parts asked first_level.changes)) odd
     ∙ ap (λ q. q.found) parted)
 
-pub found_whole : (rules : Rules) (minima : PartMinima) (depth parts : ℕ) (asked : Asked) (top : Found) →
-    top ≡ top_found rules parts asked.text → list_any is_odd top.digits ≡ false →
-    found_below rules minima parts asked top.changes ≡ found_in rules minima depth parts asked
-found_whole rules minima depth parts asked top top_is even =
+pub found_whole : (rules : Rules) (minima : PartMinima) (depth parts : ℕ) (asked : Asked) (first_level : Found) →
+    first_level ≡ first_level_found rules parts asked.text → list_any is_odd first_level.digits ≡ false →
+    found_by_next_level rules minima parts asked first_level.changes ≡ found_in rules minima depth parts asked
+found_whole rules minima depth parts asked first_level first_level_is even =
     sym (found_in_is rules minima depth parts asked
-    ∙ ap (found_by_top rules minima (ask_at rules minima depth) parts asked) (sym top_is)
-    ∙ ap (λ b. cond b (parted_up_to (ask_at rules minima depth) asked top (length asked.text)).found (found_below rules minima parts asked top.changes)) even)
+    ∙ ap (found_by_first_level rules minima (ask_at rules minima depth) parts asked) (sym first_level_is)
+    ∙ ap (λ b. cond b (parted_up_to (ask_at rules minima depth) asked first_level (length asked.text)).found (found_by_next_level rules minima parts asked first_level.changes)) even)
 
-pub top_made : (rules : Rules) (parts : ℕ) (text : List ℕ) (found : Found) → found ≡ top_found rules parts text → found.made ≡ some_change found.changes
-unfolding top_found
-top_made rules parts text found is = ap (λ f. f.made) is ∙ ap (λ f. some_change f.changes) (sym is)
+pub first_level_made : (rules : Rules) (parts : ℕ) (text : List ℕ) (found : Found) → found ≡ first_level_found rules parts text → found.made ≡ some_change found.changes
+unfolding first_level_found
+first_level_made rules parts text found is = ap (λ f. f.made) is ∙ ap (λ f. some_change f.changes) (sym is)
 
-pub top_parts : (rules : Rules) (parts : ℕ) (text : List ℕ) (found : Found) → found ≡ top_found rules parts text → found.parts ≡ parts
-unfolding top_found
-top_parts rules parts text found is = ap (λ f. f.parts) is
+pub first_level_parts : (rules : Rules) (parts : ℕ) (text : List ℕ) (found : Found) → found ≡ first_level_found rules parts text → found.parts ≡ parts
+unfolding first_level_found
+first_level_parts rules parts text found is = ap (λ f. f.parts) is
 
 -- A result that is known in other words.
 pub ok_same : {A E B : Type 0} (r : Result A E) (view : A → B) (x y : B) → x ≡ y → IfOk r (λ v. view v ≡ x) → IfOk r (λ v. view v ≡ y)

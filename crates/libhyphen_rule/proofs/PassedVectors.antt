@@ -14,9 +14,9 @@ use Rattle.libhyphen_files.specs.Vectors.{AreVectors, AreVectorsBy, IsNodeVector
 use Rattle.libhyphen_files.specs.declared.vectors.NodeVectors.{NodeVectors}
 use Rattle.libhyphen_rule.specs.Counting.{Counted, counted_up_to}
 use Rattle.libhyphen_rule.specs.Private.Lanes.{AllKnown, AtRow, IsFound, IsPassed, TakesVector}
-use Rattle.libhyphen_rule.specs.declared.unchanged.FramePass.{FramePass}
+use Rattle.libhyphen_rule.specs.declared.plain_words.FramePass.{FramePass}
 use Rattle.libhyphen_rule.proofs.LongestStart.{counted_none, counted_some}
-use Rattle.libhyphen_rule.proofs.UnchangedDigits.{taken, found_more}
+use Rattle.libhyphen_rule.proofs.PlainDigits.{taken, found_more}
 
 pub passed_more : (tree : Tree Pattern) (vectors : NodeVectors) → IsTrie tree → KeysHaveNodes Pattern → KeysAreLookedUp Pattern → EachBeginsKey tree
     → (frame : List ℕ) (at node : ℕ) (vector : List ℕ) (pass next : FramePass) (list new : List ℕ) → at < length frame → IsLongest tree.texts (take (at + 1) frame) node → IsNodeVector tree node vector
@@ -37,8 +37,8 @@ passed_more tree vectors trie keys looked begins frame at node vector pass next 
       seen_lanes = takes.seen_lanes;
       at_row = there;
       found = λ all.
-          let seen : AllKnown pass.seen = λ lane below. omega (arith, all lane below, takes.seen lane below) in
-          let known : AllKnown vector = λ lane below. omega (arith, all lane below, takes.seen lane below) in
+          let seen : AllKnown pass.seen = λ lane next_level. omega (arith, all lane next_level, takes.seen lane next_level) in
+          let known : AllKnown vector = λ lane next_level. omega (arith, all lane next_level, takes.seen lane next_level) in
           subst (λ (cs : List Counted). IsFound cs (at + 1) next.last new) (sym more)
           (found_more before frame at bytes short p vector pass.last next.last list new
           (of_node.known (known 0 (omega arith))) known was.lanes takes.each takes.written takes.before (was.found seen));

@@ -23,7 +23,7 @@ pub all_none : (xs : List (Option PlacedChange)) → ((k : ℕ) (d : Option Plac
 all_none [] none = refl
 all_none (x ∷ xs) none =
     let first : option_map placed x ≡ None = ap (option_map placed) (none 0 x (omega arith)) in
-    let rest = all_none xs (λ k d below. none (suc k) d (omega arith)) in
+    let rest = all_none xs (λ k d next_level. none (suc k) d (omega arith)) in
     ap (λ (y : Option ChangeAt). y ∷ map (option_map placed) xs) first ∙ ap (λ (ys : List (Option ChangeAt)). None ∷ ys) rest
 
 pub put_is : (changes : List (Option PlacedChange)) (place : ℕ) (change : PlacedChange) → 2 ≤ place
@@ -85,7 +85,7 @@ same_put {next} {last} {new} {old} at is put_at made_is =
 
 -- The places of regions lie in the frame.
 pub within_from : (counted : List Counted) (given : List Offer) (cells : List Cell) → HasCells counted given cells → AreWithin cells
-within_from counted given cells has = λ begin d below at is. (has begin d below).within at is
+within_from counted given cells has = λ begin d next_level at is. (has begin d next_level).within at is
 
 -- ---- Without changes none is made.
 
@@ -146,23 +146,23 @@ none_made counted plain made (b ∷ bs) =
 -- A pattern that counts is one of the level's.
 plain_pattern : (patterns : TextMap (List Pattern)) → HasNoChanges patterns → (frame : List ℕ) (end start : ℕ) (key : List ℕ) (p : Option Pattern)
     → pattern_at patterns key ≡ p → (cs : List Counted) → AllPlain cs → AllPlain (cons_option (option_map (counted_from frame end start) p) cs)
-plain_pattern patterns unchanged frame end start key None is cs plain = plain
-plain_pattern patterns unchanged frame end start key (Some p) is cs plain = (unchanged key p is, plain)
+plain_pattern patterns plain_words frame end start key None is cs plain = plain
+plain_pattern patterns plain_words frame end start key (Some p) is cs plain = (plain_words key p is, plain)
 
 plain_at : (patterns : TextMap (List Pattern)) → HasNoChanges patterns → (frame : List ℕ) (end : ℕ) (start : Option ℕ) (cs : List Counted) → AllPlain cs
     → AllPlain (cons_option (option_and_then (counted_if_key patterns frame end) start) cs)
-plain_at patterns unchanged frame end None cs plain = plain
-plain_at patterns unchanged frame end (Some start) cs plain =
-    plain_pattern patterns unchanged frame end start (slice_range frame start end) (pattern_at patterns (slice_range frame start end)) refl cs plain
+plain_at patterns plain_words frame end None cs plain = plain
+plain_at patterns plain_words frame end (Some start) cs plain =
+    plain_pattern patterns plain_words frame end start (slice_range frame start end) (pattern_at patterns (slice_range frame start end)) refl cs plain
 
 plain_counted : (patterns : TextMap (List Pattern)) → HasNoChanges patterns → (frame ends : List ℕ) → AllPlain (filter_map (counted_at patterns frame) ends)
-plain_counted patterns unchanged frame [] = tt
-plain_counted patterns unchanged frame (end ∷ ends) =
-    plain_at patterns unchanged frame end (longest_start patterns frame end) (filter_map (counted_at patterns frame) ends) (plain_counted patterns unchanged frame ends)
+plain_counted patterns plain_words frame [] = tt
+plain_counted patterns plain_words frame (end ∷ ends) =
+    plain_at patterns plain_words frame end (longest_start patterns frame end) (filter_map (counted_at patterns frame) ends) (plain_counted patterns plain_words frame ends)
 
 pub no_changes : (patterns : TextMap (List Pattern)) → HasNoChanges patterns → (word : List ℕ) → changes_by patterns word ≡ replicate (length word) None
 unfolding made_up_to counted_up_to
-no_changes patterns unchanged word =
+no_changes patterns plain_words word =
     ap (λ (m : Made). m.changes)
-    (none_made (counted_in patterns (framed word)) (plain_counted patterns unchanged (framed word) (range_with_len 1 (length (framed word))))
+    (none_made (counted_in patterns (framed word)) (plain_counted patterns plain_words (framed word) (range_with_len 1 (length (framed word))))
     (made_now 1 (replicate (length word) None)) (range_with_len 1 (length word)))

@@ -38,7 +38,7 @@ behind_kept given o bytes byte low = elim (cases_lt (byte + 1) bytes) [
 
 pub raised : (digits : List ℕ) (place digit : ℕ) → 2 ≤ place → place - 1 < length digits
     → get_or digits (place - 2) 0 < digit → TakesOffer place digit digits (slice_set digits (place - 2) digit)
-raised digits place digit low inside less = λ given o there value has byte below.
+raised digits place digit low inside less = λ given o there value has byte next_level.
     let size : length (slice_set digits (place - 2) digit) ≡ length digits = length-set digits (place - 2) digit in
     let within : byte < length digits = omega arith in
     ap (λ (n : ℕ). n) (elim (cases_eq byte (place - 2)) [
@@ -59,10 +59,10 @@ raised digits place digit low inside less = λ given o there value has byte belo
 
 pub not_raised : (digits : List ℕ) (place digit : ℕ)
     → (2 ≤ place → place - 1 < length digits → digit ≤ get_or digits (place - 2) 0) → TakesOffer place digit digits digits
-not_raised digits place digit most = λ given o there value has byte below.
-    has byte below ∙ sym (behind_kept given o (length digits) byte (λ here lt.
+not_raised digits place digit most = λ given o there value has byte next_level.
+    has byte next_level ∙ sym (behind_kept given o (length digits) byte (λ here lt.
     let at : place - 2 ≡ byte = omega arith in
-    let old : get_or digits byte 0 ≡ digit_at given (byte + 2) = has byte below ∙ behind_inner given (length digits) byte lt in
+    let old : get_or digits byte 0 ≡ digit_at given (byte + 2) = has byte next_level ∙ behind_inner given (length digits) byte lt in
     let small : digit ≤ get_or digits byte 0 = subst (λ (k : ℕ). digit ≤ get_or digits k 0) at (most (omega arith) (omega arith)) in
     omega arith))
 
@@ -70,9 +70,9 @@ not_raised digits place digit most = λ given o there value has byte below.
 pub has_none : (plain : Bool) (patterns : TextMap (List Pattern)) (frame digits : List ℕ)
     → ((byte : ℕ) → byte < length digits → slice_index digits byte ≡ digit_zero) → HasDigits (offers (map (given_by plain) (counted_up_to patterns frame 0))) digits
 unfolding counted_up_to offers digit_at
-has_none plain patterns frame digits zeros = λ byte below. elim (cases_lt (byte + 1) (length digits)) [
-  | inl lt ↦ zeros byte below ∙ sym (behind_inner (offers (map (given_by plain) (counted_up_to patterns frame 0))) (length digits) byte lt)
-  | inr le ↦ zeros byte below ∙ sym (behind_last (offers (map (given_by plain) (counted_up_to patterns frame 0))) (length digits) byte le)
+has_none plain patterns frame digits zeros = λ byte next_level. elim (cases_lt (byte + 1) (length digits)) [
+  | inl lt ↦ zeros byte next_level ∙ sym (behind_inner (offers (map (given_by plain) (counted_up_to patterns frame 0))) (length digits) byte lt)
+  | inr le ↦ zeros byte next_level ∙ sym (behind_last (offers (map (given_by plain) (counted_up_to patterns frame 0))) (length digits) byte le)
 ]
 
 -- The digits of all bytes.
@@ -81,9 +81,9 @@ pub digits_are : (given all : List Offer) (digits : List ℕ) (bytes : ℕ) → 
 digits_are given all digits bytes size same has =
     let f = λ (byte : ℕ). digit_behind all bytes byte in
     let long = length-map-range_with_len f 0 bytes in
-    same_number_lists digits (map f (range_with_len 0 bytes)) (size ∙ sym long) (λ byte below.
+    same_number_lists digits (map f (range_with_len 0 bytes)) (size ∙ sym long) (λ byte next_level.
     let within : byte < bytes = omega arith in
-    has byte below ∙ ap (λ (g : List Offer). digit_behind g (length digits) byte) same ∙ ap (λ (n : ℕ). digit_behind all n byte) size
+    has byte next_level ∙ ap (λ (g : List Offer). digit_behind g (length digits) byte) same ∙ ap (λ (n : ℕ). digit_behind all n byte) size
     ∙ sym (get_or-map-range_with_len f 0 bytes byte byte 0 within (zero-add byte)))
 
 pub length-framed : (word : List ℕ) → length (framed word) ≡ length word + 2

@@ -121,13 +121,13 @@ module _ (cells : List Cell) (place digit : ℕ) (item : Cell) (inside : place <
   item_digit counted given o at has = (has place item inside).digit ∙ ap (digit_at given) (sym at)
 
   pub takes_low : (change : Option Change) (begin : Option ℕ) → digit ≤ (slice_index_or cells place item).digit → TakesOffer place digit change begin cells cells
-  takes_low change begin low = λ counted given o at is changes begins has k d below.
+  takes_low change begin low = λ counted given o at is changes begins has k d next_level.
       let old = item_digit counted given o at has in
-      cell_kept counted given o (length cells) k (slice_index_or cells k d) (has k d below) (omega arith)
+      cell_kept counted given o (length cells) k (slice_index_or cells k d) (has k d next_level) (omega arith)
 
   pub takes_even : (new : List Cell) (change : Option Change) (begin : Option ℕ) → length new ≡ length cells
       → AreCells cells new (λ at. with_digit digit (at == place)) → (slice_index_or cells place item).digit < digit → digit % 2 ≢ 1 → TakesOffer place digit change begin cells new
-  takes_even new change begin size are raises even = λ counted given o at is changes begins has k d below.
+  takes_even new change begin size are raises even = λ counted given o at is changes begins has k d next_level.
       let within : k < length cells = omega arith in
       let old = item_digit counted given o at has in
       let cell = cell_raised counted given o (length cells) k (slice_index_or cells k d) (has k d within) (omega arith)
@@ -143,7 +143,7 @@ module _ (cells : List Cell) (place digit : ℕ) (item : Cell) (inside : place <
       → AreCells cells one (λ at. with_digit digit (at == place)) → AreCells one two (λ at. with_change change (at == place))
       → AreCells two new (λ at. with_region place (lies_in place (value_of change) begin at))
       → (slice_index_or cells place item).digit < digit → digit % 2 ≡ 1 → TakesOffer place digit (value_of change) begin cells new
-  takes_odd one two new change begin size1 size2 size3 are1 are2 are3 raises odd = λ counted given o at is changes begins has k d below.
+  takes_odd one two new change begin size1 size2 size3 are1 are2 are3 raises odd = λ counted given o at is changes begins has k d next_level.
       let within : k < length cells = omega arith in
       let old = item_digit counted given o at has in
       let cell = cell_decided counted given o (length cells) k (slice_index_or cells k d) (has k d within) change begin (sym changes)
@@ -182,7 +182,7 @@ pub takes_pattern : (cells old new : List Cell) (start first : ℕ) (digits : Li
     → TakesOffers start digits change begin cells old
     → AreCells old new (λ at. with_cut change (if_change (λ _. is_at begin at) change))
     → TakesPattern start first digits change cells new
-takes_pattern cells old new start first digits change begin size1 size2 begins takes are = λ counted given c at from ds changes has k d below.
+takes_pattern cells old new start first digits change begin size1 size2 begins takes are = λ counted given c at from ds changes has k d next_level.
     let within : k < length old = omega arith in
     let begins_c : IsBegin c.first change begin = subst (λ (n : ℕ). IsBegin n change begin) (sym from) begins in
     let taken = takes counted given c at ds changes begins_c has in
@@ -197,14 +197,14 @@ takes_pattern cells old new start first digits change begin size1 size2 begins t
 -- Cells to which nothing is given.
 pub has_none : (cells : List Cell) → ((place : ℕ) (d : Cell) → place < length cells → slice_index_or cells place d ≡ empty_cell) → HasCells [] [] cells
 unfolding digit_at deciders raisers
-has_none cells empty = λ place d below.
-    subst (λ (x : Cell). IsCell [] [] (length cells) place x) (sym (empty place d below))
+has_none cells empty = λ place d next_level.
+    subst (λ (x : Cell). IsCell [] [] (length cells) place x) (sym (empty place d next_level))
     (record { digit = refl; change = refl; region = refl; cut = refl; within = λ k is. absurd cc })
 
 pub empty_more : (cells new : List Cell) → new ≡ cells ++ empty_cell ∷ []
     → ((place : ℕ) (d : Cell) → place < length cells → slice_index_or cells place d ≡ empty_cell)
     → (place : ℕ) (d : Cell) → place < length new → slice_index_or new place d ≡ empty_cell
-empty_more cells new is empty place d below =
+empty_more cells new is empty place d next_level =
     let size = ap length is ∙ length-append cells (empty_cell ∷ []) in
     ap (λ (xs : List Cell). slice_index_or xs place d) is ∙ (elim (cases_eq place (length cells)) [
       | inl last ↦ ap (λ (k : ℕ). slice_index_or (cells ++ empty_cell ∷ []) k d) last ∙ get_or-append_seam cells empty_cell [] d

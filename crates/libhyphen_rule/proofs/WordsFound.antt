@@ -7,7 +7,7 @@ use Rattle.libhyphen_files.specs.Levels.{Level}
 use Rattle.libhyphen_files.specs.Files.{Rules}
 use Rattle.libhyphen_rule.specs.Minima.{changes_but, digits_but, is_equals, left_goes, right_goes}
 use Rattle.libhyphen_rule.specs.OneLevel.{ChangeAt, level_changes, level_digits}
-use Rattle.libhyphen_rule.specs.Parts.{Asked, Found, PartMinima, Texts, below_found, changed_part, changes_with, digits_with, found_below, part_text, seen_after, some_change, top_found, with_behind, with_part, without_left_of_part, without_right_of_part}
+use Rattle.libhyphen_rule.specs.Parts.{Asked, Found, PartMinima, Texts, next_level_found, changed_part, changes_with, digits_with, found_by_next_level, part_text, seen_after, some_change, first_level_found, with_behind, with_part, without_left_of_part, without_right_of_part}
 use Rattle.libhyphen_rule.proofs.PlacesOfParts.{with_all}
 
 abbrev pub finds : List ℕ → List (Option ChangeAt) → Bool → ℕ → Found
@@ -16,32 +16,32 @@ finds digits changes made parts = record { digits = digits; changes = changes; m
 finds_same : (d d' : List ℕ) (e e' : List (Option ChangeAt)) (m m' : Bool) (p : ℕ) → d ≡ d' → e ≡ e' → m ≡ m' → finds d e m p ≡ finds d' e' m' p
 finds_same d d' e e' m m' p hd he hm = ap (λ x. finds x e m p) hd ∙ ap (λ x. finds d' x m p) he ∙ ap (λ x. finds d' e' x p) hm
 
-pub top_of : (rules : Rules) (parts : ℕ) (text : List ℕ) (level : Level) (digits : List ℕ) (changes : List (Option ChangeAt)) (made : Bool) →
-    level ≡ rules.top → digits ≡ level_digits level text → changes ≡ level_changes level text → made ≡ some_change changes →
-    finds digits changes made parts ≡ top_found rules parts text
-unfolding top_found
-top_of rules parts text level digits changes made l d e m =
-    let e' : changes ≡ level_changes rules.top text = e ∙ ap (λ x. level_changes x text) l in
+pub first_level_of : (rules : Rules) (parts : ℕ) (text : List ℕ) (level : Level) (digits : List ℕ) (changes : List (Option ChangeAt)) (made : Bool) →
+    level ≡ rules.first_level → digits ≡ level_digits level text → changes ≡ level_changes level text → made ≡ some_change changes →
+    finds digits changes made parts ≡ first_level_found rules parts text
+unfolding first_level_found
+first_level_of rules parts text level digits changes made l d e m =
+    let e' : changes ≡ level_changes rules.first_level text = e ∙ ap (λ x. level_changes x text) l in
     finds_same _ _ _ _ _ _ parts (d ∙ ap (λ x. level_digits x text) l) e' (m ∙ ap some_change e')
 
-pub below_of : (rules : Rules) (parts : ℕ) (text : List ℕ) (tops : List (Option ChangeAt)) (level : Level) (digits : List ℕ) (below changes : List (Option ChangeAt)) (made : Bool) →
-    level ≡ rules.below → digits ≡ level_digits level text → below ≡ level_changes level text → changes ≡ changes_with tops 0 (length text) below →
-    made ≡ (some_change tops || some_change below) → finds digits changes made parts ≡ below_found rules parts text tops
-unfolding below_found
-below_of rules parts text tops level digits below changes made l d b e m =
-    let b' : below ≡ level_changes rules.below text = b ∙ ap (λ x. level_changes x text) l in
+pub next_level_of : (rules : Rules) (parts : ℕ) (text : List ℕ) (tops : List (Option ChangeAt)) (level : Level) (digits : List ℕ) (next_level changes : List (Option ChangeAt)) (made : Bool) →
+    level ≡ rules.next_level → digits ≡ level_digits level text → next_level ≡ level_changes level text → changes ≡ changes_with tops 0 (length text) next_level →
+    made ≡ (some_change tops || some_change next_level) → finds digits changes made parts ≡ next_level_found rules parts text tops
+unfolding next_level_found
+next_level_of rules parts text tops level digits next_level changes made l d b e m =
+    let b' : next_level ≡ level_changes rules.next_level text = b ∙ ap (λ x. level_changes x text) l in
     finds_same _ _ _ _ _ _ parts (d ∙ ap (λ x. level_digits x text) l) (e ∙ ap (changes_with tops 0 (length text)) b')
     (m ∙ ap (λ x. some_change tops || some_change x) b')
 
-pub made_true : (tops below : List (Option ChangeAt)) → some_change tops ≡ true → true ≡ (some_change tops || some_change below)
-made_true tops below h = sym (ap (λ t. t || some_change below) h)
+pub made_true : (tops next_level : List (Option ChangeAt)) → some_change tops ≡ true → true ≡ (some_change tops || some_change next_level)
+made_true tops next_level h = sym (ap (λ t. t || some_change next_level) h)
 
-pub below_alone : (rules : Rules) (parts : ℕ) (text : List ℕ) (tops : List (Option ChangeAt)) (level : Level) (digits : List ℕ) (below : List (Option ChangeAt)) (made : Bool) →
-    level ≡ rules.below → digits ≡ level_digits level text → below ≡ level_changes level text → length tops ≡ length text → length below ≡ length text →
-    some_change tops ≡ false → made ≡ some_change below → finds digits below made parts ≡ below_found rules parts text tops
-below_alone rules parts text tops level digits below made l d b tops_long long none m =
-    below_of rules parts text tops level digits below below made l d b (with_all tops below (length text) tops_long long none)
-    (m ∙ sym (ap (λ t. t || some_change below) none))
+pub next_level_alone : (rules : Rules) (parts : ℕ) (text : List ℕ) (tops : List (Option ChangeAt)) (level : Level) (digits : List ℕ) (next_level : List (Option ChangeAt)) (made : Bool) →
+    level ≡ rules.next_level → digits ≡ level_digits level text → next_level ≡ level_changes level text → length tops ≡ length text → length next_level ≡ length text →
+    some_change tops ≡ false → made ≡ some_change next_level → finds digits next_level made parts ≡ next_level_found rules parts text tops
+next_level_alone rules parts text tops level digits next_level made l d b tops_long long none m =
+    next_level_of rules parts text tops level digits next_level next_level made l d b (with_all tops next_level (length text) tops_long long none)
+    (m ∙ sym (ap (λ t. t || some_change next_level) none))
 
 pub put_of : (whole part : Found) (begin count : ℕ) (digits : List ℕ) (changes : List (Option ChangeAt)) (made : Bool) →
     digits ≡ digits_with whole.digits begin count part.digits → changes ≡ changes_with whole.changes begin count part.changes →
@@ -85,11 +85,11 @@ right_kept utf8 minima asked found right =
     sym (ap (λ b. cond b found (finds (digits_but (right_goes utf8 minima.right asked.text (with_behind asked) found.changes) found.digits)
     (changes_but (right_goes utf8 minima.right asked.text (with_behind asked) found.changes) found.changes) found.made found.parts)) right)
 
-pub below_whole : (rules : Rules) (minima : PartMinima) (parts : ℕ) (asked : Asked) (tops : List (Option ChangeAt)) (first second third : Found) →
-    first ≡ below_found rules parts asked.text tops → second ≡ without_left_of_part rules.utf8 minima asked first →
-    third ≡ without_right_of_part rules.utf8 minima asked second → third ≡ found_below rules minima parts asked tops
-unfolding found_below
-below_whole rules minima parts asked tops first second third f s t =
+pub next_level_whole : (rules : Rules) (minima : PartMinima) (parts : ℕ) (asked : Asked) (tops : List (Option ChangeAt)) (first second third : Found) →
+    first ≡ next_level_found rules parts asked.text tops → second ≡ without_left_of_part rules.utf8 minima asked first →
+    third ≡ without_right_of_part rules.utf8 minima asked second → third ≡ found_by_next_level rules minima parts asked tops
+unfolding found_by_next_level
+next_level_whole rules minima parts asked tops first second third f s t =
     t ∙ ap (without_right_of_part rules.utf8 minima asked) (s ∙ ap (without_left_of_part rules.utf8 minima asked) f)
 
 -- ---- Texts.

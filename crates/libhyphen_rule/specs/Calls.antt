@@ -17,7 +17,7 @@ use Rattle.libhyphen_rule.specs.declared.calls.CallMinima.{CallMinima}
 unfoldable pub greater : ℤ → ℤ → ℤ
 greater a b = if int_le a b then b else a
 
--- The minima of the level at the top, or of each the greater one of these and the caller's.
+-- The minima of the first level, or of each the greater one of these and the caller's.
 abbrev pub least_of : Minima → Option CallMinima → CallMinima
 least_of own None = record {
   left = own.left;
@@ -53,15 +53,15 @@ found_within rules least text size =
     without_ends rules.utf8 least (take size text) (before_nul text) (word_found rules (part_minima least) (take size text) (drop size text))
 
 unfoldable pub found_by_call : Rules → Option CallMinima → List ℕ → ℕ → Found
-found_by_call rules given text size = found_within rules (least_of rules.top.minima given) text size
+found_by_call rules given text size = found_within rules (least_of rules.first_level.minima given) text size
 
 -- The digit of a place beside a text without breaks: 0, or a byte 0 where the caller gives minima.
-abbrev pub taken_digit : Option CallMinima → ℕ
-taken_digit None = digit_zero
-taken_digit (Some given) = 0
+abbrev pub no_hyphen_digit : Option CallMinima → ℕ
+no_hyphen_digit None = digit_zero
+no_hyphen_digit (Some given) = 0
 
-abbrev pub digits_kept : Rules → Option CallMinima → List ℕ → List ℕ → List ℕ
-digits_kept rules given text digits = digits_beside rules.top.no_hyphen (taken_digit given) (before_nul text) digits
+abbrev pub digits_by_no_hyphen : Rules → Option CallMinima → List ℕ → List ℕ → List ℕ
+digits_by_no_hyphen rules given text digits = digits_beside rules.first_level.no_hyphen (no_hyphen_digit given) (before_nul text) digits
 
 -- The answer of a call: for each character of the word the digit and the change of the place behind it. It also says whether
 -- any change was made, also one that was taken away. In other charsets than UTF-8 each byte is a character.
@@ -94,7 +94,7 @@ answer_by rules text size found digits =
 
 abbrev pub answer_of_found : Rules → Option CallMinima → List ℕ → ℕ → Found → Answer
 answer_of_found rules given text size found =
-    answer_by rules text size found (digits_kept rules given text found.digits)
+    answer_by rules text size found (digits_by_no_hyphen rules given text found.digits)
 
 -- A text in UTF-8 begins within a character.
 abbrev pub begins_within : Rules → List ℕ → Bool
@@ -110,7 +110,7 @@ answer_of rules given text size =
 
 -- Where the caller gives minima, the word is written before places beside texts without breaks are taken away.
 abbrev pub digits_written : Rules → Option CallMinima → List ℕ → Found → List ℕ
-digits_written rules None text found = digits_kept rules None text found.digits
+digits_written rules None text found = digits_by_no_hyphen rules None text found.digits
 digits_written rules (Some given) text found = found.digits
 
 abbrev pub text_of_found : Rules → Option CallMinima → List ℕ → ℕ → Found → List ℕ
@@ -123,8 +123,8 @@ text_of_call rules given text size = text_of_found rules given text size (found_
 
 -- ---- The oldest call.
 
--- The digits of the patterns at the top that change nothing. Those of the places behind the first byte and behind the last two
--- are left out.
+-- The digits of the patterns of the first level that change nothing. Those of the places behind the first byte and behind the
+-- last two are left out.
 abbrev pub inner_digit : List ℕ → ℕ → ℕ
 inner_digit digits byte =
     if nat_lt 0 byte && nat_lt (byte + 2) (length digits) then slice_index digits byte else digit_zero

@@ -1,7 +1,7 @@
 -- The finds in a word, as contracts see them.
 use Rattle.std.specs.Prelude.{ℕ, List, [], ◌∷◌, length, map, Option, None, option_map, replicate}
 use Rattle.libhyphen_rule.specs.OneLevel.{ChangeAt}
-use Rattle.libhyphen_rule.specs.Parts.{Asked, Found, PartMinima, Texts, found_below, without_left_of_part, without_right_of_part}
+use Rattle.libhyphen_rule.specs.Parts.{Asked, Found, PartMinima, Texts, found_by_next_level, without_left_of_part, without_right_of_part}
 use Rattle.libhyphen_rule.specs.Calls.{Answer}
 use Rattle.libhyphen_rule.specs.declared.calls.CallAnswer.{CallAnswer}
 use Rattle.libhyphen_rule.specs.declared.found.WordFound.{WordFound}
@@ -64,7 +64,7 @@ abbrev pub without_right_in : BothLevels → AskedText → WordFound → Found
 without_right_in levels asked found =
     without_right_of_part levels.dictionary.now.utf8 (minima_of levels) (asked_in asked) (found_of found)
 
--- The finds in a text in which the level at the top has these finds and no break.
-abbrev pub below_in : BothLevels → AskedText → WordFound → Found
-below_in levels asked top =
-    found_below levels.dictionary.now (minima_of levels) top.parts (asked_in asked) (placed_all top.changes.items)
+-- The finds in a text in which the first level has these finds and no break.
+abbrev pub by_next_level_in : BothLevels → AskedText → WordFound → Found
+by_next_level_in levels asked first_level =
+    found_by_next_level levels.dictionary.now (minima_of levels) first_level.parts (asked_in asked) (placed_all first_level.changes.items)

@@ -9,7 +9,7 @@ use Rattle.libhyphen_files.specs.Patterns.{Pattern}
 use Rattle.hyphenation_breaks.specs.Dictionary.{TextMap}
 use Rattle.libhyphen_rule.specs.Counting.{begins_key, counted_in}
 use Rattle.libhyphen_rule.specs.declared.calls.CallMinima.{CallMinima}
-use Rattle.libhyphen_rule.specs.Calls.{Answer, answer_of, at_least_two, digits_kept, found_by_call, least_of, taken_digit}
+use Rattle.libhyphen_rule.specs.Calls.{Answer, answer_of, at_least_two, digits_by_no_hyphen, found_by_call, least_of, no_hyphen_digit}
 use Rattle.libhyphen_rule.specs.Minima.{has_equals, is_equals, is_short_after, is_short_before}
 use Rattle.libhyphen_rule.specs.OneLevel.{ChangeAt, digit_at, is_odd, level_changes, level_digits, offers}
 use Rattle.libhyphen_rule.specs.Words.{characters, is_beside, written_word}
@@ -79,12 +79,12 @@ NoLetterIsLost =
 -- The place behind a byte of a word has too few letters before it, or too few behind it, by the minima of a call.
 abbrev pub is_too_near : Rules → Option CallMinima → List ℕ → ℕ → ℕ → Bool
 is_too_near rules given text size byte =
-    is_short_before rules.utf8 (at_least_two (least_of rules.top.minima given).left) (before_nul text) byte
-    || is_short_after rules.utf8 (at_least_two (least_of rules.top.minima given).right) (take size text) byte
+    is_short_before rules.utf8 (at_least_two (least_of rules.first_level.minima given).left) (before_nul text) byte
+    || is_short_after rules.utf8 (at_least_two (least_of rules.first_level.minima given).right) (take size text) byte
 
 -- A text without breaks begins or ends at the place behind a byte.
 abbrev pub is_beside_some : Rules → List ℕ → ℕ → Bool
-is_beside_some rules text byte = list_any (is_beside (before_nul text) byte) rules.top.no_hyphen
+is_beside_some rules text byte = list_any (is_beside (before_nul text) byte) rules.first_level.no_hyphen
 
 -- A place that is too near to an end of the word has the digit 0, if no change is left there. A place beside a text
 -- without breaks has the digit 0, or a byte 0 where the caller gives minima. Both are even: no break is there.
@@ -95,10 +95,10 @@ ForbiddenPlacesAreEven =
     → (is_too_near rules given text size byte ≡ true
     → slice_index_or (found_by_call rules given text size).changes byte None ≡ None
     → (slice_index (found_by_call rules given text size).digits byte ≡ digit_zero)
-    × (is_odd (slice_index (digits_kept rules given text (found_by_call rules given text size).digits) byte) ≡ false))
+    × (is_odd (slice_index (digits_by_no_hyphen rules given text (found_by_call rules given text size).digits) byte) ≡ false))
     × (is_beside_some rules text byte ≡ true
-    → (slice_index (digits_kept rules given text (found_by_call rules given text size).digits) byte ≡ taken_digit given)
-    × (is_odd (slice_index (digits_kept rules given text (found_by_call rules given text size).digits) byte) ≡ false))
+    → (slice_index (digits_by_no_hyphen rules given text (found_by_call rules given text size).digits) byte ≡ no_hyphen_digit given)
+    × (is_odd (slice_index (digits_by_no_hyphen rules given text (found_by_call rules given text size).digits) byte) ≡ false))
 
 -- ---- As many digits as letters.
 

@@ -1,4 +1,4 @@
--- Compounds: a word is parted at the breaks of the level at the top, and each part is broken anew.
+-- Compounds: a word is parted at the breaks of the first level, and each part is broken anew.
 -- Source: libhyphen 2.8.8, hyphen.c and README.compound.
 use Rattle.std.specs.Prelude.{ℕ, ℤ, ◌+◌, ◌-◌, ◌==◌, ◌&&◌, ◌||◌, nat_le, nat_lt, zero, suc, Bool, true, if◌then◌else◌, List, [], ◌++◌, length, map, drop, take, filter, fold, replicate, Option, None, Some, is_some, position, slice_index, slice_index_or, slice_range, slice_set}
 use Rattle.std.specs.List.{list_any, range_with_len}
@@ -85,21 +85,21 @@ unfoldable pub changes_with : {X : Type 0} → List (Option X) → ℕ → ℕ �
 changes_with changes begin count part =
     map (change_with changes begin count part) (range_with_len 0 (length changes))
 
--- ---- A text without breaks of the level at the top.
+-- ---- A text without breaks of the first level.
 
--- The digits of the level below, and the changes of both levels. At one byte that of the level below counts.
-unfoldable pub below_found : Rules → ℕ → List ℕ → List (Option ChangeAt) → Found
-below_found rules parts text top_changes = record {
-  digits = level_digits rules.below text;
-  changes = changes_with top_changes 0 (length text) (level_changes rules.below text);
-  made = some_change top_changes || some_change (level_changes rules.below text);
+-- The digits of the next level, and the changes of both levels. At one byte that of the next level counts.
+unfoldable pub next_level_found : Rules → ℕ → List ℕ → List (Option ChangeAt) → Found
+next_level_found rules parts text first_level_changes = record {
+  digits = level_digits rules.next_level text;
+  changes = changes_with first_level_changes 0 (length text) (level_changes rules.next_level text);
+  made = some_change first_level_changes || some_change (level_changes rules.next_level text);
   parts = parts;
 }
 
-unfoldable pub found_below : Rules → PartMinima → ℕ → Asked → List (Option ChangeAt) → Found
-found_below rules minima parts asked top_changes =
+unfoldable pub found_by_next_level : Rules → PartMinima → ℕ → Asked → List (Option ChangeAt) → Found
+found_by_next_level rules minima parts asked first_level_changes =
     without_right_of_part rules.utf8 minima asked
-    (without_left_of_part rules.utf8 minima asked (below_found rules parts asked.text top_changes))
+    (without_left_of_part rules.utf8 minima asked (next_level_found rules parts asked.text first_level_changes))
 
 -- ---- The parts of a text.
 
@@ -187,18 +187,18 @@ parted_up_to ask whole found bytes =
 
 -- ---- The whole.
 
-unfoldable pub top_found : Rules → ℕ → List ℕ → Found
-top_found rules parts text = record {
-  digits = level_digits rules.top text;
-  changes = level_changes rules.top text;
-  made = some_change (level_changes rules.top text);
+unfoldable pub first_level_found : Rules → ℕ → List ℕ → Found
+first_level_found rules parts text = record {
+  digits = level_digits rules.first_level text;
+  changes = level_changes rules.first_level text;
+  made = some_change (level_changes rules.first_level text);
   parts = parts;
 }
 
-abbrev pub found_by_top : Rules → PartMinima → Asking → ℕ → Asked → Found → Found
-found_by_top rules minima ask parts asked found =
+abbrev pub found_by_first_level : Rules → PartMinima → Asking → ℕ → Asked → Found → Found
+found_by_first_level rules minima ask parts asked found =
     if list_any is_odd found.digits then (parted_up_to ask asked found (length asked.text)).found
-    else found_below rules minima parts asked found.changes
+    else found_by_next_level rules minima parts asked found.changes
 
 -- No part is asked.
 abbrev pub ask_none : Asking
@@ -212,12 +212,12 @@ ask_by find (suc parts) asked = Some (find parts asked)
 -- The finds in a text by both levels. Parts are parted again, up to a depth.
 unfoldable pub found_in : Rules → PartMinima → ℕ → ℕ → Asked → Found
 found_in rules minima zero parts asked =
-    found_by_top rules minima ask_none parts asked (top_found rules parts asked.text)
+    found_by_first_level rules minima ask_none parts asked (first_level_found rules parts asked.text)
 found_in rules minima (suc depth) parts asked =
-    found_by_top rules minima (ask_by (found_in rules minima depth)) parts asked (top_found rules parts asked.text)
+    found_by_first_level rules minima (ask_by (found_in rules minima depth)) parts asked (first_level_found rules parts asked.text)
 
--- A word is parted again and again 1,000 times at most, and no more parts are asked than it has bytes. Only changes at
--- the top that make parts longer, or words longer than that, need more.
+-- A word is parted again and again 1,000 times at most, and no more parts are asked than it has bytes. Only changes of
+-- the first level that make parts longer, or words longer than that, need more.
 abbrev pub most_depth : ℕ
 most_depth = 1000
 

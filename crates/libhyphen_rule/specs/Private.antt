@@ -2,8 +2,8 @@ pub mod Digits
 pub mod Cells
 pub mod Claims
 pub mod Pass
-pub mod Unchanged
+pub mod PlainWords
 pub mod Lanes
-pub mod UnchangedParts
+pub mod PlainCompounds
 pub mod Ordinary
 pub mod Occurring

@@ -5,11 +5,11 @@ ghost use Rattle.std.specs.Prelude.{replicate, take, drop, slice_index, false, i
 ghost use Rattle.std.specs.Option.{option_map};
 ghost use Rattle.libhyphen_rule.specs.Found.{placed_all, found_of, answer_view};
 ghost use Rattle.libhyphen_files.specs.Bytes.{before_nul, continues};
-ghost use Rattle.libhyphen_rule.specs.Calls.{answer_of, begins_within, digits_kept, inner_digit, inner_digits, plain_digits};
-ghost use Rattle.libhyphen_rule.specs.Calls.{found_by_call, changes_in_characters, taken_digit, greater, least_of, at_least_two, plain_answer, text_of_call};
+ghost use Rattle.libhyphen_rule.specs.Calls.{answer_of, begins_within, digits_by_no_hyphen, inner_digit, inner_digits, plain_digits};
+ghost use Rattle.libhyphen_rule.specs.Calls.{found_by_call, changes_in_characters, no_hyphen_digit, greater, least_of, at_least_two, plain_answer, text_of_call};
 ghost use Rattle.libhyphen_rule.specs.Parts.{without_left, without_right};
 ghost use Rattle.libhyphen_rule.specs.Private.Ordinary.{AllAscii, AllOrdinary};
-ghost use Rattle.libhyphen_rule.specs.Private.Unchanged.{BeginsNone, HasNoDigits, IsUnchanged};
+ghost use Rattle.libhyphen_rule.specs.Private.PlainWords.{BeginsNone, HasNoDigits, FindsPlain};
 ghost use Rattle.libhyphen_rule.specs.Words.{changes_of_characters, digits_of_characters};
 
 use crate::digits::read_digits;
@@ -17,7 +17,7 @@ use crate::found::WordFound;
 use crate::minima::{take_left, take_right};
 use crate::one_level::PlacedChange;
 use crate::parts::{has_change, word_found};
-use crate::unchanged_parts::{has_digit, read_word};
+use crate::plain_compounds::{has_digit, read_word};
 use crate::words::{
     changes_of_characters, digits_of_characters, is_ascii, keep_last_digits, mark_word,
     take_beside, written_word,
@@ -183,7 +183,7 @@ fn found_by_call<'d>(
 {
     let (word, behind) = text.split_at(size);
     let text = before_nul(text);
-    let least = least_of(dictionary.top().minima(), minima);
+    let least = least_of(dictionary.first_level().minima(), minima);
     let utf8 = dictionary.is_utf8();
     let found = word_found(
         alloc,
@@ -202,7 +202,7 @@ fn found_by_call<'d>(
 struct Looked {
     // Each byte is one of most words.
     ordinary: bool,
-    // A pattern of the level at the top may count.
+    // A pattern of the first level may count.
     counts: bool,
     // Each byte is a character of ASCII.
     ascii: bool,
@@ -212,16 +212,16 @@ struct Looked {
 #[inline(always)]
 fn look_at(dictionary: &LevelDictionary, text: &[u8]) -> Looked
     ensures ordinary { IsTrue result.ordinary → AllOrdinary dictionary.now text.now }
-    ensures counts { IsFalse result.counts → BeginsNone dictionary.now.top.patterns text.now }
+    ensures counts { IsFalse result.counts → BeginsNone dictionary.now.first_level.patterns text.now }
     ensures ascii { IsTrue result.ascii → AllAscii text.now }
 {
-    let top = dictionary.top();
+    let first_level = dictionary.first_level();
     let mut ordinary = true;
-    let mut counts = top.may_begin(b'.');
+    let mut counts = first_level.may_begin(b'.');
     let mut ascii = true;
     for byte in text.iter() {
         ordinary &= dictionary.is_ordinary(*byte);
-        counts |= top.may_begin(*byte);
+        counts |= first_level.may_begin(*byte);
         ascii &= *byte < 128;
     }
     Looked {
@@ -233,7 +233,7 @@ fn look_at(dictionary: &LevelDictionary, text: &[u8]) -> Looked
 
 // Finds the digits of both levels in a word without digits, the first bytes of a text, at most 64. Those of places too
 // near to its ends are left out. Returns false, with anything in the list, where the word has to be broken in the
-// general way. `seen` is the text up to its first byte 0. `counts` is whether a pattern of the level at the top may
+// general way. `seen` is the text up to its first byte 0. `counts` is whether a pattern of the first level may
 // count.
 #[inline(always)]
 fn put_digits_by_call(
@@ -247,15 +247,15 @@ fn put_digits_by_call(
 ) -> bool
     requires within { size ≤ length text.now }
     requires word { HasNoDigits (take size text.now) }
-    requires none { IsFalse counts → BeginsNone dictionary.now.top.patterns (take size text.now) }
+    requires none { IsFalse counts → BeginsNone dictionary.now.first_level.patterns (take size text.now) }
     requires seen { seen.now ≡ before_nul text.now }
     requires short { size ≤ 64 }
     requires digits { length digits.old ≡ size }
-    ensures found { IsTrue result → IsUnchanged (found_by_call dictionary.now minima text.now size) digits.new }
+    ensures found { IsTrue result → FindsPlain (found_by_call dictionary.now minima text.now size) digits.new }
     ensures digits { length digits.new ≡ size }
 {
     let (word, behind) = text.split_at(size);
-    let least = least_of(dictionary.top().minima(), minima);
+    let least = least_of(dictionary.first_level().minima(), minima);
     let utf8 = dictionary.is_utf8();
     let (left, right) = (least.compound_left, least.compound_right);
     if !read_word(dictionary, left, right, word, behind, counts, digits) {
@@ -309,9 +309,9 @@ fn find_short(
     requires digits { length digits.old ≡ size }
     ensures whole { IfSome result (λ _. begins_within dictionary.now text.now ≡ false) }
     ensures found { IfSome result (λ _.
-        IsUnchanged (found_by_call dictionary.now minima text.now size) digits.new) }
+        FindsPlain (found_by_call dictionary.now minima text.now size) digits.new) }
     ensures apart { IfSome result (λ word. IsTrue word.apart
-        → digits.new ≡ digits_kept dictionary.now minima text.now digits.new) }
+        → digits.new ≡ digits_by_no_hyphen dictionary.now minima text.now digits.new) }
     ensures ascii { IfSome result (λ word. IsTrue word.ascii → AllAscii (take size text.now)) }
     ensures digits { length digits.new ≡ size }
 {
@@ -330,20 +330,20 @@ fn find_short(
 }
 
 // Takes the places away beside which a text without breaks begins or ends, in the first bytes of a text, a word.
-fn take_kept(
+fn apply_no_hyphen(
     dictionary: &LevelDictionary,
     minima: Option<CallMinima>,
     text: &[u8],
     digits: &mut [u8],
 )
-    ensures { digits.new ≡ digits_kept dictionary.now minima text.now digits.old }
+    ensures { digits.new ≡ digits_by_no_hyphen dictionary.now minima text.now digits.old }
 {
     let instead = match minima {
         None => b'0',
         Some(_) => 0,
     };
     take_beside(
-        dictionary.top().no_hyphen(),
+        dictionary.first_level().no_hyphen(),
         instead,
         before_nul(text),
         digits,
@@ -352,25 +352,25 @@ fn take_kept(
 
 // Takes these places away in a word whose digits were found by its bytes.
 #[inline(always)]
-fn take_short(
+fn apply_no_hyphen_short(
     dictionary: &LevelDictionary,
     minima: Option<CallMinima>,
     text: &[u8],
     word: ShortWord,
     digits: &mut [u8],
 )
-    requires { IsTrue word.apart → digits.old ≡ digits_kept dictionary.now minima text.now digits.old }
-    ensures { digits.new ≡ digits_kept dictionary.now minima text.now digits.old }
+    requires { IsTrue word.apart → digits.old ≡ digits_by_no_hyphen dictionary.now minima text.now digits.old }
+    ensures { digits.new ≡ digits_by_no_hyphen dictionary.now minima text.now digits.old }
 {
     if !word.apart {
-        take_kept(dictionary, minima, text, digits);
+        apply_no_hyphen(dictionary, minima, text, digits);
     }
 }
 
 // Leaves of the digits of a word's bytes those of its characters, at the front of the list. Returns how many there are.
 // `ascii` is whether each byte is known to be one.
 #[inline(always)]
-fn keep_digits(utf8: bool, ascii: bool, word: &[u8], digits: &mut [u8]) -> usize
+fn select_characters(utf8: bool, ascii: bool, word: &[u8], digits: &mut [u8]) -> usize
     requires ascii { IsTrue ascii → AllAscii word.now }
     requires digits { length digits.old ≡ length word.now }
     ensures digits { take result digits.new ≡ (if utf8 then digits_of_characters word.now digits.old else digits.old) }
@@ -411,8 +411,8 @@ pub fn short_digits(
     ensures digits { length digits.new ≡ size }
 {
     let word = find_short(dictionary, minima, text, size, digits)?;
-    take_short(dictionary, minima, text, word, digits);
-    Some(keep_digits(dictionary.is_utf8(), word.ascii, &text[..size], digits))
+    apply_no_hyphen_short(dictionary, minima, text, word, digits);
+    Some(select_characters(dictionary.is_utf8(), word.ascii, &text[..size], digits))
 }
 
 // Writes a short word with its breaks to the front of a list, and takes the places away beside texts without breaks: where
@@ -428,21 +428,21 @@ fn mark_short(
     written: &mut [u8],
 ) -> usize
     requires within { size ≤ length text.now }
-    requires found { IsUnchanged (found_by_call dictionary.now minima text.now size) digits.old }
-    requires apart { IsTrue word.apart → digits.old ≡ digits_kept dictionary.now minima text.now digits.old }
+    requires found { FindsPlain (found_by_call dictionary.now minima text.now size) digits.old }
+    requires apart { IsTrue word.apart → digits.old ≡ digits_by_no_hyphen dictionary.now minima text.now digits.old }
     requires digits { length digits.old ≡ size }
     requires room { 2 * size ≤ length written.old }
-    ensures digits { digits.new ≡ digits_kept dictionary.now minima text.now digits.old }
+    ensures digits { digits.new ≡ digits_by_no_hyphen dictionary.now minima text.now digits.old }
     ensures text { take result written.new ≡ text_of_call dictionary.now minima text.now size }
     ensures count { result ≤ 2 * size }
     ensures length { length written.new ≡ length written.old }
 {
     let Some(given) = minima else {
-        take_short(dictionary, None, text, word, digits);
+        apply_no_hyphen_short(dictionary, None, text, word, digits);
         return mark_word(&text[..size], digits, written);
     };
     let count = mark_word(&text[..size], digits, written);
-    take_short(dictionary, Some(given), text, word, digits);
+    apply_no_hyphen_short(dictionary, Some(given), text, word, digits);
     count
 }
 
@@ -478,7 +478,7 @@ pub fn short_word(
 {
     let word = find_short(dictionary, minima, text, size, digits)?;
     let bytes = mark_short(dictionary, minima, text, size, word, digits, written);
-    let count = keep_digits(dictionary.is_utf8(), word.ascii, &text[..size], digits);
+    let count = select_characters(dictionary.is_utf8(), word.ascii, &text[..size], digits);
     Some((count, bytes))
 }
 
@@ -567,7 +567,7 @@ pub fn hyphenate<'d>(
         made,
         parts: _,
     } = found_by_call(alloc, dictionary, minima, text, size)?;
-    take_kept(dictionary, minima, text, &mut digits);
+    apply_no_hyphen(dictionary, minima, text, &mut digits);
     if !utf8 {
         return Ok(Some(CallAnswer {
             digits,
@@ -605,7 +605,7 @@ pub fn write_word(
         parts: _,
     } = found_by_call(alloc, dictionary, minima, text, size)?;
     if minima.is_none() {
-        take_kept(dictionary, minima, text, &mut digits);
+        apply_no_hyphen(dictionary, minima, text, &mut digits);
     }
     written_word(alloc, &text[..size], &digits, &changes)
 }
@@ -635,16 +635,16 @@ fn inner_digits(alloc: Global, digits: &[u8]) -> Result<Vec<u8>, AllocError>
 }
 
 /// Returns the digits of the oldest call, `hnj_hyphen_hyphenate`: for each byte of a word that of the place behind it.
-/// They are those of the patterns of the level at the top that change nothing. The only error is out of memory.
+/// They are those of the patterns of the first level that change nothing. The only error is out of memory.
 #[tactic(auto, unfolding(crate::specs::Calls::plain_digits))]
 pub fn plain_digits(
     alloc: Global,
     dictionary: &LevelDictionary,
     word: &[u8],
 ) -> Result<Vec<u8>, AllocError>
-    ensures { IfOk result (λ digits. digits.items ≡ plain_digits dictionary.now.top word.now) }
+    ensures { IfOk result (λ digits. digits.items ≡ plain_digits dictionary.now.first_level word.now) }
 {
     let mut digits = vec![in alloc; b'0'; word.len()]?;
-    read_digits(dictionary.top().patterns(), word, true, &mut digits);
+    read_digits(dictionary.first_level().patterns(), word, true, &mut digits);
     inner_digits(alloc, &digits)
 }

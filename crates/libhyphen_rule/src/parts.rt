@@ -1,4 +1,4 @@
-//! Compounds: a word is parted at the breaks of the level at the top, and each part is broken anew.
+//! Compounds: a word is parted at the breaks of the first level, and each part is broken anew.
 
 ghost use Rattle.std.specs.Prelude.{◌≡◌, ◌==◌, ◌+◌, ◌≤◌, ◌<◌, ◌++◌, IfOk, OnOk, length, map, take, drop, position};
 ghost use Rattle.std.specs.Prelude.{replicate, slice_index, slice_index_or, slice_set, Some};
@@ -7,10 +7,10 @@ ghost use Rattle.std.specs.Option.{option_map, option_or};
 ghost use Rattle.hyphenation_breaks.specs.Ascii.{digit_zero};
 ghost use Rattle.libhyphen_rule.specs.Counting.{shown};
 ghost use Rattle.libhyphen_rule.specs.OneLevel.{is_odd};
-ghost use Rattle.libhyphen_rule.specs.Found.{below_in, without_left_in, without_right_in};
+ghost use Rattle.libhyphen_rule.specs.Found.{by_next_level_in, without_left_in, without_right_in};
 ghost use Rattle.libhyphen_rule.specs.Found.{asked_in, found_of, minima_of, placed, placed_all, texts_of};
-ghost use Rattle.libhyphen_rule.specs.Parts.{asked_of, below_found, changes_with, digits_with, ends_part, found_below};
-ghost use Rattle.libhyphen_rule.specs.Parts.{found_in, part_text, seen_after, some_change, top_found, with_behind};
+ghost use Rattle.libhyphen_rule.specs.Parts.{asked_of, next_level_found, changes_with, digits_with, ends_part, found_by_next_level};
+ghost use Rattle.libhyphen_rule.specs.Parts.{found_in, part_text, seen_after, some_change, first_level_found, with_behind};
 ghost use Rattle.libhyphen_rule.specs.Parts.{with_part, without_left_of_part, without_right_of_part, word_found};
 
 use crate::found::WordFound;
@@ -226,14 +226,14 @@ fn put_part<'d>(whole: &mut WordFound<'d>, begin: usize, count: usize, part: Wor
     whole.parts = part.parts;
 }
 
-// Returns what the level at the top finds in a text. The only error is out of memory.
-fn found_by_top<'d>(
+// Returns what the first level finds in a text. The only error is out of memory.
+fn found_by_first_level<'d>(
     alloc: Global,
     levels: BothLevels<'d>,
     parts: usize,
     text: &[u8],
 ) -> Result<WordFound<'d>, AllocError>
-    ensures found { IfOk result (λ found. found_of found ≡ top_found levels.entry.dictionary.now parts text.now) }
+    ensures found { IfOk result (λ found. found_of found ≡ first_level_found levels.entry.dictionary.now parts text.now) }
     ensures digits { IfOk result (λ found. length found.digits.items ≡ length text.now) }
     ensures changes { IfOk result (λ found. length found.changes.items ≡ length text.now) }
 {
@@ -241,7 +241,7 @@ fn found_by_top<'d>(
     let mut changes: Vec<Option<PlacedChange<'d>>> = vec![in alloc; None; text.len()]?;
     read_level(
         alloc,
-        levels.dictionary.top(),
+        levels.dictionary.first_level(),
         text,
         &mut digits,
         &mut changes,
@@ -255,7 +255,7 @@ fn found_by_top<'d>(
     })
 }
 
-// Returns what both levels find in a text in which the level at the top finds no break, before minima. The only error
+// Returns what both levels find in a text in which the first level finds no break, before minima. The only error
 // is out of memory.
 fn found_by_both<'d>(
     alloc: Global,
@@ -267,7 +267,7 @@ fn found_by_both<'d>(
     requires changes { length found.changes.items ≡ length text.now }
     requires made { found.made ≡ some_change (placed_all found.changes.items) }
     ensures found { IfOk result (λ r. found_of r
-        ≡ below_found levels.entry.dictionary.now found.entry.parts text.now (placed_all found.entry.changes.items)) }
+        ≡ next_level_found levels.entry.dictionary.now found.entry.parts text.now (placed_all found.entry.changes.items)) }
     ensures digits { IfOk result (λ r. length r.digits.items ≡ length text.now) }
     ensures changes { IfOk result (λ r. length r.changes.items ≡ length text.now) }
 {
@@ -278,15 +278,15 @@ fn found_by_both<'d>(
         parts,
     } = found;
     if made {
-        let mut below: Vec<Option<PlacedChange<'d>>> = vec![in alloc; None; text.len()]?;
+        let mut next_level: Vec<Option<PlacedChange<'d>>> = vec![in alloc; None; text.len()]?;
         read_level(
             alloc,
-            levels.dictionary.below(),
+            levels.dictionary.next_level(),
             text,
             &mut digits,
-            &mut below,
+            &mut next_level,
         )?;
-        put_changes(&mut changes, 0, text.len(), &below);
+        put_changes(&mut changes, 0, text.len(), &next_level);
         Ok(WordFound {
             digits,
             changes,
@@ -296,7 +296,7 @@ fn found_by_both<'d>(
     } else {
         read_level(
             alloc,
-            levels.dictionary.below(),
+            levels.dictionary.next_level(),
             text,
             &mut digits,
             &mut changes,
@@ -369,23 +369,23 @@ fn take_right_of_part(
     Ok(())
 }
 
-// Returns what both levels find in a text in which the level at the top finds no break. The only error is out of
+// Returns what both levels find in a text in which the first level finds no break. The only error is out of
 // memory.
-fn found_below<'d>(
+fn found_by_next_level<'d>(
     alloc: Global,
     levels: BothLevels<'d>,
     asked: AskedText<'_>,
-    top: WordFound<'d>,
+    first_level: WordFound<'d>,
 ) -> Result<WordFound<'d>, AllocError>
-    requires digits { length top.digits.items ≡ length asked.text.now }
-    requires changes { length top.changes.items ≡ length asked.text.now }
-    requires made { top.made ≡ some_change (placed_all top.changes.items) }
+    requires digits { length first_level.digits.items ≡ length asked.text.now }
+    requires changes { length first_level.changes.items ≡ length asked.text.now }
+    requires made { first_level.made ≡ some_change (placed_all first_level.changes.items) }
     ensures found { IfOk result (λ found. found_of found
-        ≡ below_in levels.entry asked.entry top.entry) }
+        ≡ by_next_level_in levels.entry asked.entry first_level.entry) }
     ensures digits { IfOk result (λ found. length found.digits.items ≡ length asked.entry.text.now) }
     ensures changes { IfOk result (λ found. length found.changes.items ≡ length asked.entry.text.now) }
 {
-    let mut found = found_by_both(alloc, levels, asked.text, top)?;
+    let mut found = found_by_both(alloc, levels, asked.text, first_level)?;
     take_left_of_part(alloc, levels, asked, &mut found)?;
     take_right_of_part(alloc, levels, asked, &mut found)?;
     Ok(found)
@@ -520,12 +520,12 @@ fn found_in<'d>(
     ensures digits { IfOk result (λ found. length found.digits.items ≡ length asked.entry.text.now) }
     ensures changes { IfOk result (λ found. length found.changes.items ≡ length asked.entry.text.now) }
 {
-    let top = found_by_top(alloc, levels, parts, asked.text)?;
-    if !has_break(&top.digits) {
-        return found_below(alloc, levels, asked, top);
+    let first_level = found_by_first_level(alloc, levels, parts, asked.text)?;
+    if !has_break(&first_level.digits) {
+        return found_by_next_level(alloc, levels, asked, first_level);
     }
-    let ends = copy_of(alloc, &top.digits)?;
-    let mut found = top;
+    let ends = copy_of(alloc, &first_level.digits)?;
+    let mut found = first_level;
     let mut begin = 0;
     let mut seen = shown_text(alloc, asked.text)?;
     for byte in 0..asked.text.len() {

@@ -39,5 +39,5 @@ abbrev pub rules_code : Coded Rules
 rules_code =
     code_by (List ℕ × (Bool × (Level × Level)))
     (coded× (coded_list coded_ℕ) (coded× coded_bool (coded× level_code level_code)))
-    (λ r. (r.charset, (r.utf8, (r.top, r.below))))
-    (λ p. record { charset = p.0; utf8 = p.1.0; top = p.1.1.0; below = p.1.1.1 }) (λ _. refl)
+    (λ r. (r.charset, (r.utf8, (r.first_level, r.next_level))))
+    (λ p. record { charset = p.0; utf8 = p.1.0; first_level = p.1.1.0; next_level = p.1.1.1 }) (λ _. refl)

@@ -9,7 +9,7 @@ use Rattle.libhyphen_files.specs.Vectors.{AreVectorsBy}
 use Rattle.libhyphen_files.specs.declared.vectors.NodeVectors.{NodeVectors}
 use Rattle.libhyphen_rule.specs.Counting.{Counted, counted_up_to, framed}
 use Rattle.libhyphen_rule.specs.OneLevel.{offers, digit_at}
-use Rattle.libhyphen_rule.specs.declared.unchanged.FramePass.{FramePass}
+use Rattle.libhyphen_rule.specs.declared.plain_words.FramePass.{FramePass}
 
 -- All lanes are digits.
 abbrev pub AllKnown : List ℕ → Type 0

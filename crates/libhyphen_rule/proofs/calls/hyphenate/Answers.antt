@@ -1,9 +1,9 @@
 use Rattle.std.proofs.Common.{◌≡◌, ◌∙◌, sym, ap, false, true, List, ℕ}
 use Rattle.std.specs.Vec.{with_items}
 use Rattle.std.proofs.lemmas.List.{with_items_is}
-use Rattle.libhyphen_rule.specs.Calls.{begins_within, digits_kept, found_by_call}
+use Rattle.libhyphen_rule.specs.Calls.{begins_within, digits_by_no_hyphen, found_by_call}
 use Rattle.libhyphen_rule.specs.Found.{found_of, placed_all}
-use Rattle.libhyphen_rule.proofs.UnchangedCalls.{in_characters_is, whole_of_bytes, whole_of_utf8}
+use Rattle.libhyphen_rule.proofs.PlainCalls.{in_characters_is, whole_of_bytes, whole_of_utf8}
 use Rattle.libhyphen_rule.proofs.calls.hyphenate.Goals.{else-utf8-via-then-utf8+else-begins_within, else-utf8-via-else-utf8}
 use Rattle.libhyphen_rule.proofs.calls.hyphenate.Goals as goal
 
@@ -18,9 +18,9 @@ returns c =
     ] in
     let found : found_of c.in_ok-digits.field-0 ≡ found_by_call rules_now c.args.minima text c.args.size = c.in_ok-digits.ensures.found in
     let given = c.in_ok-digits.field-0 in
-    let kept = with_items_is given.digits c.take_kept.new.digits (c.take_kept.auto.digits ∙ c.deref_mut.ensures.len) in
-    let digits : List ℕ = (with_items given.digits c.take_kept.new.digits).items in
+    let kept = with_items_is given.digits c.apply_no_hyphen.new.digits (c.apply_no_hyphen.auto.digits ∙ c.deref_mut.ensures.len) in
+    let digits : List ℕ = (with_items given.digits c.apply_no_hyphen.new.digits).items in
     in_characters_is rules_now c.args.minima text c.args.size given.digits.items digits (placed_all given.changes.items) c.in_ok-answer.answer
-    whole utf8 (sym (ap (λ f. f.digits) found)) (kept ∙ c.take_kept.ensures ∙ ap (digits_kept rules_now c.args.minima text) c.deref_mut.ensures.value)
+    whole utf8 (sym (ap (λ f. f.digits) found)) (kept ∙ c.apply_no_hyphen.ensures ∙ ap (digits_by_no_hyphen rules_now c.args.minima text) c.deref_mut.ensures.value)
     (sym (ap (λ f. f.changes) found)) c.in_ok-answer.ensures.digits c.in_ok-answer.ensures.changes
     (c.in_ok-answer.ensures.made ∙ ap (λ f. f.made) found)

@@ -10,9 +10,9 @@ use Rattle.libhyphen_rule.proofs.calls.look_at.Goals as goal
 -- A fact of the bytes before an index, and of the one there, is one of all up to it.
 one_more : (P : ℕ → Type 0) (text : List ℕ) (index : ℕ) → ((k : ℕ) → k < index → P (slice_index text k)) → P (slice_index text index)
     → (k : ℕ) → k < index + 1 → P (slice_index text k)
-one_more P text index before here k below = elim (cases_lt k index) [
+one_more P text index before here k next_level = elim (cases_lt k index) [
   | inl lt ↦ before k lt
-  | inr le ↦ let same : index ≡ k = omega (arith, below, le) in subst (λ (at : ℕ). P (slice_index text at)) same here
+  | inr le ↦ let same : index ≡ k = omega (arith, next_level, le) in subst (λ (at : ℕ). P (slice_index text at)) same here
 ]
 
 neither : (a b : Bool) → IsFalse (a || b) → IsFalse a × IsFalse b
@@ -24,9 +24,9 @@ loop-byte-preserved c =
     let text = c.args.text.now in
     let index = c.loop-byte.byte-index in
     let was = c.loop-byte.invariant in
-    let top : c.top-top.result.now ≡ c.args.dictionary.now.top = c.top-top.ensures in
-    let begins_at : IsFalse c.may_begin-counts-in-loop-byte.result → BeginsNoKey c.args.dictionary.now.top.patterns (slice_index text index) =
-    λ none. subst (λ (level : Level). BeginsNoKey level.patterns (slice_index text index)) top (c.may_begin-counts-in-loop-byte.ensures none) in
+    let first_level : c.first_level-first_level.result.now ≡ c.args.dictionary.now.first_level = c.first_level-first_level.ensures in
+    let begins_at : IsFalse c.may_begin-counts-in-loop-byte.result → BeginsNoKey c.args.dictionary.now.first_level.patterns (slice_index text index) =
+    λ none. subst (λ (level : Level). BeginsNoKey level.patterns (slice_index text index)) first_level (c.may_begin-counts-in-loop-byte.ensures none) in
     record {
       ordinary = λ both.
           let parts = and_parts c.loop-byte.ordinary c.is_ordinary-ordinary.result both in
@@ -34,7 +34,7 @@ loop-byte-preserved c =
       dotted = λ none. was.dotted (neither c.loop-byte.counts c.may_begin-counts-in-loop-byte.result none).0;
       each = λ none.
           let parts = neither c.loop-byte.counts c.may_begin-counts-in-loop-byte.result none in
-          one_more (BeginsNoKey c.args.dictionary.now.top.patterns) text index (was.each parts.0) (begins_at parts.1);
+          one_more (BeginsNoKey c.args.dictionary.now.first_level.patterns) text index (was.each parts.0) (begins_at parts.1);
       ascii = λ both.
           let parts = and_parts c.loop-byte.ascii (nat_lt (slice_index text index) 128) both in
           let small : nat_lt (slice_index text index) 128 ≡ true = parts.1 in

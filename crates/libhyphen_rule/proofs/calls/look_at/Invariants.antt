@@ -8,7 +8,7 @@ use Rattle.libhyphen_rule.proofs.calls.look_at.Given as goal
 abbrev pub invariant-loop-byte : goal.invariant-loop-byte
 invariant-loop-byte l = record {
   ordinary : IsTrue l.ordinary → (k : ℕ) → k < l.byte-index → IsOrdinary l.dictionary (slice_index l.text k);
-  dotted : IsFalse l.counts → BeginsNoKey l.dictionary.top.patterns dot;
-  each : IsFalse l.counts → (k : ℕ) → k < l.byte-index → BeginsNoKey l.dictionary.top.patterns (slice_index l.text k);
+  dotted : IsFalse l.counts → BeginsNoKey l.dictionary.first_level.patterns dot;
+  each : IsFalse l.counts → (k : ℕ) → k < l.byte-index → BeginsNoKey l.dictionary.first_level.patterns (slice_index l.text k);
   ascii : IsTrue l.ascii → (k : ℕ) → k < l.byte-index → slice_index l.text k < 128;
 }

@@ -1,5 +1,5 @@
 use Rattle.std.proofs.Common.{sym, take}
-use Rattle.libhyphen_rule.proofs.UnchangedParts.{no_digits}
+use Rattle.libhyphen_rule.proofs.PlainCompounds.{no_digits}
 use Rattle.libhyphen_rule.proofs.calls.seen_text.Goals as goal
 
 pub returns-clause-word : goal.returns-clause-word

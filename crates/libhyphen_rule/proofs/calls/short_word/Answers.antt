@@ -1,13 +1,13 @@
 use Rattle.std.proofs.Common.{◌∙◌, ap, cond, take, List, ℕ}
 use Rattle.libhyphen_rule.specs.Words.{digits_of_characters}
-use Rattle.libhyphen_rule.proofs.UnchangedCalls.{plain_is}
+use Rattle.libhyphen_rule.proofs.PlainCalls.{plain_is}
 use Rattle.libhyphen_rule.proofs.calls.short_word.Goals as goal
 
 pub returns-clause-answer : goal.returns-clause-answer
 returns-clause-answer c =
     let text = c.args.text.now in
     let digits : List ℕ = c.mark_short-bytes.new.digits in
-    plain_is c.args.dictionary.now c.args.minima text c.args.size c.find_short.new.digits digits (take c.keep_digits-count.result c.keep_digits-count.new.digits)
+    plain_is c.args.dictionary.now c.args.minima text c.args.size c.find_short.new.digits digits (take c.select_characters-count.result c.select_characters-count.new.digits)
     c.in_ok-word.ensures.whole c.in_ok-word.ensures.found c.mark_short-bytes.ensures.digits
-    (c.keep_digits-count.ensures.digits
+    (c.select_characters-count.ensures.digits
     ∙ ap (λ utf8. cond {A = List ℕ} utf8 (digits_of_characters (take c.args.size text) digits) digits) c.is_utf8.ensures)

@@ -7,5 +7,5 @@ use Rattle.libhyphen_rule.proofs.one_level.clear.Goals as goal
 
 pub returns : goal.returns
 returns c =
-    all_none c.loop-change.changes (λ k d below. c.loop-change.invariant.none k d (omega arith))
+    all_none c.loop-change.changes (λ k d next_level. c.loop-change.invariant.none k d (omega arith))
     ∙ ap (λ (n : ℕ). replicate {A = Option ChangeAt} n None) c.loop-change.invariant.len

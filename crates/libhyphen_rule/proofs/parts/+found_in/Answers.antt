@@ -4,37 +4,37 @@ use Rattle.std.proofs.lemmas.Bool.Decides.{nat_tests}
 use Rattle.std.specs.List.{list_any}
 use Rattle.libhyphen_rule.specs.OneLevel.{is_odd}
 use Rattle.libhyphen_rule.specs.Found.{asked_in, found_of, minima_of, placed, texts_of}
-use Rattle.libhyphen_rule.specs.Parts.{asked_of, part_text, seen_after, with_part, found_in, found_below, parted_up_to}
-use Rattle.libhyphen_rule.proofs.Partings.{ask_at, asked_some, asked_none_deep, asked_none_left, parted_none, parted_past, parted_short, parted_asked, found_parted, found_whole, top_made, top_parts, ok_same, ends_as, length_shown, with_none, with_some, placed_at}
+use Rattle.libhyphen_rule.specs.Parts.{asked_of, part_text, seen_after, with_part, found_in, found_by_next_level, parted_up_to}
+use Rattle.libhyphen_rule.proofs.Partings.{ask_at, asked_some, asked_none_deep, asked_none_left, parted_none, parted_past, parted_short, parted_asked, found_parted, found_whole, first_level_made, first_level_parts, ok_same, ends_as, length_shown, with_none, with_some, placed_at}
 use Rattle.libhyphen_rule.proofs.parts.+found_in.Goals as goal
 use Rattle.libhyphen_rule.proofs.parts.+found_in.Goals.{then-depth-gt0+then-found-gt0+in_ok-inner, else-depth-gt0, else-depth-gt0-via-then-depth-gt0+else-found-gt0, else-depth-gt0-via-else-depth-gt0}
 
-pub found_below-requires-clause-made : goal.found_below-requires-clause-made
-found_below-requires-clause-made t c = top_made _ _ _ (found_of c.in_ok-top.top) c.in_ok-top.ensures.found
+pub found_by_next_level-requires-clause-made : goal.found_by_next_level-requires-clause-made
+found_by_next_level-requires-clause-made t c = first_level_made _ _ _ (found_of c.in_ok-first_level.first_level) c.in_ok-first_level.ensures.found
 
 pub returns-then-not-has_break-clause-found : goal.returns-then-not-has_break-clause-found
 returns-then-not-has_break-clause-found t c =
     let rules = c.args.levels.dictionary.now in
     let minima = minima_of c.args.levels in
     let asked = asked_in c.args.asked in
-    let top = found_of c.in_ok-top.top in
-    let even : list_any is_odd top.digits ≡ false = cc (c.deref.ensures.value) in
-    ok_same c.found_below.result found_of _ _
-    (ap (λ n. found_below rules minima n asked top.changes) (top_parts rules c.args.parts asked.text top c.in_ok-top.ensures.found)
-    ∙ found_whole rules minima c.args.depth c.args.parts asked top c.in_ok-top.ensures.found even) c.found_below.ensures.found
+    let first_level = found_of c.in_ok-first_level.first_level in
+    let even : list_any is_odd first_level.digits ≡ false = cc (c.deref.ensures.value) in
+    ok_same c.found_by_next_level.result found_of _ _
+    (ap (λ n. found_by_next_level rules minima n asked first_level.changes) (first_level_parts rules c.args.parts asked.text first_level c.in_ok-first_level.ensures.found)
+    ∙ found_whole rules minima c.args.depth c.args.parts asked first_level c.in_ok-first_level.ensures.found even) c.found_by_next_level.ensures.found
 
 pub loop-byte-init : goal.loop-byte-init
 loop-byte-init t c = record {
   parted = parted_none _ _ _ _ c.in_ok-seen.ensures;
   begun = omega arith;
-  digits = c.in_ok-top.ensures.digits;
-  changes = c.in_ok-top.ensures.changes;
+  digits = c.in_ok-first_level.ensures.digits;
+  changes = c.in_ok-first_level.ensures.changes;
   seen = length_shown _ _ c.in_ok-seen.ensures;
 }
 
 pub loop-byte-preserved-then-not-ends_part : goal.loop-byte-preserved-then-not-ends_part
 loop-byte-preserved-then-not-ends_part t c =
-    let ends = ends_as c.in_ok-top.top.digits.items c.deref-in-loop-byte.result.now c.loop-byte.byte false
+    let ends = ends_as c.in_ok-first_level.first_level.digits.items c.deref-in-loop-byte.result.now c.loop-byte.byte false
     (c.deref-in-loop-byte.ensures.value ∙ c.in_ok-ends.ensures ∙ c.deref-2.ensures.value) c.if-not-ends_part.ensures in
     record {
       parted = parted_past _ _ _ _ _ ends c.loop-byte.invariant.parted;
@@ -46,7 +46,7 @@ loop-byte-preserved-then-not-ends_part t c =
 
 pub loop-byte-preserved-then-byte-begin : goal.loop-byte-preserved-then-byte-begin
 loop-byte-preserved-then-byte-begin t c =
-    let ends = ends_as c.in_ok-top.top.digits.items c.deref-in-loop-byte.result.now c.loop-byte.byte true
+    let ends = ends_as c.in_ok-first_level.first_level.digits.items c.deref-in-loop-byte.result.now c.loop-byte.byte true
     (c.deref-in-loop-byte.ensures.value ∙ c.in_ok-ends.ensures ∙ c.deref-2.ensures.value) c.if-not-ends_part.ensures in
     let short : nat_lt (c.loop-byte.begin + 1) c.loop-byte.byte ≡ false = grind (arith, nat_tests, c.if-byte-begin.true) in
     record {
@@ -67,7 +67,7 @@ loop-byte-preserved t c =
     let begin = c.loop-byte.begin in
     let found = found_of c.loop-byte.found in
     let texts = texts_of c.in_ok-texts.texts in
-    let ends = ends_as c.in_ok-top.top.digits.items c.deref-in-loop-byte.result.now c.loop-byte.byte true
+    let ends = ends_as c.in_ok-first_level.first_level.digits.items c.deref-in-loop-byte.result.now c.loop-byte.byte true
     (c.deref-in-loop-byte.ensures.value ∙ c.in_ok-ends.ensures ∙ c.deref-2.ensures.value) c.if-not-ends_part.ensures in
     let long : nat_lt (c.loop-byte.begin + 1) c.loop-byte.byte ≡ true = grind (arith, nat_tests, c.if-byte-begin.false) in
     let change = c.index-change.result.now in
@@ -120,8 +120,8 @@ returns-clause-found t c =
     let minima = minima_of c.args.levels in
     let asked = asked_in c.args.asked in
     let ask = ask_at rules minima c.args.depth in
-    let top = found_of c.in_ok-top.top in
-    let odd : list_any is_odd top.digits ≡ true = cc (c.deref.ensures.value) in
+    let first_level = found_of c.in_ok-first_level.first_level in
+    let odd : list_any is_odd first_level.digits ≡ true = cc (c.deref.ensures.value) in
     let end : c.loop-byte.byte ≡ length asked.text = omega arith in
-    found_parted rules minima c.args.depth c.args.parts asked top _ _ _ c.in_ok-top.ensures.found odd
-    (ap (parted_up_to ask asked top) (sym end) ∙ c.loop-byte.invariant.parted)
+    found_parted rules minima c.args.depth c.args.parts asked first_level _ _ _ c.in_ok-first_level.ensures.found odd
+    (ap (parted_up_to ask asked first_level) (sym end) ∙ c.loop-byte.invariant.parted)

@@ -1,8 +1,0 @@
-use Rattle.std.proofs.Common.{arith}
-use Rattle.libhyphen_rule.proofs.unchanged.may_count.Goals as goal
-
-pub returns : goal.returns
-returns c not = record {
-  dotted = c.may_begin.ensures c.if-may_begin.false;
-  each = λ k below. c.loop-byte.invariant k (omega (arith, below));
-}

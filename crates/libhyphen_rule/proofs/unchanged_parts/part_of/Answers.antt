@@ -1,7 +1,0 @@
-use Rattle.std.proofs.Common.{rules}
-use Rattle.libhyphen_rule.specs.Parts.{part_text}
-use Rattle.libhyphen_rule.proofs.unchanged_parts.part_of.Goals as goal
-
-pub returns : goal.returns
-unfolding part_text
-returns c = search rules
