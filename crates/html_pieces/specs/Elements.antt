@@ -235,9 +235,15 @@ group_by form around _ bytes = Ordinary
 abbrev pub as_elements : List declared.Element → List Element
 as_elements held = reverse (map as_element held)
 
+-- Open elements, as the code holds them, became those after a start tag, whose element is of a group.
+abbrev pub AreThoseBegun : PageForm → asked.Selection → ElementGroup → List ℕ → Element → List declared.Element → List declared.Element → Type 0
+AreThoseBegun form selection group tag page old new =
+    as_elements new ≡ begun_as form (as_selection selection) page group tag (as_elements old)
+
 -- Open elements, as the code holds them, became those after a piece, whose element is of a group.
-abbrev pub AreThoseAfter : PageForm → Selection → ElementGroup → Piece → Element → List declared.Element → List declared.Element → Type 0
-AreThoseAfter form selection group p page old new = as_elements new ≡ elements_by form selection group p.kind p.bytes page (as_elements old)
+abbrev pub AreThoseAfter : PageForm → asked.Selection → ElementGroup → Piece → Element → List declared.Element → List declared.Element → Type 0
+AreThoseAfter form selection group p page old new =
+    as_elements new ≡ elements_by form (as_selection selection) group p.kind p.bytes page (as_elements old)
 
 -- The page as what is around all its elements.
 abbrev pub page_element : List ℕ → Element

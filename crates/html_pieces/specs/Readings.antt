@@ -8,11 +8,11 @@ use Rattle.std.specs.Cmp.Lexicographic.{pointwise}
 use Rattle.html_pieces.specs.Bytes.{is_white_space, is_alpha, is_same_name, is_one_of, is_named, names_in, is_xml}
 use Rattle.html_pieces.specs.Names.{name_of, raw_element, raw_end_tag, is_foreign_root}
 use Rattle.html_pieces.specs.Forms.{after_order_mark, is_start}
-use Rattle.html_pieces.specs.Pieces.{Piece, is_script}
+use Rattle.html_pieces.specs.Pieces.{Piece, as_piece, is_script}
 use Rattle.html_pieces.specs.References.{has_ampersand}
 use Rattle.html_pieces.specs.Groups.{ends, stops, bounds, is_in, is_same_group, is_table_part, is_heading, is_root, is_special, is_void}
 use Rattle.html_pieces.specs.declared.groups.TheConstants.{HEADING_NAMES, WITHOUT_TEXT, WITHOUT_END_TAGS, CHOICES, AROUND_CELLS, AROUND_ROWS, AROUND_ROW_GROUPS, AROUND_COLUMNS, CLOSING_NO_BLOCKS}
-use Rattle.html_pieces.specs.Elements.{Selection, Element, as_elements, innermost, before_new, elements_by, group_by, depth_limit}
+use Rattle.html_pieces.specs.Elements.{Selection, as_selection, Element, as_element, as_elements, innermost, before_new, elements_by, group_by, depth_limit}
 use Rattle.html_pieces.specs.declared.bytes.PageForm.{PageForm}
 use Rattle.html_pieces.specs.declared.groups.ElementGroup.{ElementGroup}
 use Rattle.html_pieces.specs.declared.groups.ElementGroup.TheVariants.{Ordinary, Formatting, Paragraph, Heading, Block, Item, Term, Choice, Choices, Ruby, Cell, Row, Rows, Caption, Columns, Column, Table, Scope, Root, Head, HeadContent, HeadVoid, Template}
@@ -21,6 +21,9 @@ use Rattle.html_pieces.specs.declared.readings.TheConstants.{LEAVING_PHRASE_NAME
 use Rattle.html_pieces.specs.declared.readings.Phase.{Phase}
 use Rattle.html_pieces.specs.declared.readings.Phase.TheVariants as reached
 use Rattle.html_pieces.specs.declared.readings.Reading as declared
+use Rattle.html_pieces.specs.declared.elements.Selection as asked
+use Rattle.html_pieces.specs.declared.elements.Element as held
+use Rattle.html_pieces.specs.declared.tokenizer.Piece as cut
 use Rattle.html_pieces.specs.declared.tokenizer.PieceKind.{PieceKind}
 use Rattle.html_pieces.specs.declared.tokenizer.PieceKind.TheVariants.{Text, Reference, StartTag, EmptyTag, EndTag, Other}
 use Rattle.html_pieces.specs.declared.tokenizer.RawElement.{RawElement}
@@ -464,6 +467,11 @@ reading_after form selection page reading p =
     if reading.is_certain
     then read_by form selection page reading (group_by form (innermost page reading.elements) p.kind p.bytes) p
     else reading
+
+-- The reading after a piece, by what the code holds.
+abbrev pub next_reading : PageForm → asked.Selection → held.Element → declared.Reading → cut.Piece → Reading
+next_reading form selection page reading piece =
+    reading_after form (as_selection selection) (as_element page) (as_reading reading) (as_piece piece)
 
 -- A piece is text of the body, whatever is around it.
 abbrev pub is_read_text : PieceKind → List ℕ → Bool

@@ -8,7 +8,7 @@ ghost use Rattle.html_pieces.specs.Elements.{as_element, as_elements, as_selecti
 ghost use Rattle.html_pieces.specs.Elements.{has_word, has_class, translated_by, is_translated, value_of_either};
 ghost use Rattle.html_pieces.specs.Elements.{language_value, held_language, language_by, language_of};
 ghost use Rattle.html_pieces.specs.Elements.{is_formatting, has_inherited_attribute, group_in, holds_foreign, opened, innermost, before_new, closed_as};
-ghost use Rattle.html_pieces.specs.Elements.{begun_as, is_closed_by_slash, group_by, AreThoseAfter};
+ghost use Rattle.html_pieces.specs.Elements.{is_closed_by_slash, group_by, AreThoseBegun, AreThoseAfter};
 ghost use Rattle.html_pieces.specs.Pieces.{as_piece};
 ghost use Rattle.html_pieces.specs.Elements.{page_element};
 
@@ -429,8 +429,8 @@ fn begin<'t>(
     new: ElementGroup,
     tag: &'t [u8],
 ) -> Result<(), AllocError>
-    ensures begun { OnOk result (as_elements nest.new.items
-        ≡ begun_as form (as_selection selection.now) (as_element page.entry) new tag.now (as_elements nest.old.items)) }
+    ensures begun { OnOk result (AreThoseBegun form selection.now new tag.now (as_element page.entry)
+        nest.old.items nest.new.items) }
     ensures unchanged_on_error { OnErr result (nest.new.items ≡ nest.old.items) }
 {
     let kept = before_new(nest, new);
@@ -473,7 +473,7 @@ pub(crate) fn open_and_close<'t>(
     group: ElementGroup,
     piece: Piece<'t>,
 ) -> Result<(), AllocError>
-    ensures changed { OnOk result (AreThoseAfter form (as_selection selection.now) group (as_piece piece.entry) (as_element page.entry)
+    ensures changed { OnOk result (AreThoseAfter form selection.now group (as_piece piece.entry) (as_element page.entry)
         nest.old.items nest.new.items) }
     ensures unchanged_on_error { OnErr result (nest.new.items ≡ nest.old.items) }
 {

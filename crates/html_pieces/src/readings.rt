@@ -2,7 +2,7 @@
 
 ghost use Rattle.std.specs.Prelude.{◌≡◌, ◌==◌, ◌||◌, ◌&&◌, not, drop, map, Bool, OnOk, OnErr};
 ghost use Rattle.std.specs.Option.{option_map, option_map_or};
-ghost use Rattle.html_pieces.specs.Elements.{as_element, as_elements, as_selection, depth_limit};
+ghost use Rattle.html_pieces.specs.Elements.{as_element, as_elements, depth_limit};
 ghost use Rattle.html_pieces.specs.Readings.{as_reading, at_start, has_text, may_be_adopted, is_read_text, is_root_start, has_late_root};
 ghost use Rattle.html_pieces.specs.Readings.{begins_with_word, mentions, begins_with_letter, has_content};
 ghost use Rattle.html_pieces.specs.Readings.{ends_at_first, quote_after, has_closed_quotes, is_doctype, is_html_doctype};
@@ -18,7 +18,7 @@ ghost use Rattle.html_pieces.specs.Readings.{is_left_out_in, closes_alike_from, 
 ghost use Rattle.html_pieces.specs.Readings.{is_html_end_alike, is_end_alike, is_content_here, is_odd_section, is_html_other_alike};
 ghost use Rattle.html_pieces.specs.Readings.{is_html_alike, stays_raw, is_xml_start_alike, is_xml_empty_alike, is_xml_other_alike};
 ghost use Rattle.html_pieces.specs.Readings.{is_xml_alike, is_in_raw_noscript, stays_in_noscript, is_alike_by, body_unless, head_from};
-ghost use Rattle.html_pieces.specs.Readings.{phase_after_start, phase_after_other, phase_after, reading_after};
+ghost use Rattle.html_pieces.specs.Readings.{phase_after_start, phase_after_other, phase_after, next_reading};
 ghost use Rattle.html_pieces.specs.Readings.{standard_after_other, standard_after, may_be_elsewhere, parent_of_text};
 ghost use Rattle.html_pieces.specs.Names.{name_of};
 ghost use Rattle.html_pieces.specs.Pieces.{as_piece, is_script};
@@ -896,7 +896,7 @@ pub fn advance<'t>(
     piece: Piece<'t>,
 ) -> Result<(), AllocError>
     ensures advanced { OnOk result (as_reading reading.new
-        ≡ reading_after form (as_selection selection.now) (as_element page.entry) (as_reading reading.old) (as_piece piece.entry)) }
+        ≡ next_reading form selection.now page.entry reading.old piece.entry) }
     ensures unchanged_on_error { OnErr result (as_reading reading.new ≡ as_reading reading.old) }
 {
     if !reading.is_certain {

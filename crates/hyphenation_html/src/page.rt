@@ -41,7 +41,7 @@ fn dictionary_in<'l>(
     text: &str,
 ) -> Result<Option<&'l LanguageDictionary>, AllocError>
     ensures { IfOk result (λ found. option_map (λ l. coded l.now) found
-        ≡ dictionary_in languages.now (option_map (λ element. as_element element) parent.entry) text.now) }
+        ≡ dictionary_in languages.now (option_map as_element parent.entry) text.now) }
 {
     match parent {
         Some(element) => {
