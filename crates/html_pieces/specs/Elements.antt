@@ -1,41 +1,50 @@
--- Which elements are open at a text, its language, and whether it is left alone.
+-- Which elements are open at a text, its language, and whether it may be translated.
 -- Source: HTML Living Standard, 3.2.6.2 (lang and xml:lang), 3.2.6.3 (translate); 13.1.2.4 (optional tags), 13.2.4.2 (the
 -- stack of open elements), 13.2.6 (tree construction). Simpler than the standard: an end tag of a formatting element, as
 -- `b`, closes all in that element too. None is opened anew in the next paragraph.
 use Rattle.std.specs.Prelude.{◌≡◌, ℕ, ◌-◌, ◌==◌, ◌||◌, ◌&&◌, Bool, true, false, not, List, [], ◌∷◌, ◌++◌, length, map, reverse, codes, nat_eq, nat_lt, Option, Some, None, if◌then◌else◌}
 use Rattle.std.specs.Option.{is_some, unwrap_or, option_map_or}
 use Rattle.std.specs.Cmp.Lexicographic.{pointwise}
-use Rattle.html_pieces.specs.Bytes.{is_white_space, is_same_name, is_same_in, is_named, is_xml}
+use Rattle.html_pieces.specs.Bytes.{is_white_space, is_same_name, is_same_in, is_one_of, is_named, is_xml}
 use Rattle.html_pieces.specs.Names.{name_of, is_foreign_root}
 use Rattle.html_pieces.specs.Pieces.{Piece}
 use Rattle.html_pieces.specs.Groups.{group_of, is_void, ends, stops, bounds, is_root, is_heading}
 use Rattle.html_pieces.specs.References.{read_value}
 use Rattle.html_pieces.specs.Tags.{Attribute, attributes_of, value_of}
-use Rattle.html_pieces.specs.declared.elements.TheConstants.{SVG_POINTS, MATH_POINTS, LEFT_ALONE_NAMES}
+use Rattle.html_pieces.specs.declared.elements.TheConstants.{SVG_POINTS, MATH_POINTS}
 use Rattle.html_pieces.specs.declared.bytes.PageForm.{PageForm}
 use Rattle.html_pieces.specs.declared.groups.ElementGroup.{ElementGroup}
 use Rattle.html_pieces.specs.declared.groups.ElementGroup.TheVariants.{Ordinary, Formatting, Root}
 use Rattle.html_pieces.specs.declared.elements.Element as declared
+use Rattle.html_pieces.specs.declared.elements.Selection as asked
 use Rattle.html_pieces.specs.declared.tokenizer.PieceKind.TheVariants.{StartTag, EmptyTag, EndTag}
 use Rattle.html_pieces.specs.declared.tokenizer.PieceKind.{PieceKind}
 
--- An open element: its name and group, the language of its text, and whether its text is left alone. It is apart by its
--- name or class or those of an element around, and translated by the attribute `translate`. Its content may be foreign,
--- that is, SVG or MathML. It may be one of these or `noscript` or `template` or a formatting element, or stand within one.
--- From a formatting element on, it is altered where a language or `translate` is named.
+-- The elements that a caller asks about: those of some names, and those of a class.
+pub record Selection : Type 0 where
+  pub names : List (List ℕ)
+  pub class : List ℕ
+
+-- The same of a selection as the code holds it.
+abbrev pub as_selection : asked.Selection → Selection
+as_selection held = record { names = map (λ name. name.now) held.names.now; class = held.class.now }
+
+-- An open element: its name and group, and the language of its text. It is selected where it or an element around is of the
+-- caller's selection, and translated by the attribute `translate`. Its content may be foreign, that is, SVG or MathML. It may
+-- be one of these or `noscript` or `template` or a formatting element, or stand within one. It inherits from formatting where
+-- it or an element around names a language or `translate`, and that one is a formatting element or in one.
 pub record Element : Type 0 where
   pub name : List ℕ
   pub group : ElementGroup
   pub language : List ℕ
-  pub is_apart : Bool
+  pub is_selected : Bool
   pub is_translated : Bool
   pub is_foreign : Bool
   pub is_in_drawing : Bool
   pub is_in_noscript : Bool
   pub is_in_template : Bool
   pub is_in_formatting : Bool
-  pub is_altered : Bool
-  pub is_left_alone : Bool
+  pub inherits_from_formatting : Bool
 
 -- A value of more bytes is taken for a language as it is written. No tag of a language is that long.
 abbrev pub longest_language : ℕ
@@ -55,15 +64,14 @@ as_element held = record {
   name = held.name.now;
   group = held.group;
   language = held_language held.has_references held.language.now;
-  is_apart = held.is_apart;
+  is_selected = held.is_selected;
   is_translated = held.is_translated;
   is_foreign = held.is_foreign;
   is_in_drawing = held.is_in_drawing;
   is_in_noscript = held.is_in_noscript;
   is_in_template = held.is_in_template;
   is_in_formatting = held.is_in_formatting;
-  is_altered = held.is_altered;
-  is_left_alone = held.is_left_alone;
+  inherits_from_formatting = held.inherits_from_formatting;
 }
 
 -- ---- what a start tag says
@@ -83,6 +91,10 @@ has_word word text = has_word_from word [] text
 abbrev pub has_class : PageForm → List ℕ → List Attribute → Bool
 has_class form class attributes =
     option_map_or (λ value. has_word class (read_value value)) (value_of form (codes "class") attributes) false
+
+-- An element with this name and these attributes is of a selection.
+abbrev pub selects : PageForm → Selection → List ℕ → List Attribute → Bool
+selects form selection name attributes = is_one_of selection.names name || has_class form selection.class attributes
 
 -- By the value "no" a text may not be translated, by "yes" or nothing it may, and else as around.
 abbrev pub translated_by : Bool → List ℕ → Bool
@@ -124,9 +136,9 @@ abbrev pub is_formatting : ElementGroup → Bool
 is_formatting Formatting = true
 is_formatting _ = false
 
--- Attributes name a language, or whether the text may be translated.
-abbrev pub names_other : PageForm → List Attribute → Bool
-names_other form attributes =
+-- Attributes name what the elements within inherit: a language, or whether the text may be translated.
+abbrev pub has_inherited_attribute : PageForm → List Attribute → Bool
+has_inherited_attribute form attributes =
     is_some (language_value form attributes) || is_some (value_of form (codes "translate") attributes)
 
 -- The content of an element is SVG or MathML.
@@ -134,25 +146,22 @@ abbrev pub holds_foreign : Bool → List ℕ → Bool
 holds_foreign foreign name = (foreign || is_foreign_root name) && not (is_named SVG_POINTS name || is_named MATH_POINTS name)
 
 -- The element that a start tag opens within another one.
-unfoldable pub opened : PageForm → List ℕ → Element → List ℕ → Element
-opened form class around tag =
+unfoldable pub opened : PageForm → Selection → Element → List ℕ → Element
+opened form selection around tag =
     record {
       name = name_of tag;
       group = group_in form around.is_foreign (name_of tag);
       language = language_of form (attributes_of form tag) around.language;
-      is_apart = around.is_apart || is_named LEFT_ALONE_NAMES (name_of tag) || has_class form class (attributes_of form tag);
+      is_selected = around.is_selected || selects form selection (name_of tag) (attributes_of form tag);
       is_translated = is_translated form (attributes_of form tag) around.is_translated;
       is_foreign = holds_foreign around.is_foreign (name_of tag);
       is_in_drawing = around.is_in_drawing || is_foreign_root (name_of tag);
       is_in_noscript = around.is_in_noscript || is_same_name (name_of tag) (codes "noscript");
       is_in_template = around.is_in_template || is_same_name (name_of tag) (codes "template");
       is_in_formatting = around.is_in_formatting || is_formatting (group_in form around.is_foreign (name_of tag));
-      is_altered =
+      inherits_from_formatting =
           (around.is_in_formatting || is_formatting (group_in form around.is_foreign (name_of tag)))
-          && (around.is_altered || names_other form (attributes_of form tag));
-      is_left_alone =
-          around.is_apart || is_named LEFT_ALONE_NAMES (name_of tag) || has_class form class (attributes_of form tag)
-          || not (is_translated form (attributes_of form tag) around.is_translated);
+          && (around.inherits_from_formatting || has_inherited_attribute form (attributes_of form tag));
     }
 
 -- ---- the open elements, the innermost one first
@@ -197,23 +206,23 @@ closed_as form name tag elements =
     if is_root tag then elements else unwrap_or (around_nearest_in_scope form name tag depth_limit elements) elements
 
 -- The open elements after a start tag whose element is of a group.
-abbrev pub begun_as : PageForm → List ℕ → Element → ElementGroup → List ℕ → List Element → List Element
-begun_as form class page new tag elements =
+abbrev pub begun_as : PageForm → Selection → Element → ElementGroup → List ℕ → List Element → List Element
+begun_as form selection page new tag elements =
     if is_void new then before_new new elements
-    else opened form class (innermost page (before_new new elements)) tag ∷ before_new new elements
+    else opened form selection (innermost page (before_new new elements)) tag ∷ before_new new elements
 
 -- A tag with "/>" opens no element in XML, nor of SVG and MathML. HTML ignores the slash of its own elements.
 abbrev pub is_closed_by_slash : PageForm → Bool → List ℕ → Bool
 is_closed_by_slash form foreign name = is_xml form || foreign || is_foreign_root name
 
--- The open elements after a piece of a kind, whose element is of a group. `class` is the class whose elements are left alone.
-abbrev pub elements_by : PageForm → List ℕ → ElementGroup → PieceKind → List ℕ → Element → List Element → List Element
-elements_by form class group StartTag tag page elements = begun_as form class page group tag elements
-elements_by form class group EmptyTag tag page elements =
+-- The open elements after a piece of a kind, whose element is of a group.
+abbrev pub elements_by : PageForm → Selection → ElementGroup → PieceKind → List ℕ → Element → List Element → List Element
+elements_by form selection group StartTag tag page elements = begun_as form selection page group tag elements
+elements_by form selection group EmptyTag tag page elements =
     if is_closed_by_slash form (innermost page elements).is_foreign (name_of tag) then elements
-    else begun_as form class page group tag elements
-elements_by form class group EndTag tag page elements = closed_as form (name_of tag) group elements
-elements_by form class group _ tag page elements = elements
+    else begun_as form selection page group tag elements
+elements_by form selection group EndTag tag page elements = closed_as form (name_of tag) group elements
+elements_by form selection group _ tag page elements = elements
 
 -- The group of the element that a tag begins or ends, within another one.
 abbrev pub group_by : PageForm → Element → PieceKind → List ℕ → ElementGroup
@@ -226,9 +235,15 @@ group_by form around _ bytes = Ordinary
 abbrev pub as_elements : List declared.Element → List Element
 as_elements held = reverse (map as_element held)
 
+-- Open elements, as the code holds them, became those after a start tag, whose element is of a group.
+abbrev pub AreThoseBegun : PageForm → asked.Selection → ElementGroup → List ℕ → Element → List declared.Element → List declared.Element → Type 0
+AreThoseBegun form selection group tag page old new =
+    as_elements new ≡ begun_as form (as_selection selection) page group tag (as_elements old)
+
 -- Open elements, as the code holds them, became those after a piece, whose element is of a group.
-abbrev pub Passes : PageForm → List ℕ → ElementGroup → Piece → Element → List declared.Element → List declared.Element → Type 0
-Passes form class group p page old new = as_elements new ≡ elements_by form class group p.kind p.bytes page (as_elements old)
+abbrev pub AreThoseAfter : PageForm → asked.Selection → ElementGroup → Piece → Element → List declared.Element → List declared.Element → Type 0
+AreThoseAfter form selection group p page old new =
+    as_elements new ≡ elements_by form (as_selection selection) group p.kind p.bytes page (as_elements old)
 
 -- The page as what is around all its elements.
 abbrev pub page_element : List ℕ → Element
@@ -236,13 +251,12 @@ page_element language = record {
   name = [];
   group = Root;
   language = language;
-  is_apart = false;
+  is_selected = false;
   is_translated = true;
   is_foreign = false;
   is_in_drawing = false;
   is_in_noscript = false;
   is_in_template = false;
   is_in_formatting = false;
-  is_altered = false;
-  is_left_alone = false;
+  inherits_from_formatting = false;
 }

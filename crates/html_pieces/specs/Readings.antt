@@ -8,11 +8,11 @@ use Rattle.std.specs.Cmp.Lexicographic.{pointwise}
 use Rattle.html_pieces.specs.Bytes.{is_white_space, is_alpha, is_same_name, is_one_of, is_named, names_in, is_xml}
 use Rattle.html_pieces.specs.Names.{name_of, raw_element, raw_end_tag, is_foreign_root}
 use Rattle.html_pieces.specs.Forms.{after_order_mark, is_start}
-use Rattle.html_pieces.specs.Pieces.{Piece, is_script}
+use Rattle.html_pieces.specs.Pieces.{Piece, as_piece, is_script}
 use Rattle.html_pieces.specs.References.{has_ampersand}
 use Rattle.html_pieces.specs.Groups.{ends, stops, bounds, is_in, is_same_group, is_table_part, is_heading, is_root, is_special, is_void}
 use Rattle.html_pieces.specs.declared.groups.TheConstants.{HEADING_NAMES, WITHOUT_TEXT, WITHOUT_END_TAGS, CHOICES, AROUND_CELLS, AROUND_ROWS, AROUND_ROW_GROUPS, AROUND_COLUMNS, CLOSING_NO_BLOCKS}
-use Rattle.html_pieces.specs.Elements.{Element, as_elements, innermost, before_new, elements_by, group_by, depth_limit}
+use Rattle.html_pieces.specs.Elements.{Selection, as_selection, Element, as_element, as_elements, innermost, before_new, elements_by, group_by, depth_limit}
 use Rattle.html_pieces.specs.declared.bytes.PageForm.{PageForm}
 use Rattle.html_pieces.specs.declared.groups.ElementGroup.{ElementGroup}
 use Rattle.html_pieces.specs.declared.groups.ElementGroup.TheVariants.{Ordinary, Formatting, Paragraph, Heading, Block, Item, Term, Choice, Choices, Ruby, Cell, Row, Rows, Caption, Columns, Column, Table, Scope, Root, Head, HeadContent, HeadVoid, Template}
@@ -21,6 +21,9 @@ use Rattle.html_pieces.specs.declared.readings.TheConstants.{LEAVING_PHRASE_NAME
 use Rattle.html_pieces.specs.declared.readings.Phase.{Phase}
 use Rattle.html_pieces.specs.declared.readings.Phase.TheVariants as reached
 use Rattle.html_pieces.specs.declared.readings.Reading as declared
+use Rattle.html_pieces.specs.declared.elements.Selection as asked
+use Rattle.html_pieces.specs.declared.elements.Element as held
+use Rattle.html_pieces.specs.declared.tokenizer.Piece as cut
 use Rattle.html_pieces.specs.declared.tokenizer.PieceKind.{PieceKind}
 use Rattle.html_pieces.specs.declared.tokenizer.PieceKind.TheVariants.{Text, Reference, StartTag, EmptyTag, EndTag, Other}
 use Rattle.html_pieces.specs.declared.tokenizer.RawElement.{RawElement}
@@ -255,7 +258,7 @@ is_content_alike around name =
 -- named between the two. (13.2.6.4.7, the adoption agency algorithm.)
 abbrev pub may_be_adopted : Element → ElementGroup → List ℕ → Bool
 may_be_adopted within new name =
-    within.is_altered && not within.is_in_drawing && is_special new && not (is_void new) && not (is_foreign_root name)
+    within.inherits_from_formatting && not within.is_in_drawing && is_special new && not (is_void new) && not (is_foreign_root name)
 
 -- A start tag of HTML is read alike by all parsers, outside of SVG and MathML.
 abbrev pub is_html_start_alike : Element → Reading → ElementGroup → List ℕ → Bool
@@ -450,20 +453,25 @@ standard_after standard phase Other bytes = standard_after_other standard phase 
 standard_after standard phase _ bytes = standard
 
 -- The reading after a piece of one kind, whose element is of a group.
-abbrev pub read_by : PageForm → List ℕ → Element → Reading → ElementGroup → Piece → Reading
-read_by form class page reading group p = record {
-  elements = elements_by form class group p.kind p.bytes page reading.elements;
+abbrev pub read_by : PageForm → Selection → Element → Reading → ElementGroup → Piece → Reading
+read_by form selection page reading group p = record {
+  elements = elements_by form selection group p.kind p.bytes page reading.elements;
   phase = phase_after (innermost page reading.elements) reading.phase group p.kind p.bytes;
   is_standard = standard_after reading.is_standard reading.phase p.kind p.bytes;
   is_certain = is_alike_by form page reading group p.kind p.bytes;
 }
 
 -- The reading after a piece. Once it is uncertain, it stays as it is.
-abbrev pub reading_after : PageForm → List ℕ → Element → Reading → Piece → Reading
-reading_after form class page reading p =
+abbrev pub reading_after : PageForm → Selection → Element → Reading → Piece → Reading
+reading_after form selection page reading p =
     if reading.is_certain
-    then read_by form class page reading (group_by form (innermost page reading.elements) p.kind p.bytes) p
+    then read_by form selection page reading (group_by form (innermost page reading.elements) p.kind p.bytes) p
     else reading
+
+-- The reading after a piece, by what the code holds.
+abbrev pub next_reading : PageForm → asked.Selection → held.Element → declared.Reading → cut.Piece → Reading
+next_reading form selection page reading piece =
+    reading_after form (as_selection selection) (as_element page) (as_reading reading) (as_piece piece)
 
 -- A piece is text of the body, whatever is around it.
 abbrev pub is_read_text : PieceKind → List ℕ → Bool
@@ -485,28 +493,14 @@ has_late_root seen (p ∷ ps) = seen && is_root_start p.kind p.bytes || has_late
 abbrev pub at_start : PageForm → List Piece → Reading
 at_start form pieces = started (is_xml form || not (has_late_root false pieces))
 
--- A text is left alone where the reading is uncertain, where it is elsewhere in the tree, and in XML outside of the root.
-abbrev pub is_unread : PageForm → Reading → Element → Bool
-is_unread form reading around =
+-- A text may be elsewhere in the tree than in the innermost open element: where the reading is uncertain, where that element
+-- holds no text, and in XML outside of the root.
+abbrev pub may_be_elsewhere : PageForm → Reading → Element → Bool
+may_be_elsewhere form reading around =
     not reading.is_certain || holds_no_text around.group || is_xml form && length reading.elements == 0
 
--- The element that a text is in, by a reading.
-abbrev pub standing_in : PageForm → Reading → Element → Element
-standing_in form reading around = record {
-  name = around.name;
-  group = around.group;
-  language = around.language;
-  is_apart = around.is_apart;
-  is_translated = around.is_translated;
-  is_foreign = around.is_foreign;
-  is_in_drawing = around.is_in_drawing;
-  is_in_noscript = around.is_in_noscript;
-  is_in_template = around.is_in_template;
-  is_in_formatting = around.is_in_formatting;
-  is_altered = around.is_altered;
-  is_left_alone = around.is_left_alone || is_unread form reading around;
-}
-
--- The element that a text is in.
-abbrev pub standing : PageForm → Element → Reading → Element
-standing form page reading = standing_in form reading (innermost page reading.elements)
+-- The element that a text is in: the innermost open one, or the page. There is none where the text may be elsewhere.
+abbrev pub parent_of_text : PageForm → Element → Reading → Option Element
+parent_of_text form page reading =
+    if may_be_elsewhere form reading (innermost page reading.elements) then None
+    else Some (innermost page reading.elements)

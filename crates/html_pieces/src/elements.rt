@@ -4,12 +4,11 @@ ghost use Rattle.std.specs.Prelude.{◌≡◌, ◌≤◌, ◌&&◌, ◌||◌, �
 ghost use Rattle.std.specs.Option.{option_map};
 ghost use Rattle.html_pieces.specs.References.{read_value};
 ghost use Rattle.html_pieces.specs.Tags.{as_attribute};
-ghost use Rattle.html_pieces.specs.Bytes.{is_named};
-ghost use Rattle.html_pieces.specs.Elements.{as_element, as_elements};
+ghost use Rattle.html_pieces.specs.Elements.{as_element, as_elements, as_selection, selects};
 ghost use Rattle.html_pieces.specs.Elements.{has_word, has_class, translated_by, is_translated, value_of_either};
 ghost use Rattle.html_pieces.specs.Elements.{language_value, held_language, language_by, language_of};
-ghost use Rattle.html_pieces.specs.Elements.{is_formatting, names_other, group_in, holds_foreign, opened, innermost, before_new, closed_as};
-ghost use Rattle.html_pieces.specs.Elements.{begun_as, is_closed_by_slash, group_by, Passes};
+ghost use Rattle.html_pieces.specs.Elements.{is_formatting, has_inherited_attribute, group_in, holds_foreign, opened, innermost, before_new, closed_as};
+ghost use Rattle.html_pieces.specs.Elements.{is_closed_by_slash, group_by, AreThoseBegun, AreThoseAfter};
 ghost use Rattle.html_pieces.specs.Pieces.{as_piece};
 ghost use Rattle.html_pieces.specs.Elements.{page_element};
 
@@ -20,6 +19,17 @@ use crate::tags::{Attribute, attributes, value_of};
 use crate::tokenizer::{Piece, PieceKind, is_foreign_root, name_of};
 use std::alloc::{AllocError, Global};
 
+/// The elements that a caller asks about: those of some names, and those of a class.
+///
+/// [`Element::is_selected`] says of each open element whether it is in one of these.
+#[derive(Clone, Copy, Debug)]
+pub struct Selection<'s> {
+    /// Names of elements, where ASCII capitals and small letters are alike.
+    pub names: &'s [&'s [u8]],
+    /// One of the words of the attribute `class`.
+    pub class: &'s [u8],
+}
+
 /// An open element.
 #[derive(Clone, Copy, Debug)]
 pub struct Element<'t> {
@@ -29,8 +39,8 @@ pub struct Element<'t> {
     pub language: &'t [u8],
     /// Whether its language may have character references, which are to be read.
     pub has_references: bool,
-    /// Whether it or an element around it is one whose text is left as it is.
-    pub is_apart: bool,
+    /// Whether it or an element around it is of the selection of the caller.
+    pub is_selected: bool,
     /// Whether its text may be translated.
     pub is_translated: bool,
     /// Whether its content is SVG or MathML.
@@ -43,10 +53,8 @@ pub struct Element<'t> {
     pub is_in_template: bool,
     /// Whether it is a formatting element, as `b`, or is in one.
     pub is_in_formatting: bool,
-    /// Whether a language or `translate` is named from a formatting element on.
-    pub is_altered: bool,
-    /// Whether its text is left as it is.
-    pub is_left_alone: bool,
+    /// Whether a formatting element around it, or an element in one, names a language or `translate`; itself included.
+    pub inherits_from_formatting: bool,
 }
 
 // A value of more bytes is taken for a language as it is written.
@@ -230,9 +238,9 @@ const fn is_formatting(group: ElementGroup) -> bool
     matches!(group, ElementGroup::Formatting)
 }
 
-// Whether attributes name a language, or whether the text may be translated.
-fn names_other(form: PageForm, attributes: &[Attribute<'_>]) -> bool
-    ensures { result ≡ names_other form (map as_attribute attributes.now) }
+// Whether attributes name what the elements within inherit: a language, or whether the text may be translated.
+fn has_inherited_attribute(form: PageForm, attributes: &[Attribute<'_>]) -> bool
+    ensures { result ≡ has_inherited_attribute form (map as_attribute attributes.now) }
 {
     language_value(form, attributes).is_some() || value_of(form, attributes, b"translate").is_some()
 }
@@ -244,16 +252,16 @@ fn is_in_formatting(around: bool, group: ElementGroup) -> bool
     around || is_formatting(group)
 }
 
-// Whether a language or `translate` is named from a formatting element on, by an element or one around it.
-fn is_altered(
+// Whether a formatting element, or an element in one, names a language or `translate`: an element or one around it.
+fn inherits_from_formatting(
     form: PageForm,
     in_formatting: bool,
     around: bool,
     attributes: &[Attribute<'_>],
 ) -> bool
-    ensures { result ≡ (in_formatting && (around || names_other form (map as_attribute attributes.now))) }
+    ensures { result ≡ (in_formatting && (around || has_inherited_attribute form (map as_attribute attributes.now))) }
 {
-    in_formatting && (around || names_other(form, attributes))
+    in_formatting && (around || has_inherited_attribute(form, attributes))
 }
 
 /// Elements of SVG whose content is HTML: its integration points.
@@ -270,37 +278,21 @@ fn holds_foreign(foreign: bool, name: &[u8]) -> bool
         && !(is_one_of(name, &SVG_POINTS) || is_one_of(name, &MATH_POINTS))
 }
 
-/// Elements whose text is left as it is: code and the like, drawings and formulas, and texts that forms send or windows
-/// show. So are those that are not shown, or read otherwise with scripting than without.
-pub const LEFT_ALONE_NAMES: [&[u8]; 21] = [
-    b"code",
-    b"iframe",
-    b"kbd",
-    b"listing",
-    b"math",
-    b"noembed",
-    b"noframes",
-    b"noscript",
-    b"option",
-    b"plaintext",
-    b"pre",
-    b"samp",
-    b"script",
-    b"style",
-    b"svg",
-    b"template",
-    b"textarea",
-    b"title",
-    b"tt",
-    b"var",
-    b"xmp",
-];
-
-// Whether the text of an element of this name is left as it is.
-fn is_left_alone_name(name: &[u8]) -> bool
-    ensures { result ≡ is_named LEFT_ALONE_NAMES name.now }
+// Whether an element of a name and with attributes is of a selection.
+fn selects(
+    alloc: Global,
+    form: PageForm,
+    selection: &Selection<'_>,
+    name: &[u8],
+    attributes: &[Attribute<'_>],
+) -> Result<bool, AllocError>
+    ensures { IfOk result (λ is. is ≡ selects form (as_selection selection.now) name.now (map as_attribute attributes.now)) }
 {
-    is_one_of(name, &LEFT_ALONE_NAMES)
+    if is_one_of(name, selection.names) {
+        Ok(true)
+    } else {
+        has_class(alloc, form, selection.class, attributes)
+    }
 }
 
 // The element that a start tag opens.
@@ -308,16 +300,15 @@ fn is_left_alone_name(name: &[u8]) -> bool
 fn opened<'t>(
     alloc: Global,
     form: PageForm,
-    class: &[u8],
+    selection: &Selection<'_>,
     around: Element<'t>,
     tag: &'t [u8],
 ) -> Result<Element<'t>, AllocError>
-    ensures { IfOk result (λ element. as_element element ≡ opened form class.now (as_element around.entry) tag.now) }
+    ensures { IfOk result (λ element. as_element element ≡ opened form (as_selection selection.now) (as_element around.entry) tag.now) }
 {
     let attributes = attributes(alloc, form, tag)?;
     let name = name_of(tag);
-    let has_class = has_class(alloc, form, class, &attributes)?;
-    let is_apart = around.is_apart || is_left_alone_name(name) || has_class;
+    let is_selected = around.is_selected || selects(alloc, form, selection, name, &attributes)?;
     let is_translated = is_translated(alloc, form, &attributes, around.is_translated)?;
     let language = language_of(form, &attributes, around);
     let group = group_in(form, around.is_foreign, name);
@@ -327,15 +318,19 @@ fn opened<'t>(
         group,
         language: language.written,
         has_references: language.has_references,
-        is_apart,
+        is_selected,
         is_translated,
         is_foreign: holds_foreign(around.is_foreign, name),
         is_in_drawing: around.is_in_drawing || is_foreign_root(name),
         is_in_noscript: around.is_in_noscript || is_same_name(name, b"noscript"),
         is_in_template: around.is_in_template || is_same_name(name, b"template"),
         is_in_formatting,
-        is_altered: is_altered(form, is_in_formatting, around.is_altered, &attributes),
-        is_left_alone: is_apart || !is_translated,
+        inherits_from_formatting: inherits_from_formatting(
+            form,
+            is_in_formatting,
+            around.inherits_from_formatting,
+            &attributes,
+        ),
     })
 }
 
@@ -429,13 +424,13 @@ fn begin<'t>(
     nest: &mut Vec<Element<'t>>,
     alloc: Global,
     form: PageForm,
-    class: &[u8],
+    selection: &Selection<'_>,
     page: Element<'t>,
     new: ElementGroup,
     tag: &'t [u8],
 ) -> Result<(), AllocError>
-    ensures begun { OnOk result (as_elements nest.new.items
-        ≡ begun_as form class.now (as_element page.entry) new tag.now (as_elements nest.old.items)) }
+    ensures begun { OnOk result (AreThoseBegun form selection.now new tag.now (as_element page.entry)
+        nest.old.items nest.new.items) }
     ensures unchanged_on_error { OnErr result (nest.new.items ≡ nest.old.items) }
 {
     let kept = before_new(nest, new);
@@ -443,7 +438,7 @@ fn begin<'t>(
         nest.truncate(kept);
         return Ok(());
     }
-    let element = opened(alloc, form, class, innermost(page, &nest[..kept]), tag)?;
+    let element = opened(alloc, form, selection, innermost(page, &nest[..kept]), tag)?;
     put_after(nest, kept, element)
 }
 
@@ -468,30 +463,29 @@ pub(crate) fn group_by(form: PageForm, around: Element<'_>, piece: Piece<'_>) ->
 
 // Opens and closes elements of `nest`, as a piece says whose element is of a group.
 //
-// The text of elements with the class `class` is left as it is. The only error is that memory was refused; `nest` is
-// then unchanged.
-pub(crate) fn pass<'t>(
+// The only error is that memory was refused; `nest` is then unchanged.
+pub(crate) fn open_and_close<'t>(
     nest: &mut Vec<Element<'t>>,
     alloc: Global,
     form: PageForm,
-    class: &[u8],
+    selection: &Selection<'_>,
     page: Element<'t>,
     group: ElementGroup,
     piece: Piece<'t>,
 ) -> Result<(), AllocError>
-    ensures passed { OnOk result (Passes form class.now group (as_piece piece.entry) (as_element page.entry)
+    ensures changed { OnOk result (AreThoseAfter form selection.now group (as_piece piece.entry) (as_element page.entry)
         nest.old.items nest.new.items) }
     ensures unchanged_on_error { OnErr result (nest.new.items ≡ nest.old.items) }
 {
     let tag = piece.text.as_bytes();
     match piece.kind {
-        PieceKind::StartTag => begin(nest, alloc, form, class, page, group, tag),
+        PieceKind::StartTag => begin(nest, alloc, form, selection, page, group, tag),
         PieceKind::EmptyTag => {
             let foreign = innermost(page, nest).is_foreign;
             if is_closed_by_slash(form, foreign, name_of(tag)) {
                 Ok(())
             } else {
-                begin(nest, alloc, form, class, page, group, tag)
+                begin(nest, alloc, form, selection, page, group, tag)
             }
         }
         PieceKind::EndTag => {
@@ -512,14 +506,13 @@ pub fn page_element(language: &[u8]) -> Element<'_>
         group: ElementGroup::Root,
         language,
         has_references: false,
-        is_apart: false,
+        is_selected: false,
         is_translated: true,
         is_foreign: false,
         is_in_drawing: false,
         is_in_noscript: false,
         is_in_template: false,
         is_in_formatting: false,
-        is_altered: false,
-        is_left_alone: false,
+        inherits_from_formatting: false,
     }
 }

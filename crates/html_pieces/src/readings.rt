@@ -1,7 +1,7 @@
 //! How far a page is read alike by all parsers, whatever its tree is.
 
 ghost use Rattle.std.specs.Prelude.{◌≡◌, ◌==◌, ◌||◌, ◌&&◌, not, drop, map, Bool, OnOk, OnErr};
-ghost use Rattle.std.specs.Option.{option_map_or};
+ghost use Rattle.std.specs.Option.{option_map, option_map_or};
 ghost use Rattle.html_pieces.specs.Elements.{as_element, as_elements, depth_limit};
 ghost use Rattle.html_pieces.specs.Readings.{as_reading, at_start, has_text, may_be_adopted, is_read_text, is_root_start, has_late_root};
 ghost use Rattle.html_pieces.specs.Readings.{begins_with_word, mentions, begins_with_letter, has_content};
@@ -18,14 +18,15 @@ ghost use Rattle.html_pieces.specs.Readings.{is_left_out_in, closes_alike_from, 
 ghost use Rattle.html_pieces.specs.Readings.{is_html_end_alike, is_end_alike, is_content_here, is_odd_section, is_html_other_alike};
 ghost use Rattle.html_pieces.specs.Readings.{is_html_alike, stays_raw, is_xml_start_alike, is_xml_empty_alike, is_xml_other_alike};
 ghost use Rattle.html_pieces.specs.Readings.{is_xml_alike, is_in_raw_noscript, stays_in_noscript, is_alike_by, body_unless, head_from};
-ghost use Rattle.html_pieces.specs.Readings.{phase_after_start, phase_after_other, phase_after, reading_after};
-ghost use Rattle.html_pieces.specs.Readings.{standard_after_other, standard_after, is_unread, standing};
+ghost use Rattle.html_pieces.specs.Readings.{phase_after_start, phase_after_other, phase_after, next_reading};
+ghost use Rattle.html_pieces.specs.Readings.{standard_after_other, standard_after, may_be_elsewhere, parent_of_text};
 ghost use Rattle.html_pieces.specs.Names.{name_of};
 ghost use Rattle.html_pieces.specs.Pieces.{as_piece, is_script};
 
 use crate::bytes::{PageForm, is_alpha, is_one_of, is_same_name, is_white_space};
 use crate::elements::{
-    DEPTH_LIMIT, Element, MATH_POINTS, SVG_POINTS, before_new, group_by, innermost,
+    DEPTH_LIMIT, Element, MATH_POINTS, SVG_POINTS, Selection, before_new, group_by, innermost,
+    open_and_close,
 };
 use crate::forms::{after_order_mark, is_start};
 use crate::groups::ElementGroup::*;
@@ -500,7 +501,7 @@ fn is_content_alike(around: Element<'_>, name: &[u8]) -> bool
 fn may_be_adopted(within: Element<'_>, new: ElementGroup, name: &[u8]) -> bool
     ensures { result ≡ may_be_adopted (as_element within.entry) new name.now }
 {
-    within.is_altered
+    within.inherits_from_formatting
         && !within.is_in_drawing
         && is_special(new)
         && !is_void(new)
@@ -882,20 +883,20 @@ fn standard_after(standard: bool, phase: Phase, piece: Piece<'_>) -> bool
     }
 }
 
-/// Goes on in a reading, over a piece.
+/// Advances a reading over a piece.
 ///
-/// The text of elements with the class `class` is left as it is. The only error is that memory was refused; the reading
-/// is then unchanged.
-pub fn pass<'t>(
+/// The elements of `selection` are noted as the caller's. The only error is that memory was refused; the reading is then
+/// unchanged.
+pub fn advance<'t>(
     reading: &mut Reading<'t>,
     alloc: Global,
     form: PageForm,
-    class: &[u8],
+    selection: &Selection<'_>,
     page: Element<'t>,
     piece: Piece<'t>,
 ) -> Result<(), AllocError>
-    ensures passed { OnOk result (as_reading reading.new
-        ≡ reading_after form class.now (as_element page.entry) (as_reading reading.old) (as_piece piece.entry)) }
+    ensures advanced { OnOk result (as_reading reading.new
+        ≡ next_reading form selection.now page.entry reading.old piece.entry) }
     ensures unchanged_on_error { OnErr result (as_reading reading.new ≡ as_reading reading.old) }
 {
     if !reading.is_certain {
@@ -904,11 +905,11 @@ pub fn pass<'t>(
     let around = innermost(page, &reading.elements);
     let group = group_by(form, around, piece);
     let is_certain = is_alike(form, page, reading, group, piece);
-    crate::elements::pass(
+    open_and_close(
         &mut reading.elements,
         alloc,
         form,
-        class,
+        selection,
         page,
         group,
         piece,
@@ -955,25 +956,29 @@ fn has_late_root(pieces: &[Piece<'_>]) -> bool
     false
 }
 
-// Reports whether a text is left alone where it is, by a reading.
-fn is_unread(form: PageForm, reading: &Reading<'_>, around: Element<'_>) -> bool
-    ensures { result ≡ is_unread form (as_reading reading.now) (as_element around.entry) }
+// Reports whether a text may be elsewhere in the tree than in the innermost open element.
+fn may_be_elsewhere(form: PageForm, reading: &Reading<'_>, around: Element<'_>) -> bool
+    ensures { result ≡ may_be_elsewhere form (as_reading reading.now) (as_element around.entry) }
 {
     !reading.is_certain
         || holds_no_text(around.group)
         || form.is_xml() && reading.elements.is_empty()
 }
 
-/// Returns the element that a text is in.
+/// Returns the element that a text is in: the innermost open one, or the page outside of all.
 ///
-/// Its text is left as it is where the reading is uncertain or the text is elsewhere in the tree. So it is in XML
-/// outside of the root.
-pub fn standing<'t>(form: PageForm, page: Element<'t>, reading: &Reading<'t>) -> Element<'t>
-    ensures { as_element result ≡ standing form (as_element page.entry) (as_reading reading.now) }
+/// There is none where the reading is uncertain, where the text is elsewhere in the tree, and in XML outside of the root.
+pub fn parent_of_text<'t>(
+    form: PageForm,
+    page: Element<'t>,
+    reading: &Reading<'t>,
+) -> Option<Element<'t>>
+    ensures { option_map (λ element. as_element element) result ≡ parent_of_text form (as_element page.entry) (as_reading reading.now) }
 {
     let around = innermost(page, &reading.elements);
-    Element {
-        is_left_alone: around.is_left_alone || is_unread(form, reading, around),
-        ..around
+    if may_be_elsewhere(form, reading, around) {
+        None
+    } else {
+        Some(around)
     }
 }

@@ -7,7 +7,7 @@ use Rattle.hyphenation_html.specs.declared.languages.LanguageDictionary.{Languag
 use Rattle.hyphenation_html.specs.Words.{within_limits}
 use Rattle.any_dictionary.specs.Dictionaries.{places_by}
 use Rattle.html_pieces.specs.Elements.{Element}
-use Rattle.hyphenation_html.specs.Places.{is_left_alone}
+use Rattle.hyphenation_html.specs.LeftAlone.{is_left_alone}
 use Rattle.hyphenation_html.specs.Private.Marked.{dictionary_in, marked_in, marked_text}
 use Rattle.std.specs.Option.{option_map_or}
 use Rattle.hyphenation_html.specs.declared.settings.Settings.{Settings}
@@ -57,9 +57,10 @@ unless_alone settings mark text tag before after languages false =
     ∙ ap (λ o. option_map_or (λ l. marked_text l.1 mark before after text) o text) (sym (best_alike settings tag languages))
 
 -- A text in an element, by the dictionary that is found for it.
-pub marked_by_found : (settings : Settings) (mark text : List ℕ) (element : Element) (before after : Bool) (languages : List LanguageDictionary) (found : Option (List ℕ × AnyDictionary))
+pub marked_by_found : (settings : Settings) (mark text : List ℕ) (element : Option Element) (before after : Bool) (languages : List LanguageDictionary) (found : Option (List ℕ × AnyDictionary))
     → found ≡ dictionary_in languages element text
     → option_map_or (λ l. marked_text (within_limits settings.min_word settings.skip_capitals (places_by l.1)) mark before after text) found text
     ≡ marked_in (languages_by settings languages) mark element before after text
-marked_by_found settings mark text element before after languages found is =
+marked_by_found settings mark text None before after languages found is = ap (by_found settings mark text before after) is
+marked_by_found settings mark text (Some element) before after languages found is =
     ap (by_found settings mark text before after) is ∙ unless_alone settings mark text element.language before after languages (is_left_alone element text)

@@ -14,7 +14,8 @@ use Rattle.hyphenation_html.specs.Dictionaries.{Breaks}
 use Rattle.hyphenation_html.specs.Languages.{Language, best_of}
 use Rattle.hyphenation_html.specs.Laws.{soft_hyphen}
 use Rattle.hyphenation_html.specs.Words.{is_left_whole}
-use Rattle.hyphenation_html.specs.Places.{is_left_alone, shifted, words_places, token_places, tokens_places, text_places, places_in}
+use Rattle.hyphenation_html.specs.LeftAlone.{has_text_left_alone, is_left_alone}
+use Rattle.hyphenation_html.specs.Places.{shifted, words_places, token_places, tokens_places, text_places, places_in}
 
 either_none : (c : Bool) (xs : List ℕ) → xs ≡ [] → (if c then [] else xs) ≡ []
 either_none true xs e = refl
@@ -48,8 +49,9 @@ none_by : (before after : Bool) (text : List ℕ) (o : Option Language) → has_
 none_by before after text None e = refl
 none_by before after text (Some language) e = white_places language.1 before after text e
 
-none_in_white : (languages : List Language) (element : Element) (before after : Bool) (text : List ℕ) → has_content text ≡ false → places_in languages element before after text ≡ []
-none_in_white languages element before after text e =
+none_in_white : (languages : List Language) (element : Option Element) (before after : Bool) (text : List ℕ) → has_content text ≡ false → places_in languages element before after text ≡ []
+none_in_white languages None before after text e = refl
+none_in_white languages (Some element) before after text e =
     either_none (is_left_alone element text) (option_map_or (λ language. text_places language.1 before after text) (best_of element.language languages) [])
     (none_by before after text (best_of element.language languages) e)
 
@@ -62,7 +64,7 @@ content_cases text [] c e none = e
 content_cases text (p ∷ ps) true e none = mark_seen (take p text) (drop p (with_marks soft_hyphen text ps))
 content_cases text (p ∷ ps) false e none = absurd (cc (none refl))
 
-same_content : (languages : List Language) (element : Element) (before after : Bool) (text : List ℕ) → has_content (with_marks soft_hyphen text (places_in languages element before after text)) ≡ has_content text
+same_content : (languages : List Language) (element : Option Element) (before after : Bool) (text : List ℕ) → has_content (with_marks soft_hyphen text (places_in languages element before after text)) ≡ has_content text
 same_content languages element before after text =
     content_cases text (places_in languages element before after text) (has_content text) refl (none_in_white languages element before after text)
 
@@ -81,17 +83,18 @@ marks_begin_none (b ∷ (c ∷ (d ∷ ds))) (suc (suc (suc p)) ∷ ps) e = e
 as_content : (text : List ℕ) → begins_with_order_mark text ≡ false → has_text text ≡ has_content text
 as_content text e = ap (λ c. has_content (if c then drop 3 text else text)) e
 
-same_cases : (languages : List Language) (element : Element) (before after : Bool) (text : List ℕ) (c : Bool) → begins_with_order_mark text ≡ c
+same_cases : (languages : List Language) (element : Option Element) (before after : Bool) (text : List ℕ) (c : Bool) → begins_with_order_mark text ≡ c
     → has_text (with_marks soft_hyphen text (places_in languages element before after text)) ≡ has_text text
-same_cases languages element before after text true e =
+same_cases languages None before after text c e = refl
+same_cases languages (Some element) before after text true e =
     ap (λ c. has_text (with_marks soft_hyphen text (if c then [] else option_map_or (λ language. text_places language.1 before after text) (best_of element.language languages) [])))
-    (or_right element.is_left_alone (begins_with_order_mark text) e)
-same_cases languages element before after text false e =
-    let places = places_in languages element before after text in
+    (or_right (has_text_left_alone element) (begins_with_order_mark text) e)
+same_cases languages (Some element) before after text false e =
+    let places = places_in languages (Some element) before after text in
     as_content (with_marks soft_hyphen text places) (marks_begin_none text places e)
-    ∙ same_content languages element before after text ∙ sym (as_content text e)
+    ∙ same_content languages (Some element) before after text ∙ sym (as_content text e)
 
 -- A text with its marks has more than white space where it has without them, except for a byte order mark.
-pub same_text : (languages : List Language) (element : Element) (before after : Bool) (text : List ℕ)
+pub same_text : (languages : List Language) (element : Option Element) (before after : Bool) (text : List ℕ)
     → has_text (with_marks soft_hyphen text (places_in languages element before after text)) ≡ has_text text
 same_text languages element before after text = same_cases languages element before after text (begins_with_order_mark text) refl

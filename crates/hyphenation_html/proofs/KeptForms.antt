@@ -1,5 +1,5 @@
 -- A page has its form with its soft hyphens, too.
-use Rattle.std.proofs.Common.{◌≡◌, ℕ, Bool, true, false, List, [], ◌∷◌, refl, ap, sym, ◌∙◌, if◌then◌else◌}
+use Rattle.std.proofs.Common.{◌≡◌, ℕ, Bool, true, false, List, [], ◌∷◌, refl, ap, sym, ◌∙◌, Option, Some, None, if◌then◌else◌}
 use Rattle.std.proofs.lemmas.Bool.{or_right}
 use Rattle.std.specs.Option.{option_map_or}
 use Rattle.std.specs.Str.{IsUtf8}
@@ -11,9 +11,10 @@ use Rattle.html_pieces.specs.Forms.{begins_with_order_mark, form_of}
 use Rattle.html_pieces.specs.Languages.{language_named, with_named, with_those_of, languages_of}
 use Rattle.html_pieces.specs.Laws.{joined_pieces, AreUtf8, HaveOtherTexts, KeepsOrderMark, FormStays}
 use Rattle.html_pieces.specs.Pieces.{Piece, pieces_of}
-use Rattle.html_pieces.specs.Readings.{Reading, at_start, standing, reading_after}
+use Rattle.html_pieces.specs.Readings.{Reading, at_start, parent_of_text, reading_after}
 use Rattle.hyphenation_html.specs.Languages.{Language, best_of}
 use Rattle.hyphenation_html.specs.Laws.{soft_hyphen}
+use Rattle.hyphenation_html.specs.LeftAlone.{left_alone_elements, has_text_left_alone}
 use Rattle.hyphenation_html.specs.Places.{places_in}
 use Rattle.hyphenation_html.specs.Touching.{touched_after, touched_before}
 use Rattle.hyphenation_html.specs.Private.Fit.{AllFit}
@@ -25,25 +26,26 @@ use Rattle.hyphenation_html.proofs.SecondPages.{marked_list, marked_list-joins, 
 
 -- ---- the byte order mark
 
-mark_kept : (languages : List Language) (element : Element) (before after : Bool) (kind : PieceKind) (bytes : List ℕ) → begins_with_order_mark bytes ≡ true
+mark_kept : (languages : List Language) (element : Option Element) (before after : Bool) (kind : PieceKind) (bytes : List ℕ) → begins_with_order_mark bytes ≡ true
     → marked_piece languages soft_hyphen element before after kind bytes ≡ bytes
-mark_kept languages element before after Text bytes e =
+mark_kept languages None before after Text bytes e = refl
+mark_kept languages (Some element) before after Text bytes e =
     ap (λ c. if c then bytes else option_map_or (λ language. marked_text language.1 soft_hyphen before after bytes) (best_of element.language languages) bytes)
-    (or_right element.is_left_alone (begins_with_order_mark bytes) e)
+    (or_right (has_text_left_alone element) (begins_with_order_mark bytes) e)
 mark_kept languages element before after Reference bytes e = refl
 mark_kept languages element before after StartTag bytes e = refl
 mark_kept languages element before after EmptyTag bytes e = refl
 mark_kept languages element before after EndTag bytes e = refl
 mark_kept languages element before after Other bytes e = refl
 
-mark_cases : (laws : Laws) (languages : List Language) (element : Element) (before after : Bool) (text : List ℕ) (c : Bool) → begins_with_order_mark text ≡ c → AllFit languages → IsUtf8 text
+mark_cases : (laws : Laws) (languages : List Language) (element : Option Element) (before after : Bool) (text : List ℕ) (c : Bool) → begins_with_order_mark text ≡ c → AllFit languages → IsUtf8 text
     → begins_with_order_mark (marked_piece languages soft_hyphen element before after Text text) ≡ begins_with_order_mark text
 mark_cases laws languages element before after text true e f u = ap begins_with_order_mark (mark_kept languages element before after Text text e)
 mark_cases laws languages element before after text false e f u =
     let m = piece_marked laws languages soft_hyphen element before after Text text f u in
     ap begins_with_order_mark m.is ∙ marks_begin_none text (places_in languages element before after text) e ∙ sym e
 
-mark_stays : (laws : Laws) (languages : List Language) (element : Element) (before after : Bool) (kind : PieceKind) (bytes : List ℕ) → AllFit languages → IsUtf8 bytes
+mark_stays : (laws : Laws) (languages : List Language) (element : Option Element) (before after : Bool) (kind : PieceKind) (bytes : List ℕ) → AllFit languages → IsUtf8 bytes
     → begins_with_order_mark (marked_piece languages soft_hyphen element before after kind bytes) ≡ begins_with_order_mark bytes
 mark_stays laws languages element before after Text bytes f u = mark_cases laws languages element before after bytes (begins_with_order_mark bytes) refl f u
 mark_stays laws languages element before after Reference bytes f u = refl
@@ -56,7 +58,7 @@ marks_keep : (laws : Laws) (languages : List Language) (form : PageForm) (class 
     → KeepsOrderMark ps (marked_list languages form class page reading before ps)
 marks_keep laws languages form class page reading before [] f u = tt
 marks_keep laws languages form class page reading before (p ∷ ps) f u =
-    let element = standing form page reading in
+    let element = parent_of_text form page reading in
     (mark_stays laws languages element before (touched_after ps) p.kind p.bytes f u.0, mark_kept languages element before (touched_after ps) p.kind p.bytes)
 
 -- ---- the form
@@ -78,7 +80,7 @@ form_kept laws leave languages class language page output f u e =
 
 -- ---- languages
 
-named_stays : (languages : List Language) (form : PageForm) (element : Element) (before after : Bool) (kind : PieceKind) (bytes : List ℕ)
+named_stays : (languages : List Language) (form : PageForm) (element : Option Element) (before after : Bool) (kind : PieceKind) (bytes : List ℕ)
     → language_named form (record { kind = kind; bytes = marked_piece languages soft_hyphen element before after kind bytes }) ≡ language_named form (record { kind = kind; bytes = bytes })
 named_stays languages form element before after Text bytes = refl
 named_stays languages form element before after Reference bytes = refl
@@ -91,9 +93,9 @@ those_stay : (languages : List Language) (form : PageForm) (class : List ℕ) (p
     → with_those_of form named (marked_list languages form class page reading before ps) ≡ with_those_of form named ps
 those_stay languages form class page reading before named [] = refl
 those_stay languages form class page reading before named (p ∷ ps) =
-    let later = reading_after form class page reading p in
+    let later = reading_after form (left_alone_elements class) page reading p in
     let next = touched_before before p.kind p.bytes in
-    ap (λ n. with_those_of form (with_named named n) (marked_list languages form class page later next ps)) (named_stays languages form (standing form page reading) before (touched_after ps) p.kind p.bytes)
+    ap (λ n. with_those_of form (with_named named n) (marked_list languages form class page later next ps)) (named_stays languages form (parent_of_text form page reading) before (touched_after ps) p.kind p.bytes)
     ∙ those_stay languages form class page later next (with_named named (language_named form p)) ps
 
 -- A page that was written with soft hyphens names the languages that the page names.

@@ -5,12 +5,13 @@ use Rattle.std.specs.Str.{IsUtf8}
 use Rattle.html_pieces.specs.declared.bytes.PageForm.{PageForm}
 use Rattle.html_pieces.specs.Pieces.{Piece, pieces_of}
 use Rattle.html_pieces.specs.Elements.{Element, page_element}
-use Rattle.html_pieces.specs.Readings.{Reading, at_start, standing, reading_after}
+use Rattle.html_pieces.specs.Readings.{Reading, at_start, parent_of_text, reading_after}
 use Rattle.html_pieces.specs.Laws.{joined_pieces, AreUtf8}
 use Rattle.html_pieces.specs.declared.tokenizer.PieceKind.{PieceKind}
 use Rattle.html_pieces.specs.declared.tokenizer.PieceKind.TheVariants.{Text, Reference, StartTag, EmptyTag, EndTag, Other}
 use Rattle.hyphenation_html.specs.Languages.{Language, best_of, best_from, better, serves}
-use Rattle.hyphenation_html.specs.Places.{is_left_alone, shifted, text_places, places_in, piece_places, pieces_places, places_of}
+use Rattle.hyphenation_html.specs.LeftAlone.{left_alone_elements, is_left_alone}
+use Rattle.hyphenation_html.specs.Places.{shifted, text_places, places_in, piece_places, pieces_places, places_of}
 use Rattle.hyphenation_html.specs.Touching.{touched_after, touched_before}
 use Rattle.hyphenation_html.specs.Private.Fit.{AllAscend, AllFit}
 use Rattle.hyphenation_html.specs.Private.Marked.{marked_text, marked_in, marked_piece, marked_pieces}
@@ -39,12 +40,13 @@ by_language laws mark before after text (Some language) i u = tokens_marked laws
 
 -- ---- pieces
 
-in_marked : (laws : Laws) (languages : List Language) (mark : List ℕ) (element : Element) (before after : Bool) (text : List ℕ) → AllFit languages → IsUtf8 text
+in_marked : (laws : Laws) (languages : List Language) (mark : List ℕ) (element : Option Element) (before after : Bool) (text : List ℕ) → AllFit languages → IsUtf8 text
     → IsMarked mark text (places_in languages element before after text) (marked_in languages mark element before after text)
-in_marked laws languages mark element before after text f u =
+in_marked laws languages mark None before after text f u = unmarked mark text
+in_marked laws languages mark (Some element) before after text f u =
     unless (is_left_alone element text) (by_language laws mark before after text (best_of element.language languages) (chosen element.language None languages tt f) u)
 
-pub piece_marked : (laws : Laws) (languages : List Language) (mark : List ℕ) (element : Element) (before after : Bool) (kind : PieceKind) (text : List ℕ) → AllFit languages → IsUtf8 text
+pub piece_marked : (laws : Laws) (languages : List Language) (mark : List ℕ) (element : Option Element) (before after : Bool) (kind : PieceKind) (text : List ℕ) → AllFit languages → IsUtf8 text
     → IsMarked mark text (piece_places languages element before after kind text) (marked_piece languages mark element before after kind text)
 piece_marked laws languages mark element before after Text text f u = in_marked laws languages mark element before after text f u
 piece_marked laws languages mark element before after Reference text f u = unmarked mark text
@@ -58,8 +60,8 @@ pub pieces_marked : (laws : Laws) (languages : List Language) (mark : List ℕ) 
 unfolding marked_pieces
 pieces_marked laws languages mark form class page reading before [] f u = unmarked mark []
 pieces_marked laws languages mark form class page reading before (p ∷ ps) f u =
-    joined (piece_marked laws languages mark (standing form page reading) before (touched_after ps) p.kind p.bytes f u.0)
-    (pieces_marked laws languages mark form class page (reading_after form class page reading p) (touched_before before p.kind p.bytes) ps f u.1)
+    joined (piece_marked laws languages mark (parent_of_text form page reading) before (touched_after ps) p.kind p.bytes f u.0)
+    (pieces_marked laws languages mark form class page (reading_after form (left_alone_elements class) page reading p) (touched_before before p.kind p.bytes) ps f u.1)
 
 -- A page is written with marks at its places, where its pieces join to it and are UTF-8.
 pub page_marked : (laws : Laws) (languages : List Language) (form : PageForm) (class language mark page : List ℕ) → AllFit languages → joined_pieces (pieces_of form page) ≡ page → AreUtf8 (pieces_of form page)
@@ -74,8 +76,9 @@ none_either : (c : Bool) → (if◌then◌else◌ {A = List ℕ} c [] []) ≡ []
 none_either true = refl
 none_either false = refl
 
-piece_without : (element : Element) (before after : Bool) (kind : PieceKind) (text : List ℕ) → piece_places [] element before after kind text ≡ []
-piece_without element before after Text text = none_either (is_left_alone element text)
+piece_without : (element : Option Element) (before after : Bool) (kind : PieceKind) (text : List ℕ) → piece_places [] element before after kind text ≡ []
+piece_without None before after Text text = refl
+piece_without (Some element) before after Text text = none_either (is_left_alone element text)
 piece_without element before after Reference text = refl
 piece_without element before after StartTag text = refl
 piece_without element before after EmptyTag text = refl
@@ -85,8 +88,8 @@ piece_without element before after Other text = refl
 pieces_without : (form : PageForm) (class : List ℕ) (page : Element) (reading : Reading) (before : Bool) (ps : List Piece) → pieces_places [] form class page reading before ps ≡ []
 pieces_without form class page reading before [] = refl
 pieces_without form class page reading before (p ∷ ps) =
-    ap (λ xs. xs ++ shifted (length p.bytes) (pieces_places [] form class page (reading_after form class page reading p) (touched_before before p.kind p.bytes) ps)) (piece_without (standing form page reading) before (touched_after ps) p.kind p.bytes)
-    ∙ ap (shifted (length p.bytes)) (pieces_without form class page (reading_after form class page reading p) (touched_before before p.kind p.bytes) ps)
+    ap (λ xs. xs ++ shifted (length p.bytes) (pieces_places [] form class page (reading_after form (left_alone_elements class) page reading p) (touched_before before p.kind p.bytes) ps)) (piece_without (parent_of_text form page reading) before (touched_after ps) p.kind p.bytes)
+    ∙ ap (shifted (length p.bytes)) (pieces_without form class page (reading_after form (left_alone_elements class) page reading p) (touched_before before p.kind p.bytes) ps)
 
 pub page_without : (languages : List Language) (form : PageForm) (class language page : List ℕ) → languages ≡ [] → places_of languages form class language page ≡ []
 page_without languages form class language page e = ap (λ ls. places_of ls form class language page) e ∙ pieces_without form class (page_element language) (at_start form (pieces_of form page)) false (pieces_of form page)

@@ -1,16 +1,17 @@
 -- Each mark stands within a text.
-use Rattle.std.proofs.Common.{◌≡◌, ℕ, ◌+◌, Bool, false, List, [], ◌∷◌, ◌++◌, length, refl, ap, arith, length-append}
+use Rattle.std.proofs.Common.{◌≡◌, ℕ, ◌+◌, Bool, false, List, [], ◌∷◌, ◌++◌, length, refl, ap, arith, length-append, Option}
 use Rattle.std.specs.Prelude.{All}
 use Rattle.std.proofs.lemmas.List.Elements.{All-nil, All-cons}
 use Rattle.html_pieces.specs.declared.bytes.PageForm.{PageForm}
 use Rattle.html_pieces.specs.Pieces.{Piece, pieces_of}
 use Rattle.html_pieces.specs.Elements.{Element, page_element}
-use Rattle.html_pieces.specs.Readings.{Reading, at_start, standing, reading_after}
+use Rattle.html_pieces.specs.Readings.{Reading, at_start, parent_of_text, reading_after}
 use Rattle.html_pieces.specs.Laws.{joined_pieces, AreUtf8}
 use Rattle.html_pieces.specs.declared.tokenizer.PieceKind.{PieceKind}
 use Rattle.html_pieces.specs.declared.tokenizer.PieceKind.TheVariants.{Text, Reference, StartTag, EmptyTag, EndTag, Other}
 use Rattle.hyphenation_html.specs.Languages.{Language}
 use Rattle.hyphenation_html.specs.Laws.{IsInText}
+use Rattle.hyphenation_html.specs.LeftAlone.{left_alone_elements}
 use Rattle.hyphenation_html.specs.Places.{shifted, places_in, piece_places, pieces_places, places_of}
 use Rattle.hyphenation_html.specs.Touching.{touched_after, touched_before}
 use Rattle.hyphenation_html.specs.Private.Fit.{AllFit}
@@ -49,7 +50,7 @@ each_append : (P : ℕ → Type 0) (xs ys : List ℕ) → Each P xs → Each P y
 each_append P [] ys e f = f
 each_append P (x ∷ xs) ys e f = (e.0, each_append P xs ys e.1 f)
 
-piece_in_text : (languages : List Language) (element : Element) (before after : Bool) (p : Piece) (ps : List Piece) (kind : PieceKind) → p.kind ≡ kind
+piece_in_text : (languages : List Language) (element : Option Element) (before after : Bool) (p : Piece) (ps : List Piece) (kind : PieceKind) → p.kind ≡ kind
     → Within (length p.bytes) (piece_places languages element before after kind p.bytes) → Each (IsInText (p ∷ ps)) (piece_places languages element before after kind p.bytes)
 piece_in_text languages element before after p ps Text k w = in_text_here p ps (places_in languages element before after p.bytes) k w
 piece_in_text languages element before after p ps Reference k w = tt
@@ -62,9 +63,9 @@ pieces_in_text : (laws : Laws) (languages : List Language) (form : PageForm) (cl
     → Each (IsInText ps) (pieces_places languages form class page reading before ps)
 pieces_in_text laws languages form class page reading before [] f u = tt
 pieces_in_text laws languages form class page reading before (p ∷ ps) f u =
-    each_append (IsInText (p ∷ ps)) (piece_places languages (standing form page reading) before (touched_after ps) p.kind p.bytes) (shifted (length p.bytes) (pieces_places languages form class page (reading_after form class page reading p) (touched_before before p.kind p.bytes) ps))
-    (piece_in_text languages (standing form page reading) before (touched_after ps) p ps p.kind refl (piece_marked laws languages [] (standing form page reading) before (touched_after ps) p.kind p.bytes f u.0).within)
-    (each_later p ps (pieces_places languages form class page (reading_after form class page reading p) (touched_before before p.kind p.bytes) ps) (pieces_in_text laws languages form class page (reading_after form class page reading p) (touched_before before p.kind p.bytes) ps f u.1))
+    each_append (IsInText (p ∷ ps)) (piece_places languages (parent_of_text form page reading) before (touched_after ps) p.kind p.bytes) (shifted (length p.bytes) (pieces_places languages form class page (reading_after form (left_alone_elements class) page reading p) (touched_before before p.kind p.bytes) ps))
+    (piece_in_text languages (parent_of_text form page reading) before (touched_after ps) p ps p.kind refl (piece_marked laws languages [] (parent_of_text form page reading) before (touched_after ps) p.kind p.bytes f u.0).within)
+    (each_later p ps (pieces_places languages form class page (reading_after form (left_alone_elements class) page reading p) (touched_before before p.kind p.bytes) ps) (pieces_in_text laws languages form class page (reading_after form (left_alone_elements class) page reading p) (touched_before before p.kind p.bytes) ps f u.1))
 
 all_of : (P : ℕ → Type 0) (places : List ℕ) → Each P places → All P places
 all_of P [] e = All-nil P

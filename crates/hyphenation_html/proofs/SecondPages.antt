@@ -8,14 +8,15 @@ use Rattle.html_pieces.specs.declared.bytes.PageForm.{PageForm}
 use Rattle.html_pieces.specs.Pieces.{Piece, pieces_of}
 use Rattle.html_pieces.specs.Bytes.{is_xml}
 use Rattle.html_pieces.specs.Elements.{Element, page_element, innermost, depth_limit}
-use Rattle.html_pieces.specs.Readings.{Reading, started, at_start, standing, reading_after, has_text, body_unless, is_hidden, is_content_here, is_root_start, is_read_text, has_late_root}
+use Rattle.html_pieces.specs.Readings.{Reading, started, at_start, parent_of_text, reading_after, has_text, body_unless, is_hidden, is_content_here, is_root_start, is_read_text, has_late_root}
 use Rattle.html_pieces.specs.Laws.{joined_pieces, AreUtf8, IsPlain, begins_alike, IsOtherText, HaveOtherTexts}
 use Rattle.html_pieces.specs.declared.tokenizer.PieceKind.{PieceKind}
 use Rattle.html_pieces.specs.declared.tokenizer.PieceKind.TheVariants.{Text, Reference, StartTag, EmptyTag, EndTag, Other}
 use Rattle.hyphenation_segments.specs.Laws.{with_marks}
 use Rattle.hyphenation_html.specs.Languages.{Language, best_of}
 use Rattle.hyphenation_html.specs.Laws.{soft_hyphen}
-use Rattle.hyphenation_html.specs.Places.{is_left_alone, shifted, text_places, places_in, piece_places, pieces_places, places_of}
+use Rattle.hyphenation_html.specs.LeftAlone.{left_alone_elements, is_left_alone}
+use Rattle.hyphenation_html.specs.Places.{shifted, text_places, places_in, piece_places, pieces_places, places_of}
 use Rattle.hyphenation_html.specs.Touching.{goes_on_over, begins_touching, ends_touching, touched_after, touched_before}
 use Rattle.hyphenation_html.specs.Private.Fit.{AllFit}
 use Rattle.hyphenation_html.specs.Private.Marked.{marked_text, marked_in, marked_piece, marked_pieces}
@@ -29,16 +30,16 @@ use Rattle.hyphenation_html.proofs.WordEdges.{still_begins, still_ends}
 abbrev pub marked_list : List Language → PageForm → List ℕ → Element → Reading → Bool → List Piece → List Piece
 marked_list languages form class page reading before [] = []
 marked_list languages form class page reading before (p ∷ ps) =
-    record { kind = p.kind; bytes = marked_piece languages soft_hyphen (standing form page reading) before (touched_after ps) p.kind p.bytes }
-    ∷ marked_list languages form class page (reading_after form class page reading p) (touched_before before p.kind p.bytes) ps
+    record { kind = p.kind; bytes = marked_piece languages soft_hyphen (parent_of_text form page reading) before (touched_after ps) p.kind p.bytes }
+    ∷ marked_list languages form class page (reading_after form (left_alone_elements class) page reading p) (touched_before before p.kind p.bytes) ps
 
 pub marked_list-joins : (languages : List Language) (form : PageForm) (class : List ℕ) (page : Element) (reading : Reading) (before : Bool) (ps : List Piece)
     → joined_pieces (marked_list languages form class page reading before ps) ≡ marked_pieces languages soft_hyphen form class page reading before ps
 unfolding marked_pieces
 marked_list-joins languages form class page reading before [] = refl
 marked_list-joins languages form class page reading before (p ∷ ps) =
-    ap (λ xs. marked_piece languages soft_hyphen (standing form page reading) before (touched_after ps) p.kind p.bytes ++ xs)
-    (marked_list-joins languages form class page (reading_after form class page reading p) (touched_before before p.kind p.bytes) ps)
+    ap (λ xs. marked_piece languages soft_hyphen (parent_of_text form page reading) before (touched_after ps) p.kind p.bytes ++ xs)
+    (marked_list-joins languages form class page (reading_after form (left_alone_elements class) page reading p) (touched_before before p.kind p.bytes) ps)
 
 -- ---- a piece
 
@@ -61,13 +62,14 @@ none_in_cases element false o before after before' after' text alone e =
     none_in_either (is_left_alone element (option_map_or (λ l. marked_text l.1 soft_hyphen before after text) o text))
     (option_map_or (λ language. text_places language.1 before' after' (option_map_or (λ l. marked_text l.1 soft_hyphen before after text) o text)) o []) e
 
-none_in : (laws : Laws) (languages : List Language) (element : Element) (before after before' after' : Bool) (text : List ℕ) → AllFit languages → Implies before before' → Implies after after' → IsUtf8 text
+none_in : (laws : Laws) (languages : List Language) (element : Option Element) (before after before' after' : Bool) (text : List ℕ) → AllFit languages → Implies before before' → Implies after after' → IsUtf8 text
     → places_in languages element before' after' (marked_in languages soft_hyphen element before after text) ≡ []
-none_in laws languages element before after before' after' text f i j u =
+none_in laws languages None before after before' after' text f i j u = refl
+none_in laws languages (Some element) before after before' after' text f i j u =
     none_in_cases element (is_left_alone element text) (best_of element.language languages) before after before' after' text refl
     (none_by_language laws before after before' after' text (best_of element.language languages) (chosen element.language None languages tt f) i j u)
 
-piece_done : (laws : Laws) (languages : List Language) (element : Element) (before after before' after' : Bool) (kind : PieceKind) (bytes : List ℕ) → AllFit languages → Implies before before' → Implies after after' → IsUtf8 bytes
+piece_done : (laws : Laws) (languages : List Language) (element : Option Element) (before after before' after' : Bool) (kind : PieceKind) (bytes : List ℕ) → AllFit languages → Implies before before' → Implies after after' → IsUtf8 bytes
     → piece_places languages element before' after' kind (marked_piece languages soft_hyphen element before after kind bytes) ≡ []
 piece_done laws languages element before after before' after' Text bytes f i j u = none_in laws languages element before after before' after' bytes f i j u
 piece_done laws languages element before after before' after' Reference bytes f i j u = refl
@@ -78,7 +80,7 @@ piece_done laws languages element before after before' after' Other bytes f i j 
 
 -- ---- what touches a piece
 
-same_over : (languages : List Language) (element : Element) (before after : Bool) (kind : PieceKind) (bytes : List ℕ)
+same_over : (languages : List Language) (element : Option Element) (before after : Bool) (kind : PieceKind) (bytes : List ℕ)
     → goes_on_over kind (marked_piece languages soft_hyphen element before after kind bytes) ≡ goes_on_over kind bytes
 unfolding goes_on_over
 same_over languages element before after Text bytes = refl
@@ -88,7 +90,7 @@ same_over languages element before after EmptyTag bytes = refl
 same_over languages element before after EndTag bytes = refl
 same_over languages element before after Other bytes = refl
 
-still_begins_touching : (laws : Laws) (languages : List Language) (element : Element) (before after : Bool) (kind : PieceKind) (bytes : List ℕ) → AllFit languages → IsUtf8 bytes
+still_begins_touching : (laws : Laws) (languages : List Language) (element : Option Element) (before after : Bool) (kind : PieceKind) (bytes : List ℕ) → AllFit languages → IsUtf8 bytes
     → Implies (begins_touching kind bytes) (begins_touching kind (marked_piece languages soft_hyphen element before after kind bytes))
 still_begins_touching laws languages element before after Text bytes f u = λ e.
     let m = piece_marked laws languages soft_hyphen element before after Text bytes f u in
@@ -99,7 +101,7 @@ still_begins_touching laws languages element before after EmptyTag bytes f u = �
 still_begins_touching laws languages element before after EndTag bytes f u = λ e. e
 still_begins_touching laws languages element before after Other bytes f u = λ e. e
 
-still_ends_touching : (laws : Laws) (languages : List Language) (element : Element) (before after : Bool) (kind : PieceKind) (bytes : List ℕ) → AllFit languages → IsUtf8 bytes
+still_ends_touching : (laws : Laws) (languages : List Language) (element : Option Element) (before after : Bool) (kind : PieceKind) (bytes : List ℕ) → AllFit languages → IsUtf8 bytes
     → Implies (ends_touching kind bytes) (ends_touching kind (marked_piece languages soft_hyphen element before after kind bytes))
 still_ends_touching laws languages element before after Text bytes f u = λ e.
     let m = piece_marked laws languages soft_hyphen element before after Text bytes f u in
@@ -118,15 +120,15 @@ still_after : (laws : Laws) (languages : List Language) (form : PageForm) (class
     → Implies (touched_after ps) (touched_after (marked_list languages form class page reading before ps))
 still_after laws languages form class page reading before [] f u = λ e. e
 still_after laws languages form class page reading before (p ∷ ps) f u =
-    let element = standing form page reading in
+    let element = parent_of_text form page reading in
     let bytes = marked_piece languages soft_hyphen element before (touched_after ps) p.kind p.bytes in
-    let rest = marked_list languages form class page (reading_after form class page reading p) (touched_before before p.kind p.bytes) ps in
+    let rest = marked_list languages form class page (reading_after form (left_alone_elements class) page reading p) (touched_before before p.kind p.bytes) ps in
     let here = either_implies (goes_on_over p.kind p.bytes) (touched_after ps) (touched_after rest) (begins_touching p.kind p.bytes) (begins_touching p.kind bytes)
-    (still_after laws languages form class page (reading_after form class page reading p) (touched_before before p.kind p.bytes) ps f u.1)
+    (still_after laws languages form class page (reading_after form (left_alone_elements class) page reading p) (touched_before before p.kind p.bytes) ps f u.1)
     (still_begins_touching laws languages element before (touched_after ps) p.kind p.bytes f u.0) in
     λ e. ap (λ c. if c then touched_after rest else begins_touching p.kind bytes) (same_over languages element before (touched_after ps) p.kind p.bytes) ∙ here e
 
-still_before : (laws : Laws) (languages : List Language) (element : Element) (before before' after : Bool) (kind : PieceKind) (bytes : List ℕ) → AllFit languages → IsUtf8 bytes → Implies before before'
+still_before : (laws : Laws) (languages : List Language) (element : Option Element) (before before' after : Bool) (kind : PieceKind) (bytes : List ℕ) → AllFit languages → IsUtf8 bytes → Implies before before'
     → Implies (touched_before before kind bytes) (touched_before before' kind (marked_piece languages soft_hyphen element before after kind bytes))
 still_before laws languages element before before' after kind bytes f u i =
     let marked = marked_piece languages soft_hyphen element before after kind bytes in
@@ -148,9 +150,9 @@ after_content form page reading c =
     else reading
 
 same_reading : (laws : Laws) (languages : List Language) (form : PageForm) (class : List ℕ) (page : Element) (reading : Reading) (before after : Bool) (kind : PieceKind) (bytes : List ℕ) → AllFit languages → IsUtf8 bytes
-    → reading_after form class page reading (record { kind = kind; bytes = marked_piece languages soft_hyphen (standing form page reading) before after kind bytes }) ≡ reading_after form class page reading (record { kind = kind; bytes = bytes })
+    → reading_after form (left_alone_elements class) page reading (record { kind = kind; bytes = marked_piece languages soft_hyphen (parent_of_text form page reading) before after kind bytes }) ≡ reading_after form (left_alone_elements class) page reading (record { kind = kind; bytes = bytes })
 same_reading laws languages form class page reading before after Text bytes f u =
-    let element = standing form page reading in
+    let element = parent_of_text form page reading in
     let m = piece_marked laws languages soft_hyphen element before after Text bytes f u in
     ap (after_content form page reading) (ap has_text m.is ∙ same_text languages element before after bytes)
 same_reading laws languages form class page reading before after Reference bytes f u = refl
@@ -159,7 +161,7 @@ same_reading laws languages form class page reading before after EmptyTag bytes 
 same_reading laws languages form class page reading before after EndTag bytes f u = refl
 same_reading laws languages form class page reading before after Other bytes f u = refl
 
-root_as_well : (languages : List Language) (element : Element) (before after : Bool) (kind : PieceKind) (bytes : List ℕ)
+root_as_well : (languages : List Language) (element : Option Element) (before after : Bool) (kind : PieceKind) (bytes : List ℕ)
     → is_root_start kind (marked_piece languages soft_hyphen element before after kind bytes) ≡ is_root_start kind bytes
 root_as_well languages element before after Text bytes = refl
 root_as_well languages element before after Reference bytes = refl
@@ -168,7 +170,7 @@ root_as_well languages element before after EmptyTag bytes = refl
 root_as_well languages element before after EndTag bytes = refl
 root_as_well languages element before after Other bytes = refl
 
-read_as_well : (laws : Laws) (languages : List Language) (element : Element) (before after : Bool) (kind : PieceKind) (bytes : List ℕ) → AllFit languages → IsUtf8 bytes
+read_as_well : (laws : Laws) (languages : List Language) (element : Option Element) (before after : Bool) (kind : PieceKind) (bytes : List ℕ) → AllFit languages → IsUtf8 bytes
     → is_read_text kind (marked_piece languages soft_hyphen element before after kind bytes) ≡ is_read_text kind bytes
 read_as_well laws languages element before after Text bytes f u =
     ap has_text (piece_marked laws languages soft_hyphen element before after Text bytes f u).is ∙ same_text languages element before after bytes
@@ -182,23 +184,23 @@ late_as_well : (laws : Laws) (languages : List Language) (form : PageForm) (clas
     → has_late_root seen (marked_list languages form class page reading before ps) ≡ has_late_root seen ps
 late_as_well laws languages form class page reading before seen [] f u = refl
 late_as_well laws languages form class page reading before seen (p ∷ ps) f u =
-    let element = standing form page reading in
+    let element = parent_of_text form page reading in
     let bytes = marked_piece languages soft_hyphen element before (touched_after ps) p.kind p.bytes in
-    let rest = marked_list languages form class page (reading_after form class page reading p) (touched_before before p.kind p.bytes) ps in
+    let rest = marked_list languages form class page (reading_after form (left_alone_elements class) page reading p) (touched_before before p.kind p.bytes) ps in
     ap (λ c. seen && c || has_late_root (seen || is_read_text p.kind bytes) rest) (root_as_well languages element before (touched_after ps) p.kind p.bytes)
     ∙ ap (λ c. seen && is_root_start p.kind p.bytes || has_late_root (seen || c) rest) (read_as_well laws languages element before (touched_after ps) p.kind p.bytes f u.0)
-    ∙ ap (λ c. seen && is_root_start p.kind p.bytes || c) (late_as_well laws languages form class page (reading_after form class page reading p) (touched_before before p.kind p.bytes) (seen || is_read_text p.kind p.bytes) ps f u.1)
+    ∙ ap (λ c. seen && is_root_start p.kind p.bytes || c) (late_as_well laws languages form class page (reading_after form (left_alone_elements class) page reading p) (touched_before before p.kind p.bytes) (seen || is_read_text p.kind p.bytes) ps f u.1)
 
 pieces_done : (laws : Laws) (languages : List Language) (form : PageForm) (class : List ℕ) (page : Element) (reading : Reading) (before before' : Bool) (ps : List Piece) → AllFit languages → AreUtf8 ps → Implies before before'
     → pieces_places languages form class page reading before' (marked_list languages form class page reading before ps) ≡ []
 pieces_done laws languages form class page reading before before' [] f u i = refl
 pieces_done laws languages form class page reading before before' (p ∷ ps) f u i =
-    let element = standing form page reading in
+    let element = parent_of_text form page reading in
     let bytes = marked_piece languages soft_hyphen element before (touched_after ps) p.kind p.bytes in
-    let later = reading_after form class page reading p in
+    let later = reading_after form (left_alone_elements class) page reading p in
     let next = touched_before before p.kind p.bytes in
     let rest = marked_list languages form class page later next ps in
-    ap (λ xs. xs ++ shifted (length bytes) (pieces_places languages form class page (reading_after form class page reading (record { kind = p.kind; bytes = bytes })) (touched_before before' p.kind bytes) rest))
+    ap (λ xs. xs ++ shifted (length bytes) (pieces_places languages form class page (reading_after form (left_alone_elements class) page reading (record { kind = p.kind; bytes = bytes })) (touched_before before' p.kind bytes) rest))
     (piece_done laws languages element before (touched_after ps) before' (touched_after rest) p.kind p.bytes f i (still_after laws languages form class page later next ps f u.1) u.0)
     ∙ ap (λ es. shifted (length bytes) (pieces_places languages form class page es (touched_before before' p.kind bytes) rest)) (same_reading laws languages form class page reading before (touched_after ps) p.kind p.bytes f u.0)
     ∙ ap (shifted (length bytes)) (pieces_done laws languages form class page later next (touched_before before' p.kind bytes) ps f u.1
@@ -236,7 +238,7 @@ marks_begin_alike (b ∷ bs) [] = or_left (b == b) (b == 0xC2) (same_number b)
 marks_begin_alike (b ∷ bs) (zero ∷ ps) = or_right (0xC2 == b) (0xC2 == 0xC2) refl
 marks_begin_alike (b ∷ bs) (suc p ∷ ps) = or_left (b == b) (b == 0xC2) (same_number b)
 
-other_text : (laws : Laws) (languages : List Language) (element : Element) (before after : Bool) (kind : PieceKind) (bytes : List ℕ) → AllFit languages → IsUtf8 bytes
+other_text : (laws : Laws) (languages : List Language) (element : Option Element) (before after : Bool) (kind : PieceKind) (bytes : List ℕ) → AllFit languages → IsUtf8 bytes
     → IsOtherText kind bytes (marked_piece languages soft_hyphen element before after kind bytes)
 other_text laws languages element before after Text bytes f u =
     let m = piece_marked laws languages soft_hyphen element before after Text bytes f u in
@@ -252,8 +254,8 @@ pub other_texts : (laws : Laws) (languages : List Language) (form : PageForm) (c
     → HaveOtherTexts ps (marked_list languages form class page reading before ps)
 other_texts laws languages form class page reading before [] f u = tt
 other_texts laws languages form class page reading before (p ∷ ps) f u = (
-  record { kind = refl; bytes = other_text laws languages (standing form page reading) before (touched_after ps) p.kind p.bytes f u.0 },
-  other_texts laws languages form class page (reading_after form class page reading p) (touched_before before p.kind p.bytes) ps f u.1,
+  record { kind = refl; bytes = other_text laws languages (parent_of_text form page reading) before (touched_after ps) p.kind p.bytes f u.0 },
+  other_texts laws languages form class page (reading_after form (left_alone_elements class) page reading p) (touched_before before p.kind p.bytes) ps f u.1,
 )
 
 -- A page that was written with soft hyphens has no places left.

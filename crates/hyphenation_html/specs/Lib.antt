@@ -2,6 +2,7 @@ pub mod Dictionaries
 pub mod Words
 pub mod Touching
 pub mod Languages
+pub mod LeftAlone
 pub mod Places
 pub mod Texts
 pub mod Laws

@@ -1,20 +1,21 @@
 -- Where marks are put into a page. Places are byte offsets.
 -- Source of words: UAX #29, Unicode Text Segmentation, as the kit's crate `unicode_segmentation` states it.
-use Rattle.std.specs.Prelude.{◌≡◌, ℕ, ◌+◌, ◌||◌, Bool, false, List, [], ◌∷◌, ◌++◌, map, length, if◌then◌else◌}
+use Rattle.std.specs.Prelude.{◌≡◌, ℕ, ◌+◌, ◌||◌, Bool, false, List, [], ◌∷◌, ◌++◌, map, length, Option, Some, None, if◌then◌else◌}
 use Rattle.std.specs.Option.{option_map_or}
 use Rattle.unicode_segmentation.specs.Word.{word_bounds}
 use Rattle.html_pieces.specs.Bytes.{is_white_space}
 use Rattle.html_pieces.specs.declared.bytes.PageForm.{PageForm}
-use Rattle.html_pieces.specs.Forms.{begins_with_order_mark, form_of}
+use Rattle.html_pieces.specs.Forms.{form_of}
 use Rattle.html_pieces.specs.Languages.{languages_of}
 use Rattle.html_pieces.specs.Pieces.{Piece, pieces_of}
 use Rattle.html_pieces.specs.Elements.{Element, page_element}
-use Rattle.html_pieces.specs.Readings.{Reading, at_start, standing, reading_after}
+use Rattle.html_pieces.specs.Readings.{Reading, at_start, parent_of_text, reading_after}
 use Rattle.html_pieces.specs.declared.tokenizer.PieceKind.{PieceKind}
 use Rattle.html_pieces.specs.declared.tokenizer.PieceKind.TheVariants.{Text}
 use Rattle.hyphenation_segments.specs.Laws.{with_marks}
 use Rattle.hyphenation_html.specs.Dictionaries.{Breaks}
 use Rattle.hyphenation_html.specs.Languages.{Language, languages_by, best_of}
+use Rattle.hyphenation_html.specs.LeftAlone.{left_alone_elements, is_left_alone}
 use Rattle.hyphenation_html.specs.Touching.{touched_after, touched_before}
 use Rattle.hyphenation_html.specs.Words.{is_left_whole}
 use Rattle.hyphenation_html.specs.declared.languages.LanguageDictionary.{LanguageDictionary}
@@ -47,29 +48,27 @@ tokens_places breaks before after front (b ∷ bs) =
 abbrev pub text_places : Breaks → Bool → Bool → List ℕ → List ℕ
 text_places breaks before after text = tokens_places breaks before after [] text
 
--- A text is left alone by its element, or begins with U+FEFF: before the byte order mark of a page there is no mark.
-abbrev pub is_left_alone : Element → List ℕ → Bool
-is_left_alone element text = element.is_left_alone || begins_with_order_mark text
-
--- The breaks of a text in an element: by the dictionary of its language, if there is one and the text is not left alone.
-abbrev pub places_in : List Language → Element → Bool → Bool → List ℕ → List ℕ
-places_in languages element before after text =
+-- The breaks of a text in an element: by the dictionary of its language, if there is one and the text is not left alone. There
+-- are none where the element is not known.
+abbrev pub places_in : List Language → Option Element → Bool → Bool → List ℕ → List ℕ
+places_in languages None before after text = []
+places_in languages (Some element) before after text =
     if is_left_alone element text then []
     else option_map_or (λ language. text_places language.1 before after text) (best_of element.language languages) []
 
 -- The breaks of a piece: none but of text.
-abbrev pub piece_places : List Language → Element → Bool → Bool → PieceKind → List ℕ → List ℕ
-piece_places languages element before after Text text = places_in languages element before after text
-piece_places languages element before after _ text = []
+abbrev pub piece_places : List Language → Option Element → Bool → Bool → PieceKind → List ℕ → List ℕ
+piece_places languages parent before after Text text = places_in languages parent before after text
+piece_places languages parent before after _ text = []
 
 -- The breaks of pieces, by a reading, where something may touch the first piece from before. `class` is the class
 -- whose elements are left alone.
 abbrev pub pieces_places : List Language → PageForm → List ℕ → Element → Reading → Bool → List Piece → List ℕ
 pieces_places languages form class page reading before [] = []
 pieces_places languages form class page reading before (p ∷ ps) =
-    piece_places languages (standing form page reading) before (touched_after ps) p.kind p.bytes
+    piece_places languages (parent_of_text form page reading) before (touched_after ps) p.kind p.bytes
     ++ shifted (length p.bytes)
-    (pieces_places languages form class page (reading_after form class page reading p)
+    (pieces_places languages form class page (reading_after form (left_alone_elements class) page reading p)
     (touched_before before p.kind p.bytes) ps)
 
 -- The breaks of a page, in a language that holds where the page names none.

@@ -1,30 +1,18 @@
 -- Words that go on beyond a text: over a tag within a line, or in a character reference.
-use Rattle.std.specs.Prelude.{ℕ, ◌-◌, ◌||◌, Bool, true, false, List, [], ◌∷◌, codes, length, slice_get, if◌then◌else◌}
+use Rattle.std.specs.Prelude.{ℕ, ◌-◌, ◌||◌, Bool, true, false, List, [], ◌∷◌, length, slice_get, if◌then◌else◌}
 use Rattle.std.specs.Option.{option_map_or}
 use Rattle.addresses.specs.Addresses.{is_of_word}
 use Rattle.html_pieces.specs.Names.{name_of}
-use Rattle.html_pieces.specs.Bytes.{is_one_of}
+use Rattle.html_pieces.specs.Bytes.{is_named}
 use Rattle.html_pieces.specs.Pieces.{Piece}
+use Rattle.html_pieces.specs.declared.groups.TheConstants.{FORMATTING_NAMES}
 use Rattle.html_pieces.specs.declared.tokenizer.PieceKind.{PieceKind}
 use Rattle.html_pieces.specs.declared.tokenizer.PieceKind.TheVariants.{Text, Reference, StartTag, EmptyTag, EndTag, Other}
+use Rattle.hyphenation_html.specs.declared.touching.TheConstants.{INLINE_NAMES}
 
--- Elements within a line by what they mean, so that a word may begin in one and end outside of it.
-abbrev pub phrase_names : List (List ℕ)
-phrase_names =
-    codes "a" ∷ codes "abbr" ∷ codes "acronym" ∷ codes "bdi" ∷ codes "bdo" ∷ codes "cite" ∷ codes "data"
-    ∷ codes "del" ∷ codes "dfn" ∷ codes "em" ∷ codes "ins" ∷ codes "mark" ∷ codes "q" ∷ codes "strong"
-    ∷ codes "time" ∷ codes "wbr" ∷ []
-
--- Elements within a line by how they look.
-abbrev pub style_names : List (List ℕ)
-style_names =
-    codes "b" ∷ codes "big" ∷ codes "code" ∷ codes "font" ∷ codes "i" ∷ codes "kbd" ∷ codes "nobr" ∷ codes "s"
-    ∷ codes "samp" ∷ codes "small" ∷ codes "span" ∷ codes "strike" ∷ codes "sub" ∷ codes "sup" ∷ codes "tt"
-    ∷ codes "u" ∷ codes "var" ∷ []
-
--- An element is within a line.
+-- An element is within a line, so that a word may begin in it and end outside of it: a formatting element, or another one.
 abbrev pub is_inline : List ℕ → Bool
-is_inline name = is_one_of phrase_names name || is_one_of style_names name
+is_inline name = is_named FORMATTING_NAMES name || is_named INLINE_NAMES name
 
 -- A word goes on over a piece: over a tag of one of these elements, and over comments and the like.
 unfoldable pub goes_on_over : PieceKind → List ℕ → Bool

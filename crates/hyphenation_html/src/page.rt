@@ -7,7 +7,7 @@ ghost use Rattle.html_pieces.specs.Pieces.{as_piece, pieces_of};
 ghost use Rattle.html_pieces.specs.Forms.{form_of};
 ghost use Rattle.html_pieces.specs.Elements.{as_element};
 ghost use Rattle.hyphenation_html.specs.Languages.{coded, languages_by};
-ghost use Rattle.hyphenation_html.specs.Places.{is_left_alone, page_places, marked_page, IsDone};
+ghost use Rattle.hyphenation_html.specs.Places.{page_places, marked_page, IsDone};
 ghost use Rattle.hyphenation_html.specs.Touching.{touched_after};
 ghost use Rattle.hyphenation_html.specs.Laws.{IsPageWithMarks, IsInText, soft_hyphen};
 ghost use Rattle.hyphenation_html.specs.Private.Fit.{AllFit};
@@ -17,63 +17,61 @@ ghost use Rattle.hyphenation_html.specs.Private.Marked.{marked_piece_by, marked_
 use crate::cut::HtmlPage;
 use crate::dictionary::limited_breaks_fit;
 use crate::languages::{LanguageDictionary, best_of};
+use crate::left_alone::{is_left_alone, left_alone_by};
 use crate::settings::Settings;
 use crate::text::{Output, push_text};
 use crate::touching::{touched_after, touched_before};
 use html_pieces::bytes::PageForm;
 use html_pieces::elements::{Element, page_element};
-use html_pieces::forms::begins_with_order_mark;
 use html_pieces::laws::{
     other_texts_are_cut_alike, other_texts_leave_the_form, pieces_are_utf8, pieces_join,
 };
-use html_pieces::readings::{Reading, pass, standing};
+use html_pieces::readings::{Reading, advance, parent_of_text};
 use html_pieces::references::read;
 use html_pieces::tokenizer::{Piece, PieceKind};
 use hyphenation_hyphenator::hyphenator::laws::plain_breaks_fit_where_ascending;
 use hyphenation_segments::iter::laws::{marked_segments_join, segments_join};
 use std::alloc::{AllocError, Global};
 
-// Whether a text is left alone by its element, or begins with U+FEFF.
-fn is_left_alone(element: Element<'_>, text: &str) -> bool
-    ensures { result ≡ is_left_alone (as_element element.entry) text.now }
-{
-    element.is_left_alone || begins_with_order_mark(text.as_bytes())
-}
-
-// Returns the dictionary for the words of a text in an element: none where the text is left alone.
+// Returns the dictionary for the words of a text: none where it is left alone, or in no element that is known.
 fn dictionary_in<'l>(
     alloc: Global,
     languages: &'l [LanguageDictionary],
-    element: Element<'_>,
+    parent: Option<Element<'_>>,
     text: &str,
 ) -> Result<Option<&'l LanguageDictionary>, AllocError>
     ensures { IfOk result (λ found. option_map (λ l. coded l.now) found
-        ≡ dictionary_in languages.now (as_element element.entry) text.now) }
+        ≡ dictionary_in languages.now (option_map as_element parent.entry) text.now) }
 {
-    if is_left_alone(element, text) {
-        Ok(None)
-    } else if element.has_references {
-        let language = read(alloc, element.language)?;
-        Ok(best_of(languages, &language))
-    } else {
-        Ok(best_of(languages, element.language))
+    match parent {
+        Some(element) => {
+            if is_left_alone(element, text) {
+                Ok(None)
+            } else if element.has_references {
+                let language = read(alloc, element.language)?;
+                Ok(best_of(languages, &language))
+            } else {
+                Ok(best_of(languages, element.language))
+            }
+        }
+        None => Ok(None),
     }
 }
 
-// Appends a text in an element, with the mark at the breaks of its words by the dictionary of its language.
+// Appends a text, with the mark at the breaks of its words by the dictionary of its language.
 fn push_in(
     output: &mut Output,
     languages: &[LanguageDictionary],
     settings: &Settings<'_>,
-    element: Element<'_>,
+    parent: Option<Element<'_>>,
     text: &str,
     before: bool,
     after: bool,
 ) -> Result<(), AllocError>
     ensures { OnOk result (so_far output.new ≡ so_far output.old
-        ++ marked_in_by settings.now languages.now element.entry before after text.now) }
+        ++ marked_in_by settings.now languages.now parent.entry before after text.now) }
 {
-    match dictionary_in(output.alloc, languages, element, text)? {
+    match dictionary_in(output.alloc, languages, parent, text)? {
         Some(found) => push_text(output, &found.dictionary, settings, text, before, after),
         None => {
             output.text.push_str(text)?;
@@ -82,22 +80,22 @@ fn push_in(
     }
 }
 
-// Appends a piece in an element; the mark comes into text alone.
+// Appends a piece; the mark comes into text alone.
 fn push_piece(
     output: &mut Output,
     languages: &[LanguageDictionary],
     settings: &Settings<'_>,
-    element: Element<'_>,
+    parent: Option<Element<'_>>,
     piece: Piece<'_>,
     before: bool,
     after: bool,
 ) -> Result<(), AllocError>
     ensures { OnOk result (so_far output.new ≡ so_far output.old
-        ++ marked_piece_by settings.now languages.now element.entry before after piece.entry) }
+        ++ marked_piece_by settings.now languages.now parent.entry before after piece.entry) }
 {
     match piece.kind {
         PieceKind::Text => push_in(
-            output, languages, settings, element, piece.text, before, after,
+            output, languages, settings, parent, piece.text, before, after,
         ),
         _ => output.text.push_str(piece.text),
     }
@@ -137,21 +135,15 @@ fn push_pieces<'t>(
     ensures { OnOk result (so_far output.new ≡ so_far output.old
         ++ marked_pieces_by settings.now languages.now form around.entry pieces.now) }
 {
+    let left_alone = left_alone_by(settings);
     let mut reading = Reading::new(output.alloc, form, pieces);
     let mut before = false;
     for i in 0..pieces.len() {
         let piece = piece_at(pieces, i);
         let after = text_touched_after(piece.kind, &pieces[i + 1..]);
-        let element = standing(form, around, &reading);
-        push_piece(output, languages, settings, element, piece, before, after)?;
-        pass(
-            &mut reading,
-            output.alloc,
-            form,
-            settings.class.as_bytes(),
-            around,
-            piece,
-        )?;
+        let parent = parent_of_text(form, around, &reading);
+        push_piece(output, languages, settings, parent, piece, before, after)?;
+        advance(&mut reading, output.alloc, form, &left_alone, around, piece)?;
         before = touched_before(before, piece);
     }
     Ok(())
@@ -197,7 +189,8 @@ fn all_fit(languages: &[LanguageDictionary], settings: &Settings<'_>)
 /// longest of these codes counts. A text whose language has no dictionary is left as it is.
 ///
 /// All that is not text stays as it is, byte for byte: tags, comments, scripts, character references. So do the texts
-/// of elements as `pre` and `code`, with `translate="no"`, or with the class of the settings. A part of a text between
+/// of elements as `pre` and `code` ([`LEFT_ALONE_NAMES`](crate::LEFT_ALONE_NAMES)), with `translate="no"`, or with the
+/// class of the settings. So does the rest of a page that parsers may read in different ways. A part of a text between
 /// white space is left whole if it has a soft hyphen or is an address. So is one that goes on in a character reference,
 /// or over a tag within a line, as that of `b`. So with soft hyphens as marks a second run changes nothing of the result.
 ///

@@ -7,25 +7,20 @@ ghost use Rattle.hyphenation_html.specs.Touching.{begins_in_word, ends_in_word, 
 
 use addresses::is_of_word;
 use html_pieces::bytes::is_one_of;
+use html_pieces::groups::FORMATTING_NAMES;
 use html_pieces::tokenizer::{Piece, PieceKind, name_of};
 
-// Elements within a line by what they mean.
-const PHRASE_NAMES: [&[u8]; 16] = [
-    b"a", b"abbr", b"acronym", b"bdi", b"bdo", b"cite", b"data", b"del", b"dfn", b"em", b"ins",
-    b"mark", b"q", b"strong", b"time", b"wbr",
-];
-
-// Elements within a line by how they look.
-const STYLE_NAMES: [&[u8]; 17] = [
-    b"b", b"big", b"code", b"font", b"i", b"kbd", b"nobr", b"s", b"samp", b"small", b"span",
-    b"strike", b"sub", b"sup", b"tt", b"u", b"var",
+/// Elements within a line that are not [`FORMATTING_NAMES`]: a word may begin in one and end outside of it.
+pub const INLINE_NAMES: [&[u8]; 19] = [
+    b"abbr", b"acronym", b"bdi", b"bdo", b"cite", b"data", b"del", b"dfn", b"ins", b"kbd", b"mark",
+    b"q", b"samp", b"span", b"sub", b"sup", b"time", b"var", b"wbr",
 ];
 
 // Whether an element is within a line.
 fn is_inline(name: &[u8]) -> bool
     ensures { result ≡ is_inline name.now }
 {
-    is_one_of(name, &PHRASE_NAMES) || is_one_of(name, &STYLE_NAMES)
+    is_one_of(name, &FORMATTING_NAMES) || is_one_of(name, &INLINE_NAMES)
 }
 
 // Whether a word goes on over a piece.

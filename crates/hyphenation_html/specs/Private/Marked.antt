@@ -1,6 +1,6 @@
 -- A page with marks, piece by piece, as it is written.
-use Rattle.std.specs.Prelude.{ℕ, ◌||◌, Bool, true, false, List, [], ◌∷◌, ◌++◌, map, Option, None, if◌then◌else◌}
-use Rattle.std.specs.Option.{option_map_or}
+use Rattle.std.specs.Prelude.{ℕ, ◌||◌, Bool, true, false, List, [], ◌∷◌, ◌++◌, map, Option, Some, None, if◌then◌else◌}
+use Rattle.std.specs.Option.{option_map, option_map_or}
 use Rattle.std.specs.List.{flat_map}
 use Rattle.std.specs.String.{string_bytes}
 use Rattle.hyphenation_html.specs.declared.text.Output.{Output}
@@ -10,7 +10,7 @@ use Rattle.html_pieces.specs.declared.bytes.PageForm.{PageForm}
 use Rattle.html_pieces.specs.Forms.{form_of}
 use Rattle.html_pieces.specs.Pieces.{Piece, as_piece, pieces_of}
 use Rattle.html_pieces.specs.Elements.{Element, as_element, page_element}
-use Rattle.html_pieces.specs.Readings.{Reading, at_start, standing, reading_after}
+use Rattle.html_pieces.specs.Readings.{Reading, at_start, parent_of_text, reading_after}
 use Rattle.html_pieces.specs.declared.elements.Element as held
 use Rattle.html_pieces.specs.declared.tokenizer.Piece as cut
 use Rattle.html_pieces.specs.declared.tokenizer.PieceKind.{PieceKind}
@@ -18,7 +18,7 @@ use Rattle.html_pieces.specs.declared.tokenizer.PieceKind.TheVariants.{Text}
 use Rattle.hyphenation_segments.specs.Laws.{with_marks}
 use Rattle.hyphenation_html.specs.Dictionaries.{Breaks}
 use Rattle.hyphenation_html.specs.Languages.{Language, best_of, breaks_under, coded, languages_by}
-use Rattle.hyphenation_html.specs.Places.{is_left_alone}
+use Rattle.hyphenation_html.specs.LeftAlone.{left_alone_elements, is_left_alone}
 use Rattle.hyphenation_html.specs.Touching.{touched_after, touched_before}
 use Rattle.hyphenation_html.specs.Words.{is_left_whole}
 use Rattle.any_dictionary.specs.declared.AnyDictionary.{AnyDictionary}
@@ -51,8 +51,9 @@ abbrev pub marked_text : Breaks → List ℕ → Bool → Bool → List ℕ → 
 marked_text breaks mark before after text = marked_tokens breaks mark before after [] text
 
 -- A text of an element with its marks.
-abbrev pub marked_in : List Language → List ℕ → Element → Bool → Bool → List ℕ → List ℕ
-marked_in languages mark element before after text =
+abbrev pub marked_in : List Language → List ℕ → Option Element → Bool → Bool → List ℕ → List ℕ
+marked_in languages mark None before after text = text
+marked_in languages mark (Some element) before after text =
     if is_left_alone element text then text
     else option_map_or (λ language. marked_text language.1 mark before after text) (best_of element.language languages) text
 
@@ -62,16 +63,16 @@ is_text Text = true
 is_text _ = false
 
 -- A piece with its marks.
-abbrev pub marked_piece : List Language → List ℕ → Element → Bool → Bool → PieceKind → List ℕ → List ℕ
-marked_piece languages mark element before after Text text = marked_in languages mark element before after text
-marked_piece languages mark element before after _ text = text
+abbrev pub marked_piece : List Language → List ℕ → Option Element → Bool → Bool → PieceKind → List ℕ → List ℕ
+marked_piece languages mark parent before after Text text = marked_in languages mark parent before after text
+marked_piece languages mark parent before after _ text = text
 
 -- Pieces with their marks, by a reading.
 unfoldable pub marked_pieces : List Language → List ℕ → PageForm → List ℕ → Element → Reading → Bool → List Piece → List ℕ
 marked_pieces languages mark form class page reading before [] = []
 marked_pieces languages mark form class page reading before (p ∷ ps) =
-    marked_piece languages mark (standing form page reading) before (touched_after ps) p.kind p.bytes
-    ++ marked_pieces languages mark form class page (reading_after form class page reading p)
+    marked_piece languages mark (parent_of_text form page reading) before (touched_after ps) p.kind p.bytes
+    ++ marked_pieces languages mark form class page (reading_after form (left_alone_elements class) page reading p)
     (touched_before before p.kind p.bytes) ps
 
 -- ---- the same by the settings and dictionaries of a call
@@ -86,19 +87,20 @@ abbrev pub marked_text_by : Settings → AnyDictionary → Bool → Bool → Lis
 marked_text_by settings dictionary before after text =
     marked_text (breaks_under settings dictionary) settings.mark.now before after text
 
--- The dictionary, with its code, for a text in an element; none where the text is left alone.
-abbrev pub dictionary_in : List LanguageDictionary → Element → List ℕ → Option (List ℕ × AnyDictionary)
-dictionary_in languages element text = if is_left_alone element text then None else best_of element.language (map coded languages)
+-- The dictionary, with its code, for a text in an element; none where the text is left alone, or the element is not known.
+abbrev pub dictionary_in : List LanguageDictionary → Option Element → List ℕ → Option (List ℕ × AnyDictionary)
+dictionary_in languages None text = None
+dictionary_in languages (Some element) text = if is_left_alone element text then None else best_of element.language (map coded languages)
 
 -- A text of an element with its marks.
-abbrev pub marked_in_by : Settings → List LanguageDictionary → held.Element → Bool → Bool → List ℕ → List ℕ
-marked_in_by settings languages element before after text =
-    marked_in (languages_by settings languages) settings.mark.now (as_element element) before after text
+abbrev pub marked_in_by : Settings → List LanguageDictionary → Option held.Element → Bool → Bool → List ℕ → List ℕ
+marked_in_by settings languages parent before after text =
+    marked_in (languages_by settings languages) settings.mark.now (option_map as_element parent) before after text
 
 -- A piece with its marks.
-abbrev pub marked_piece_by : Settings → List LanguageDictionary → held.Element → Bool → Bool → cut.Piece → List ℕ
-marked_piece_by settings languages element before after piece =
-    marked_piece (languages_by settings languages) settings.mark.now (as_element element) before after piece.kind
+abbrev pub marked_piece_by : Settings → List LanguageDictionary → Option held.Element → Bool → Bool → cut.Piece → List ℕ
+marked_piece_by settings languages parent before after piece =
+    marked_piece (languages_by settings languages) settings.mark.now (option_map as_element parent) before after piece.kind
     piece.text.now
 
 -- All pieces of a page with their marks.
