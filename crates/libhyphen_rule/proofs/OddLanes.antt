@@ -9,7 +9,7 @@ use Rattle.std.proofs.lemmas.Nat.{and_mask}
 use Rattle.std.proofs.lemmas.Simd.{first_set_mask_l, map-map, mask_l-mod, tops_compared, zip2_splat, zip2_splat_left}
 use lib.Count.{count_trailing_zeros}
 use lib.Dec.{eqb}
-use lib.Lanes.{mask_l, first_level, zip2}
+use lib.Lanes.{mask_l, top, zip2}
 use Rattle.libhyphen_rule.specs.OneLevel.{is_odd}
 
 -- A lane is odd if its lowest bit is above 0.
@@ -23,7 +23,7 @@ odd_lane_is x =
 
 -- The mask of 16 lanes has a bit for each odd one.
 pub odd_mask : (xs : List ℕ) → length xs ≡ 16
-    → mask_l (map (first_level 7) (zip2 (λ a b. cond (ltb a b) 255 0) (replicate 16 0) (zip2 bit_and xs (replicate 16 1)))) % 2 ^ 64
+    → mask_l (map (top 7) (zip2 (λ a b. cond (ltb a b) 255 0) (replicate 16 0) (zip2 bit_and xs (replicate 16 1)))) % 2 ^ 64
     ≡ mask_l (map odd_lane xs)
 odd_mask xs long =
     let anded : zip2 bit_and xs (replicate 16 1) ≡ map (λ x. bit_and x 1) xs = zip2_splat bit_and xs 16 1 long in
