@@ -128,21 +128,21 @@ fn dictionary_of_levels(
     alloc: Global,
     charset: &[u8],
     utf8: bool,
-    first_level: GrowingLevel,
-    next_level: GrowingLevel,
+    first: GrowingLevel,
+    next: GrowingLevel,
 ) -> Result<LevelDictionary, AllocError>
-    requires first_level { IsGrowing first_level }
-    requires next_level { IsGrowing next_level }
+    requires first { IsGrowing first }
+    requires next { IsGrowing next }
     ensures { IfOk result (λ dictionary. dictionary
-        ≡ record { charset = charset.now; utf8 = utf8; first_level = level_in first_level; next_level = level_in next_level }) }
+        ≡ record { charset = charset.now; utf8 = utf8; first_level = level_in first; next_level = level_in next }) }
 {
-    let first_level = first_level.freeze(alloc)?;
+    let first_level = first.freeze(alloc)?;
     let ordinary = ordinary_bytes(first_level.no_hyphen());
     Ok(LevelDictionary {
         charset: charset.to_vec(alloc)?,
         utf8,
         first_level,
-        next_level: next_level.freeze(alloc)?,
+        next_level: next.freeze(alloc)?,
         ordinary,
     })
 }
