@@ -5,6 +5,7 @@ pub mod Limits
 pub mod BestLanguages
 pub mod WordMarks
 pub mod PassedWords
+pub mod LetterTokens
 pub mod PageSteps
 pub mod Marks
 pub mod MarkedTexts

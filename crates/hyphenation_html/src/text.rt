@@ -1,22 +1,26 @@
 //! The words of a text between tags.
 
-ghost use Rattle.std.specs.Prelude.{◌≡◌, ◌++◌, ◌&&◌, [], map, not, IfOk, IsTrue, OnOk};
+ghost use Rattle.std.specs.Prelude.{◌≡◌, ◌++◌, ◌&&◌, ◌<◌, ◌≤◌, [], true, map, not, slice_range, IfOk, IsTrue, OnOk};
+ghost use Rattle.std.specs.Char.{is_ascii_alphabetic};
+ghost use Rattle.std.specs.List.{list_all};
+ghost use Rattle.std.specs.Str.{IsCharBoundary};
 ghost use Rattle.std.specs.String.{string_bytes};
 ghost use Rattle.hyphenation_breaks.specs.Break.{plain_break};
 ghost use Rattle.hyphenation_segments.specs.Fits.{Fits};
 ghost use Rattle.hyphenation_html.specs.Languages.{breaks_under};
 ghost use Rattle.hyphenation_html.specs.Words.{is_left_whole};
-ghost use Rattle.hyphenation_html.specs.Private.Marked.{so_far, token_unless, marked_text_by};
+ghost use Rattle.hyphenation_html.specs.Private.Marked.{so_far, marked_token_by, marked_text_by, token_unless, Leaves};
 
 use crate::settings::Settings;
 use crate::words::{is_left_whole, is_passed_over};
+use addresses::laws::letters_are_no_address;
 use any_dictionary::AnyDictionary;
 use html_pieces::bytes::is_white_space;
 use hyphenation_segments::iter::laws::marked_segments_join;
 use hyphenation_segments::iter::push_marked_text;
 use std::alloc::{AllocError, Global};
 use word_pieces::WordPieces;
-use word_pieces::laws::pieces_are_slices;
+use word_pieces::laws::{letters_are_one_piece, pieces_are_slices};
 
 // A text that is being written, and a list for the breaks of a word, for which memory is taken once.
 #[derive(Drop)]
@@ -66,44 +70,116 @@ fn is_whole(is_asked: bool, token: &str) -> bool
     !is_asked && is_left_whole(token)
 }
 
-// Appends a token, which is between white space, with the mark at the breaks of its words. It is appended as it is where
-// it is left whole, or where its word goes on outside of the text.
+// A token of a text, which is between white space.
+#[derive(Clone, Copy)]
+struct Token<'t> {
+    // The text.
+    text: &'t str,
+    // Where it begins and ends.
+    start: usize,
+    end: usize,
+    // Whether its word goes on outside of the text.
+    touches: bool,
+    // Whether it is known to be of ASCII letters only.
+    letters: bool,
+    ghost order: { start ≤ end },
+    ghost begins: { IsCharBoundary text.now start },
+    ghost ends: { IsCharBoundary text.now end },
+    ghost alphabetic: { letters ≡ true → list_all is_ascii_alphabetic (slice_range text.now start end) ≡ true },
+}
+
+// Writes a token of some ASCII letters, as `push_token` does: it is one word, and is not left whole.
+fn push_letters(
+    output: &mut Output,
+    dictionary: &AnyDictionary,
+    settings: &Settings<'_>,
+    token: Token<'_>,
+    kept: usize,
+) -> Result<usize, AllocError>
+    requires letters { token.letters ≡ true }
+    requires some { token.start < token.end }
+    requires kept { kept ≤ token.start }
+    requires begins { IsCharBoundary token.text.now kept }
+    ensures { IfOk result (λ left. Leaves token.entry.text.now left token.entry.end (so_far output.new) (so_far output.old
+        ++ (slice_range token.entry.text.now kept token.entry.start
+        ++ marked_token_by settings.now dictionary.now (slice_range token.entry.text.now token.entry.start token.entry.end)))) }
+{
+    letters_are_one_piece();
+    letters_are_no_address();
+    marked_segments_join();
+    let word = &token.text[token.start..token.end];
+    if !output.find_breaks(dictionary, settings, word)? {
+        return Ok(kept);
+    }
+    output.text.push_str(&token.text[kept..token.start])?;
+    push_marked_text(&mut output.text, word, &output.breaks, settings.mark)?;
+    Ok(token.end)
+}
+
+// Writes a token, as `push_token` does, by its words.
+fn push_words(
+    output: &mut Output,
+    dictionary: &AnyDictionary,
+    settings: &Settings<'_>,
+    token: Token<'_>,
+    kept: usize,
+) -> Result<usize, AllocError>
+    requires kept { kept ≤ token.start }
+    requires begins { IsCharBoundary token.text.now kept }
+    ensures { IfOk result (λ left. Leaves token.entry.text.now left token.entry.end (so_far output.new) (so_far output.old
+        ++ (slice_range token.entry.text.now kept token.entry.start
+        ++ marked_token_by settings.now dictionary.now (slice_range token.entry.text.now token.entry.start token.entry.end)))) }
+{
+    pieces_are_slices();
+    marked_segments_join();
+    // Most tokens have no word with breaks, and need not be looked at for what leaves them whole.
+    let mut is_asked = false;
+    let mut left = kept;
+    let mut at = token.start;
+    let own = &token.text[token.start..token.end];
+    for word in WordPieces::new(own) {
+        let end = at + word.len();
+        if output.find_breaks(dictionary, settings, word)? {
+            if is_whole(is_asked, own) {
+                return Ok(kept);
+            }
+            is_asked = true;
+            output.text.push_str(&token.text[left..at])?;
+            push_marked_text(&mut output.text, word, &output.breaks, settings.mark)?;
+            left = end;
+        }
+        at = end;
+    }
+    Ok(left)
+}
+
+// Appends the text from `kept` on through a token, with the mark at the breaks of the token's words. It is left as it is where
+// it is left whole, or where its word goes on outside of the text. What stays as it is at the end is not appended yet.
+// Returns where that begins.
 fn push_token(
     output: &mut Output,
     dictionary: &AnyDictionary,
     settings: &Settings<'_>,
-    token: &str,
-    touches: bool,
-) -> Result<(), AllocError>
-    ensures { OnOk result (so_far output.new
-        ≡ so_far output.old ++ token_unless touches settings.now dictionary.now token.now) }
+    token: Token<'_>,
+    kept: usize,
+) -> Result<usize, AllocError>
+    requires kept { kept ≤ token.start }
+    requires begins { IsCharBoundary token.text.now kept }
+    ensures { IfOk result (λ left. Leaves token.entry.text.now left token.entry.end (so_far output.new) (so_far output.old
+        ++ (slice_range token.entry.text.now kept token.entry.start ++ token_unless token.entry.touches settings.now dictionary.now
+        (slice_range token.entry.text.now token.entry.start token.entry.end)))) }
 {
-    if touches {
-        return output.text.push_str(token);
+    if token.touches {
+        return Ok(kept);
     }
-    pieces_are_slices();
-    marked_segments_join();
-    // A word without breaks is not appended by itself: the token from `start` on is still to be appended. Most tokens have
-    // no word with breaks, and need not be looked at for what leaves them whole.
-    let mut is_asked = false;
-    let mut start = 0;
-    let mut at = 0;
-    for word in WordPieces::new(token) {
-        let end = at + word.len();
-        if output.find_breaks(dictionary, settings, word)? {
-            if is_whole(is_asked, token) {
-                output.text.push_str(&token[start..])?;
-                return Ok(());
-            }
-            is_asked = true;
-            output.text.push_str(&token[start..at])?;
-            push_marked_text(&mut output.text, word, &output.breaks, settings.mark)?;
-            start = end;
-        }
-        at = end;
+    if token.start == token.end {
+        return Ok(kept);
     }
-    output.text.push_str(&token[start..])?;
-    Ok(())
+    if token.letters {
+        push_letters(output, dictionary, settings, token, kept)
+    } else {
+        push_words(output, dictionary, settings, token, kept)
+    }
 }
 
 // Appends a text with the mark at the breaks of its words, but of those that go on outside of it.
@@ -119,16 +195,39 @@ pub(crate) fn push_text(
         ++ marked_text_by settings.now dictionary.now touched_before touched_after text.now) }
 {
     let bytes = text.as_bytes();
-    let mut before = touched_before;
+    let mut touches = touched_before;
+    let mut letters = true;
     let mut start = 0;
-    for i in 0..bytes.len() {
-        if is_white_space(bytes[i]) {
-            push_token(output, dictionary, settings, &text[start..i], before)?;
-            output.text.push(char::from(bytes[i]))?;
-            before = false;
-            start = i + 1;
+    // The text from here on is not appended yet.
+    let mut kept = 0;
+    for end in 0..bytes.len() {
+        let byte = bytes[end];
+        if byte.is_ascii_alphabetic() {
+            continue;
+        }
+        if is_white_space(byte) {
+            let token = Token {
+                text,
+                start,
+                end,
+                touches,
+                letters,
+            };
+            kept = push_token(output, dictionary, settings, token, kept)?;
+            touches = false;
+            letters = true;
+            start = end + 1;
+        } else {
+            letters = false;
         }
     }
-    let touches = before || touched_after;
-    push_token(output, dictionary, settings, &text[start..], touches)
+    let token = Token {
+        text,
+        start,
+        end: text.len(),
+        touches: touches || touched_after,
+        letters,
+    };
+    kept = push_token(output, dictionary, settings, token, kept)?;
+    output.text.push_str(&text[kept..])
 }

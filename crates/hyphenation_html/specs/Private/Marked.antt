@@ -1,7 +1,8 @@
 -- A page with marks, piece by piece, as it is written.
-use Rattle.std.specs.Prelude.{ℕ, ◌||◌, Bool, true, false, List, [], ◌∷◌, ◌++◌, map, Option, Some, None, if◌then◌else◌}
+use Rattle.std.specs.Prelude.{◌≡◌, ℕ, ◌≤◌, ◌||◌, Bool, true, false, List, [], ◌∷◌, ◌++◌, map, slice_range, Option, Some, None, if◌then◌else◌}
 use Rattle.std.specs.Option.{option_map, option_map_or}
 use Rattle.std.specs.List.{flat_map}
+use Rattle.std.specs.Str.{IsCharBoundary}
 use Rattle.std.specs.String.{string_bytes}
 use Rattle.hyphenation_html.specs.declared.text.Output.{Output}
 use Rattle.unicode_segmentation.specs.Word.{word_bounds}
@@ -77,10 +78,19 @@ marked_pieces languages mark form class page reading before (p ∷ ps) =
 
 -- ---- the same by the settings and dictionaries of a call
 
+-- A token with its marks.
+abbrev pub marked_token_by : Settings → AnyDictionary → List ℕ → List ℕ
+marked_token_by settings dictionary token = marked_token (breaks_under settings dictionary) settings.mark.now token
+
 -- A token with its marks, or as it is where its word goes on outside of the text.
 abbrev pub token_unless : Bool → Settings → AnyDictionary → List ℕ → List ℕ
-token_unless touches settings dictionary token =
-    if touches then token else marked_token (breaks_under settings dictionary) settings.mark.now token
+token_unless touches settings dictionary token = if touches then token else marked_token_by settings dictionary token
+
+-- What is written, and the text from a place to an end, which is not appended yet, are the whole.
+pub record Leaves (text : List ℕ) (kept end : ℕ) (output whole : List ℕ) : Type 0 where
+  pub order : kept ≤ end
+  pub begins : IsCharBoundary text kept
+  pub gives : output ++ slice_range text kept end ≡ whole
 
 -- A text with its marks.
 abbrev pub marked_text_by : Settings → AnyDictionary → Bool → Bool → List ℕ → List ℕ

@@ -1,0 +1,68 @@
+-- Tokens of ASCII letters, and tokens without bytes.
+use Rattle.std.proofs.Common.{◌≡◌, ℕ, ◌<◌, ◌==◌, ◌&&◌, Bool, true, false, List, [], ◌∷◌, ◌++◌, map, length, refl, sym, ap, ◌∙◌, arith, append_assoc, append-nil, if◌then◌else◌}
+use Rattle.std.specs.Char.{is_ascii_alphabetic}
+use Rattle.std.specs.List.{flat_map, list_all}
+use Rattle.std.specs.Str.{IsCharBoundary, chars}
+use Rattle.std.proofs.lemmas.Bool.{and_parts, and_right, or_from, ne_eqb, false≢true}
+use Rattle.unicode_segmentation.specs.Segments.{segments, cut}
+use Rattle.unicode_segmentation.specs.Word.{word_bounds}
+use Rattle.word_pieces.specs.Pieces.{LettersAreOnePiece}
+use Rattle.addresses.specs.Addresses.{is_address, LettersAreNoAddress}
+use Rattle.hyphenation_breaks.specs.Break.{plain_break}
+use Rattle.hyphenation_segments.specs.Fits.{Fits}
+use Rattle.hyphenation_segments.specs.Segments as marked
+use Rattle.hyphenation_segments.specs.Laws.{JoinsToMarkedText}
+use Rattle.hyphenation_html.specs.Dictionaries.{Breaks}
+use Rattle.hyphenation_html.specs.Words.{has_soft_hyphen_after, is_left_whole}
+use Rattle.hyphenation_html.specs.Private.Marked.{marked_word, marked_token, Leaves}
+use Rattle.hyphenation_html.proofs.Slices.{slice_none}
+use Rattle.hyphenation_html.proofs.WordMarks.{plainly_marked}
+
+-- ---- letters
+
+no_hyphen : (before : ℕ) (text : List ℕ) → list_all is_ascii_alphabetic text ≡ true → has_soft_hyphen_after before text ≡ false
+no_hyphen before [] all = refl
+no_hyphen before (b ∷ bs) all =
+    let letter = and_parts (is_ascii_alphabetic b) (list_all is_ascii_alphabetic bs) all in
+    or_from (before == 0xC2 && b == 0xAD) (has_soft_hyphen_after b bs)
+    (and_right (before == 0xC2) (b == 0xAD) (ne_eqb b 0xAD (λ e. false≢true (sym (ap is_ascii_alphabetic e) ∙ letter.0)))) (no_hyphen b bs letter.1)
+
+not_left : (token : List ℕ) → LettersAreNoAddress → list_all is_ascii_alphabetic token ≡ true → is_left_whole token ≡ false
+unfolding is_left_whole
+not_left token none all = or_from (has_soft_hyphen_after 0 token) (is_address token) (no_hyphen 0 token all) (none token all)
+
+-- A token of some letters is one word.
+pub letters_marked : (breaks : Breaks) (mark token : List ℕ) → LettersAreOnePiece → LettersAreNoAddress → 0 < length token → list_all is_ascii_alphabetic token ≡ true
+    → marked_token breaks mark token ≡ marked_word breaks mark token
+unfolding marked_token
+letters_marked breaks mark token one none some all =
+    ap (λ c. if c then token else flat_map (marked_word breaks mark) (word_bounds token)) (not_left token none all)
+    ∙ ap (flat_map (marked_word breaks mark)) (one token some all) ∙ append-nil (marked_word breaks mark token)
+
+-- The word is appended with its marks, after the text that was passed.
+pub word_appended : (breaks : Breaks) (mark text word old passed after pending token places : List ℕ) (end : ℕ) → JoinsToMarkedText → marked_token breaks mark token ≡ marked_word breaks mark token → word ≡ token
+    → IsCharBoundary text end → Fits word (map plain_break places) → places ≡ breaks word → passed ≡ old ++ pending → after ≡ passed ++ marked.marked_word mark word (map plain_break places)
+    → Leaves text end end after (old ++ (pending ++ marked_token breaks mark token))
+word_appended breaks mark text word old passed after pending token places end joins one are e fit places_are first second =
+    let own = marked_word breaks mark word in
+    record {
+      order = omega arith;
+      begins = e;
+      gives =
+          ap (λ x. after ++ x) (slice_none text end) ∙ append-nil after ∙ second ∙ ap (λ x. passed ++ x) (plainly_marked breaks mark word word places joins refl fit places_are)
+          ∙ ap (λ x. x ++ own) first ∙ append_assoc old pending own ∙ ap (λ x. old ++ (pending ++ x)) (ap (marked_word breaks mark) are ∙ sym one);
+    }
+
+-- ---- no bytes
+
+no_bounds : word_bounds [] ≡ []
+unfolding segments cut chars
+no_bounds = refl
+
+none_either : (breaks : Breaks) (mark : List ℕ) (c : Bool) → (if c then [] else flat_map (marked_word breaks mark) (word_bounds [])) ≡ []
+none_either breaks mark true = refl
+none_either breaks mark false = ap (flat_map (marked_word breaks mark)) no_bounds
+
+pub nothing_marked : (breaks : Breaks) (mark token : List ℕ) → token ≡ [] → marked_token breaks mark token ≡ token
+unfolding marked_token
+nothing_marked breaks mark token none = ap (marked_token breaks mark) none ∙ none_either breaks mark (is_left_whole []) ∙ sym none
