@@ -43,6 +43,7 @@ impl Output {
     }
 
     // Puts the breaks of a word into the list, none where it is passed over. Returns whether there is one.
+    #[inline(always)]
     fn find_breaks(
         &mut self,
         dictionary: &AnyDictionary,
@@ -89,6 +90,7 @@ struct Token<'t> {
 }
 
 // Writes a token of some ASCII letters, as `push_token` does: it is one word, and is not left whole.
+#[inline(always)]
 fn push_letters(
     output: &mut Output,
     dictionary: &AnyDictionary,
@@ -156,6 +158,7 @@ fn push_words(
 // Appends the text from `kept` on through a token, with the mark at the breaks of the token's words. It is left as it is where
 // it is left whole, or where its word goes on outside of the text. What stays as it is at the end is not appended yet.
 // Returns where that begins.
+#[inline(always)]
 fn push_token(
     output: &mut Output,
     dictionary: &AnyDictionary,
