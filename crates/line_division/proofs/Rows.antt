@@ -101,7 +101,7 @@ pub drop_whole : (all : List Kept) → drop (length all) all ≡ []
 drop_whole [] = refl
 drop_whole (kept ∷ all) = drop_whole all
 
--- What is repeated is read at each place, and beyond all of them, too.
+-- A thing that is repeated is read at each place, and beyond all of them, too.
 pub replicated : {X : Type 0} (n i : ℕ) (x : X) → slice_index_or (replicate n x) i x ≡ x
 replicated zero i x = refl
 replicated (suc n) zero x = refl

@@ -2,8 +2,8 @@
 //!
 //! Most often one line is the best after many runs. So it is kept once, with the longest run after which it is known to
 //! be the best. At most places that is one line. The lines of a place are in the order of their runs: the first one by
-//! itself, and all others in one list. Most paragraphs have no line that is too wide or over a ladder. What such lines
-//! cost is apart from the first lines of all places, and takes no memory there.
+//! itself, and all others in one list. Most paragraphs have no line that is too wide or over a ladder. The first lines
+//! of all places are without the cost of such lines, which is kept apart and takes no memory there.
 
 ghost use Rattle.std.specs.Prelude.{◌≡◌, ℕ, ◌+◌, ◌^◌, ◌<◌, ◌≤◌, Option, length, drop};
 ghost use Rattle.line_division.specs.Private.Plain.{IsSpentAlone};
@@ -33,10 +33,10 @@ pub(crate) struct Kept {
     pub(crate) last_run: u8,
 }
 
-// The same line, without its excess and the lines that are over the ladder.
+// A line that is best after the shortest runs, without its excess and the lines that are over the ladder.
 #[derive(Clone, Copy)]
 pub(crate) struct First {
-    // What it and the best lines after it spend.
+    // The sum that it and the best lines after it spend.
     pub(crate) spent: u64,
     // Where it ends.
     pub(crate) end: u32,
@@ -55,7 +55,7 @@ pub(crate) struct Surplus {
 }
 
 impl Surplus {
-    // That of no lines.
+    // The surplus of no lines.
     pub(crate) const NONE: Surplus = Surplus { excess: 0, over: 0 };
 }
 

@@ -86,11 +86,16 @@ marked_token_by settings dictionary token = marked_token (breaks_under settings 
 abbrev pub token_unless : Bool → Settings → AnyDictionary → List ℕ → List ℕ
 token_unless touches settings dictionary token = if touches then token else marked_token_by settings dictionary token
 
--- What is written, and the text from a place to an end, which is not appended yet, are the whole.
+-- The text written so far, and that from a place to an end, which is not appended yet, are the whole.
 pub record Leaves (text : List ℕ) (kept end : ℕ) (output whole : List ℕ) : Type 0 where
   pub order : kept ≤ end
   pub begins : IsCharBoundary text kept
   pub gives : output ++ slice_range text kept end ≡ whole
+
+-- A text from a place through a token is written, the token as it is marked. The end of it, from `left` on, is not appended yet.
+abbrev pub Marks : List ℕ → ℕ → ℕ → ℕ → ℕ → Output → Output → (List ℕ → List ℕ) → Type 0
+Marks text kept start end left old new marked =
+    Leaves text left end (so_far new) (so_far old ++ (slice_range text kept start ++ marked (slice_range text start end)))
 
 -- A text with its marks.
 abbrev pub marked_text_by : Settings → AnyDictionary → Bool → Bool → List ℕ → List ℕ
