@@ -2,8 +2,6 @@
 use Rattle.std.proofs.Common.{◌≡◌, ℕ, nat_eq, ◌||◌, ◌&&◌, Bool, true, false, not, zero, suc, List, [], ◌∷◌, ◌++◌, take, drop, refl, ap, sym, ◌∙◌, Option, Some, None, if◌then◌else◌}
 use Rattle.std.proofs.lemmas.Bool.{or_right, and_right}
 use Rattle.std.specs.Option.{option_map_or}
-use Rattle.std.specs.Str.{chars}
-use Rattle.unicode_segmentation.specs.Segments.{segments, cut}
 use Rattle.unicode_segmentation.specs.Word.{word_bounds}
 use Rattle.html_pieces.specs.Bytes.{is_white_space}
 use Rattle.html_pieces.specs.Elements.{Element}
@@ -14,16 +12,13 @@ use Rattle.hyphenation_html.specs.Dictionaries.{Breaks}
 use Rattle.hyphenation_html.specs.Languages.{Language, best_of}
 use Rattle.hyphenation_html.specs.Laws.{soft_hyphen}
 use Rattle.hyphenation_html.specs.Words.{is_left_whole}
+use Rattle.hyphenation_html.proofs.LetterTokens.{no_bounds}
 use Rattle.hyphenation_html.specs.LeftAlone.{has_text_left_alone, is_left_alone}
 use Rattle.hyphenation_html.specs.Places.{shifted, words_places, token_places, tokens_places, text_places, places_in}
 
 either_none : (c : Bool) (xs : List ℕ) → xs ≡ [] → (if c then [] else xs) ≡ []
 either_none true xs e = refl
 either_none false xs e = e
-
-no_bounds : word_bounds [] ≡ []
-unfolding segments cut chars
-no_bounds = refl
 
 no_word : (breaks : Breaks) → token_places breaks [] ≡ []
 unfolding token_places

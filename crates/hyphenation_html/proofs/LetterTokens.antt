@@ -55,7 +55,7 @@ word_appended breaks mark text word old passed after pending token places end jo
 
 -- ---- no bytes
 
-no_bounds : word_bounds [] ≡ []
+pub no_bounds : word_bounds [] ≡ []
 unfolding segments cut chars
 no_bounds = refl
 

@@ -3,7 +3,7 @@ use Rattle.std.proofs.Common.{◌≡◌, ◌⊎◌, inl, inr, ℕ, ◌+◌, ◌-
 use Rattle.std.specs.List.{concat, flat_map}
 use Rattle.std.specs.Str.{IsUtf8, IsCharBoundary}
 use Rattle.std.proofs.lemmas.Bool.{cases_lt}
-use Rattle.std.proofs.lemmas.List.Edits.{get_or-between}
+use Rattle.std.proofs.lemmas.List.Edits.{get_or-between, length-between}
 use Rattle.unicode_segmentation.specs.Segments.{with_offsets}
 use Rattle.unicode_segmentation.specs.Word.{word_bounds}
 use Rattle.word_pieces.specs.Pieces.{AreSlices, IsSlice, PiecesAreSlices, PiecesJoin}
@@ -14,7 +14,7 @@ use Rattle.hyphenation_segments.specs.Laws.{with_marks, JoinsToMarkedText}
 use Rattle.hyphenation_html.specs.Dictionaries.{Breaks}
 use Rattle.hyphenation_html.specs.Words.{is_left_whole}
 use Rattle.hyphenation_html.specs.Private.Marked.{marked_word, marked_token, Leaves}
-use Rattle.hyphenation_html.proofs.Slices.{slice_none, slice_length, slice_join, slice_in}
+use Rattle.hyphenation_html.proofs.Slices.{slice_none, slice_join, slice_in}
 use Rattle.hyphenation_html.proofs.WordMarks.{plainly_marked}
 
 -- ---- words of a token, as words of its text
@@ -33,7 +33,7 @@ boundary_cases text token start end k order e are long at (inr le) =
 
 boundary_in : (text token : List ℕ) (start end k : ℕ) → start ≤ end → IsCharBoundary text end → token ≡ slice_range text start end → IsCharBoundary token k → IsCharBoundary text (start + k)
 boundary_in text token start end k order e are at =
-    boundary_cases text token start end k order e are (ap length are ∙ slice_length text start end e.0) at (cases_lt k (length token))
+    boundary_cases text token start end k order e are (ap length are ∙ length-between text start end e.0) at (cases_lt k (length token))
 
 next_slice : (token : List ℕ) (at : ℕ) (word : List ℕ) (rest : List (List ℕ)) → AreSlices token (with_offsets at (word ∷ rest))
     → IsSlice token (at, word) × AreSlices token (with_offsets (at + length word) rest)
@@ -100,7 +100,7 @@ pub passed_none : (breaks : Breaks) (mark text token output : List ℕ) (kept st
 passed_none breaks mark text token output kept start end left slices join v le order k s e are all =
     let words = slices_of_text text token start end 0 (word_bounds token) order e are (slices token v) in
     let none : start + 0 ≡ start = omega arith in
-    let long : length (concat left) ≡ end - start = ap length (ap concat all ∙ join token v ∙ are) ∙ slice_length text start end e.0 in
+    let long : length (concat left) ≡ end - start = ap length (ap concat all ∙ join token v ∙ are) ∙ length-between text start end e.0 in
     record {
       order = le;
       ends = omega (arith, long, order);

@@ -1,6 +1,6 @@
 //! The words of a text between tags.
 
-ghost use Rattle.std.specs.Prelude.{◌≡◌, ◌++◌, ◌&&◌, ◌<◌, ◌≤◌, [], true, map, not, slice_range, IfOk, IsTrue, OnOk};
+ghost use Rattle.std.specs.Prelude.{◌≡◌, ◌++◌, ◌&&◌, ◌<◌, ◌≤◌, [], false, true, map, not, slice_range, IfOk, IsTrue, OnOk};
 ghost use Rattle.std.specs.Char.{is_ascii_alphabetic};
 ghost use Rattle.std.specs.List.{list_all};
 ghost use Rattle.std.specs.Str.{IsCharBoundary};
@@ -9,7 +9,7 @@ ghost use Rattle.hyphenation_breaks.specs.Break.{plain_break};
 ghost use Rattle.hyphenation_segments.specs.Fits.{Fits};
 ghost use Rattle.hyphenation_html.specs.Languages.{breaks_under};
 ghost use Rattle.hyphenation_html.specs.Words.{is_left_whole};
-ghost use Rattle.hyphenation_html.specs.Private.Marked.{so_far, marked_token_by, marked_text_by, token_unless, Marks};
+ghost use Rattle.hyphenation_html.specs.Private.Marked.{so_far, marked_text_by, Puts};
 
 use crate::settings::Settings;
 use crate::words::{is_left_whole, is_passed_over};
@@ -102,8 +102,8 @@ fn push_letters(
     requires some { token.start < token.end }
     requires kept { kept ≤ token.start }
     requires begins { IsCharBoundary token.text.now kept }
-    ensures { IfOk result (λ left. Marks token.entry.text.now kept token.entry.start token.entry.end left output.old output.new
-        (marked_token_by settings.now dictionary.now)) }
+    ensures { IfOk result (Puts false settings.now dictionary.now
+        token.entry.text.now kept token.entry.start token.entry.end output.old output.new) }
 {
     letters_are_one_piece();
     letters_are_no_address();
@@ -127,8 +127,8 @@ fn push_words(
 ) -> Result<usize, AllocError>
     requires kept { kept ≤ token.start }
     requires begins { IsCharBoundary token.text.now kept }
-    ensures { IfOk result (λ left. Marks token.entry.text.now kept token.entry.start token.entry.end left output.old output.new
-        (marked_token_by settings.now dictionary.now)) }
+    ensures { IfOk result (Puts false settings.now dictionary.now
+        token.entry.text.now kept token.entry.start token.entry.end output.old output.new) }
 {
     pieces_are_slices();
     marked_segments_join();
@@ -153,9 +153,9 @@ fn push_words(
     Ok(left)
 }
 
-// Appends the text from `kept` on through a token, with the mark at the breaks of the token's words. It is left as it is where
-// it is left whole, or where its word goes on outside of the text. An end that is not changed is not appended yet.
-// Returns where it begins.
+// Appends the text from `kept` on through a token, with the mark at the breaks of the token's words. The token is left as it
+// is where it is left whole, or where its word goes on outside of the text. Bytes at its end that stay as they are wait to be
+// appended with the text after them. Returns where they begin.
 #[inline(always)]
 fn push_token(
     output: &mut Output,
@@ -166,8 +166,8 @@ fn push_token(
 ) -> Result<usize, AllocError>
     requires kept { kept ≤ token.start }
     requires begins { IsCharBoundary token.text.now kept }
-    ensures { IfOk result (λ left. Marks token.entry.text.now kept token.entry.start token.entry.end left output.old output.new
-        (token_unless token.entry.touches settings.now dictionary.now)) }
+    ensures { IfOk result (Puts token.entry.touches settings.now dictionary.now
+        token.entry.text.now kept token.entry.start token.entry.end output.old output.new) }
 {
     if token.touches {
         return Ok(kept);

@@ -78,24 +78,22 @@ marked_pieces languages mark form class page reading before (p ∷ ps) =
 
 -- ---- the same by the settings and dictionaries of a call
 
--- A token with its marks.
-abbrev pub marked_token_by : Settings → AnyDictionary → List ℕ → List ℕ
-marked_token_by settings dictionary token = marked_token (breaks_under settings dictionary) settings.mark.now token
-
 -- A token with its marks, or as it is where its word goes on outside of the text.
 abbrev pub token_unless : Bool → Settings → AnyDictionary → List ℕ → List ℕ
-token_unless touches settings dictionary token = if touches then token else marked_token_by settings dictionary token
+token_unless touches settings dictionary token =
+    if touches then token else marked_token (breaks_under settings dictionary) settings.mark.now token
 
--- The text written so far, and that from a place to an end, which is not appended yet, are the whole.
+-- The output, and the text from a place to an end, which is not appended yet, are the whole.
 pub record Leaves (text : List ℕ) (kept end : ℕ) (output whole : List ℕ) : Type 0 where
   pub order : kept ≤ end
   pub begins : IsCharBoundary text kept
   pub gives : output ++ slice_range text kept end ≡ whole
 
--- A text from a place through a token is written, the token as it is marked. The end of it, from `left` on, is not appended yet.
-abbrev pub Marks : List ℕ → ℕ → ℕ → ℕ → ℕ → Output → Output → (List ℕ → List ℕ) → Type 0
-Marks text kept start end left old new marked =
-    Leaves text left end (so_far new) (so_far old ++ (slice_range text kept start ++ marked (slice_range text start end)))
+-- The text from `kept` on through a token is written with the token's marks, or is left from a place on.
+abbrev pub Puts : Bool → Settings → AnyDictionary → List ℕ → ℕ → ℕ → ℕ → Output → Output → ℕ → Type 0
+Puts touches settings dictionary text kept start end old new left =
+    let own = token_unless touches settings dictionary (slice_range text start end) in
+    Leaves text left end (so_far new) (so_far old ++ (slice_range text kept start ++ own))
 
 -- A text with its marks.
 abbrev pub marked_text_by : Settings → AnyDictionary → Bool → Bool → List ℕ → List ℕ

@@ -1,5 +1,6 @@
 use Rattle.std.proofs.Common.{◌++◌, ◌∙◌, map, ap, sym, subst, not, slice_range, length, arith, ◌<◌}
 use Rattle.std.specs.String.{string_bytes}
+use Rattle.std.proofs.lemmas.List.Edits.{length-between}
 use Rattle.hyphenation_breaks.specs.Break.{plain_break}
 use Rattle.hyphenation_segments.specs.Fits.{Fits}
 use Rattle.hyphenation_segments.specs.Laws.{with_marks}
@@ -7,7 +8,6 @@ use Rattle.hyphenation_html.specs.Languages.{breaks_under}
 use Rattle.hyphenation_html.specs.Private.Marked.{marked_token, Leaves}
 use Rattle.hyphenation_html.proofs.LetterTokens.{letters_marked, word_appended}
 use Rattle.hyphenation_html.proofs.PassedWords.{leaves_all}
-use Rattle.hyphenation_html.proofs.Slices.{slice_length}
 use Rattle.hyphenation_html.proofs.text.push_letters.Goals as goal
 
 pub returns-then-not-branch : goal.returns-then-not-branch
@@ -15,7 +15,7 @@ returns-then-not-branch c =
     let breaks = breaks_under c.args.settings.now c.args.dictionary.now in
     let mark = c.args.settings.now.mark.now in
     let token = slice_range c.args.token.text.now c.args.token.start c.args.token.end in
-    let some : 0 < length token = omega (arith, slice_length c.args.token.text.now c.args.token.start c.args.token.end c.args.token.ends.0, c.requires.some) in
+    let some : 0 < length token = omega (arith, length-between c.args.token.text.now c.args.token.start c.args.token.end c.args.token.ends.0, c.requires.some) in
     let one = letters_marked breaks mark token c.letters_are_one_piece.ensures c.letters_are_no_address.ensures some (c.args.token.alphabetic c.requires.letters) in
     let none = ap breaks (sym c.range-word.ensures.value) ∙ c.in_ok-find_breaks.ensures.none (ap not c.if-not-branch.true) in
     subst (λ o. Leaves c.args.token.text.now c.args.kept c.args.token.end o (string_bytes c.args.output.now.text ++ (slice_range c.args.token.text.now c.args.kept c.args.token.start ++ marked_token breaks mark token))) (sym (ap string_bytes c.find_breaks.ensures.text))
@@ -27,7 +27,7 @@ returns c =
     let breaks = breaks_under c.args.settings.now c.args.dictionary.now in
     let mark = c.args.settings.now.mark.now in
     let token = slice_range c.args.token.text.now c.args.token.start c.args.token.end in
-    let some : 0 < length token = omega (arith, slice_length c.args.token.text.now c.args.token.start c.args.token.end c.args.token.ends.0, c.requires.some) in
+    let some : 0 < length token = omega (arith, length-between c.args.token.text.now c.args.token.start c.args.token.end c.args.token.ends.0, c.requires.some) in
     let one = letters_marked breaks mark token c.letters_are_one_piece.ensures c.letters_are_no_address.ensures some (c.args.token.alphabetic c.requires.letters) in
     let word = c.range-word.result.now in
     let found = c.in_ok-find_breaks.ensures in
