@@ -1,5 +1,5 @@
 -- Lines that are kept for runs of hyphens.
-use Rattle.std.proofs.Common.{◌≡◌, ℕ, ◌<◌, ◌≤◌, nat_lt, replicate, slice_index_or, zero, suc, true, false, List, [], ◌∷◌, ◌++◌, length, drop, sym, ap, subst, refl, ◌∙◌, arith, inl, inr}
+use Rattle.std.proofs.Common.{◌≡◌, ℕ, ◌<◌, ◌≤◌, nat_lt, zero, suc, true, false, List, [], ◌∷◌, ◌++◌, length, drop, sym, ap, subst, refl, ◌∙◌, arith, inl, inr}
 use Rattle.std.proofs.lemmas.Bool.{cases_lt, cond-true, cond-false}
 use Rattle.std.proofs.lemmas.List.{drop-append-le}
 use Rattle.line_division.specs.declared.table.Kept.{Kept}
@@ -100,9 +100,3 @@ has_added first all more at run has =
 pub drop_whole : (all : List Kept) → drop (length all) all ≡ []
 drop_whole [] = refl
 drop_whole (kept ∷ all) = drop_whole all
-
--- A thing that is repeated is read at each place, and beyond all of them, too.
-pub replicated : {X : Type 0} (n i : ℕ) (x : X) → slice_index_or (replicate n x) i x ≡ x
-replicated zero i x = refl
-replicated (suc n) zero x = refl
-replicated (suc n) (suc i) x = replicated n i x

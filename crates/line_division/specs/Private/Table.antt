@@ -2,10 +2,7 @@
 use Rattle.std.specs.Prelude.{ℕ, ◌<◌, ◌≤◌, ◌⊎◌, nat_lt, if◌then◌else◌, ⊤, List, [], ◌∷◌, length, drop}
 use Rattle.std.specs.List.{slice_index_or}
 use Rattle.line_division.specs.declared.table.Choice.{Choice}
-use Rattle.line_division.specs.declared.cost.Cost.{Cost}
-use Rattle.line_division.specs.declared.table.First.{First}
 use Rattle.line_division.specs.declared.table.Kept.{Kept}
-use Rattle.line_division.specs.declared.table.Surplus.{Surplus}
 use Rattle.line_division.specs.declared.table.Choices.{Choices}
 use Rattle.line_division.specs.Cost.{nothing}
 
@@ -32,38 +29,10 @@ AreShorter (kept ∷ row) run = (kept.last_run < run) × AreShorter row run
 abbrev pub begin_at : Choices → ℕ → ℕ
 begin_at choices place = slice_index_or choices.begins.items place 0
 
--- A line that spends nothing.
-abbrev pub none_first : First
-none_first = record { spent = 0; end = 0; last_run = 0 }
-
--- No surplus.
-abbrev pub no_surplus : Surplus
-no_surplus = record { excess = 0; over = 0 }
-
--- The surplus of a cost.
-abbrev pub surplus_of : Cost → Surplus
-surplus_of cost = record { excess = cost.excess; over = cost.over }
-
--- The surplus of the line that is kept for a place after no hyphens. There is none where none is kept.
-abbrev pub surplus_at : Choices → ℕ → Surplus
-surplus_at choices place = slice_index_or choices.surpluses.items place no_surplus
-
--- A line with its surplus.
-abbrev pub with_surplus : First → Surplus → Kept
-with_surplus first surplus = record {
-  cost = record { excess = surplus.excess; over = surplus.over; spent = first.spent };
-  end = first.end;
-  last_run = first.last_run;
-}
-
--- The line that is kept for a place after no hyphens.
-abbrev pub first_at : Choices → ℕ → Kept
-first_at choices place =
-    with_surplus (slice_index_or choices.firsts.items place none_first) (surplus_at choices place)
-
 -- The lines that are kept for a place, and what comes after them in the list of the others.
 abbrev pub row_at : Choices → ℕ → List Kept
-row_at choices place = first_at choices place ∷ drop (begin_at choices place) choices.others.items
+row_at choices place =
+    slice_index_or choices.firsts.items place none_kept ∷ drop (begin_at choices place) choices.others.items
 
 -- The line that is kept for a place after a run.
 abbrev pub kept_at : Choices → ℕ → ℕ → Kept
