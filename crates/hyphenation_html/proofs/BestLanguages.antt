@@ -1,11 +1,9 @@
 -- The best language is the same, whatever is beside the codes.
 use Rattle.std.proofs.Common.{◌≡◌, ℕ, ◌&&◌, Bool, true, false, List, [], ◌∷◌, map, length, nat_lt, refl, ap, sym, ◌∙◌, Option, Some, None, if◌then◌else◌}
 use Rattle.std.specs.Option.{option_map}
-use Rattle.hyphenation_html.specs.Languages.{coded, breaking, languages_by, code_length, better, best_from, best_of, serves}
+use Rattle.hyphenation_html.specs.Languages.{breaks_under, coded, breaking, languages_by, code_length, better, best_from, best_of, serves}
 use Rattle.any_dictionary.specs.declared.AnyDictionary.{AnyDictionary}
 use Rattle.hyphenation_html.specs.declared.languages.LanguageDictionary.{LanguageDictionary}
-use Rattle.hyphenation_html.specs.Words.{within_limits}
-use Rattle.any_dictionary.specs.Dictionaries.{places_by}
 use Rattle.html_pieces.specs.Elements.{Element}
 use Rattle.hyphenation_html.specs.LeftAlone.{is_left_alone}
 use Rattle.hyphenation_html.specs.Private.Marked.{dictionary_in, marked_in, marked_text}
@@ -41,7 +39,7 @@ best_alike settings tag languages = from_alike settings tag None languages
 -- A text with its marks by a dictionary, if there is one.
 abbrev by_found : Settings → List ℕ → List ℕ → Bool → Bool → Option (List ℕ × AnyDictionary) → List ℕ
 by_found settings mark text before after found =
-    option_map_or (λ l. marked_text (within_limits settings.min_word settings.skip_capitals (places_by l.1)) mark before after text) found text
+    option_map_or (λ l. marked_text (breaks_under settings l.1) mark before after text) found text
 
 breaking_found : (settings : Settings) (mark text : List ℕ) (before after : Bool) (found : Option (List ℕ × AnyDictionary))
     → by_found settings mark text before after found ≡ option_map_or (λ l. marked_text l.1 mark before after text) (option_map (breaking settings) found) text
@@ -59,7 +57,7 @@ unless_alone settings mark text tag before after languages false =
 -- A text in an element, by the dictionary that is found for it.
 pub marked_by_found : (settings : Settings) (mark text : List ℕ) (element : Option Element) (before after : Bool) (languages : List LanguageDictionary) (found : Option (List ℕ × AnyDictionary))
     → found ≡ dictionary_in languages element text
-    → option_map_or (λ l. marked_text (within_limits settings.min_word settings.skip_capitals (places_by l.1)) mark before after text) found text
+    → option_map_or (λ l. marked_text (breaks_under settings l.1) mark before after text) found text
     ≡ marked_in (languages_by settings languages) mark element before after text
 marked_by_found settings mark text None before after languages found is = ap (by_found settings mark text before after) is
 marked_by_found settings mark text (Some element) before after languages found is =

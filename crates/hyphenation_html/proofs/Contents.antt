@@ -2,7 +2,7 @@
 use Rattle.std.proofs.Common.{◌≡◌, ℕ, nat_eq, ◌||◌, ◌&&◌, Bool, true, false, not, zero, suc, List, [], ◌∷◌, ◌++◌, take, drop, refl, ap, sym, ◌∙◌, Option, Some, None, if◌then◌else◌}
 use Rattle.std.proofs.lemmas.Bool.{or_right, and_right}
 use Rattle.std.specs.Option.{option_map_or}
-use Rattle.unicode_segmentation.specs.Word.{word_bounds}
+use Rattle.text_words.specs.Words.{text_words}
 use Rattle.html_pieces.specs.Bytes.{is_white_space}
 use Rattle.html_pieces.specs.Elements.{Element}
 use Rattle.html_pieces.specs.Forms.{begins_with_order_mark}
@@ -12,7 +12,7 @@ use Rattle.hyphenation_html.specs.Dictionaries.{Breaks}
 use Rattle.hyphenation_html.specs.Languages.{Language, best_of}
 use Rattle.hyphenation_html.specs.Laws.{soft_hyphen}
 use Rattle.hyphenation_html.specs.Words.{is_left_whole}
-use Rattle.hyphenation_html.proofs.LetterTokens.{no_bounds}
+use Rattle.hyphenation_html.proofs.LetterTokens.{no_words}
 use Rattle.hyphenation_html.specs.LeftAlone.{has_text_left_alone, is_left_alone}
 use Rattle.hyphenation_html.specs.Places.{shifted, words_places, token_places, tokens_places, text_places, places_in}
 
@@ -22,7 +22,7 @@ either_none false xs e = e
 
 no_word : (breaks : Breaks) → token_places breaks [] ≡ []
 unfolding token_places
-no_word breaks = either_none (is_left_whole []) (words_places breaks (word_bounds [])) (ap (words_places breaks) no_bounds)
+no_word breaks = either_none (is_left_whole []) (words_places breaks (text_words [])) (ap (words_places breaks) no_words)
 
 white_first : (c d : Bool) → not c || d ≡ false → c ≡ true
 white_first true d e = refl

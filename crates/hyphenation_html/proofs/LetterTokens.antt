@@ -5,9 +5,8 @@ use Rattle.std.specs.List.{flat_map, list_all}
 use Rattle.std.specs.Str.{IsCharBoundary, chars}
 use Rattle.std.proofs.lemmas.Bool.{and_parts, and_right, or_from, ne_eqb, false≢true}
 use Rattle.unicode_segmentation.specs.Segments.{segments, cut}
-use Rattle.unicode_segmentation.specs.Word.{word_bounds}
-use Rattle.word_pieces.specs.Pieces.{LettersAreOnePiece}
-use Rattle.addresses.specs.Addresses.{is_address, LettersAreNoAddress}
+use Rattle.text_words.specs.Words.{text_words, LettersAreOneWord}
+use Rattle.text_words.specs.Names.{is_name, LettersAreNoName}
 use Rattle.hyphenation_breaks.specs.Break.{plain_break}
 use Rattle.hyphenation_segments.specs.Fits.{Fits}
 use Rattle.hyphenation_segments.specs.Segments as marked
@@ -27,17 +26,17 @@ no_hyphen before (b ∷ bs) all =
     or_from (before == 0xC2 && b == 0xAD) (has_soft_hyphen_after b bs)
     (and_right (before == 0xC2) (b == 0xAD) (ne_eqb b 0xAD (λ e. false≢true (sym (ap is_ascii_alphabetic e) ∙ letter.0)))) (no_hyphen b bs letter.1)
 
-not_left : (token : List ℕ) → LettersAreNoAddress → list_all is_ascii_alphabetic token ≡ true → is_left_whole token ≡ false
+not_left : (token : List ℕ) → LettersAreNoName → list_all is_ascii_alphabetic token ≡ true → is_left_whole token ≡ false
 unfolding is_left_whole
-not_left token none all = or_from (has_soft_hyphen_after 0 token) (is_address token) (no_hyphen 0 token all) (none token all)
+not_left token none all = or_from (has_soft_hyphen_after 0 token) (is_name token) (no_hyphen 0 token all) (none token all)
 
 -- A token of some letters is one word.
-pub letters_marked : (breaks : Breaks) (mark token : List ℕ) → LettersAreOnePiece → LettersAreNoAddress → 0 < length token → list_all is_ascii_alphabetic token ≡ true
+pub letters_marked : (breaks : Breaks) (mark token : List ℕ) → LettersAreOneWord → LettersAreNoName → 0 < length token → list_all is_ascii_alphabetic token ≡ true
     → marked_token breaks mark token ≡ marked_word breaks mark token
 unfolding marked_token
 letters_marked breaks mark token one none some all =
-    ap (λ c. if c then token else flat_map (marked_word breaks mark) (word_bounds token)) (not_left token none all)
-    ∙ ap (flat_map (marked_word breaks mark)) (one token some all) ∙ append-nil (marked_word breaks mark token)
+    ap (λ c. if c then token else flat_map (marked_word breaks mark) (text_words token)) (not_left token none all)
+    ∙ ap (flat_map (marked_word breaks mark)) (one token some all).0 ∙ append-nil (marked_word breaks mark token)
 
 -- The word is appended with its marks, after the text that was passed.
 pub word_appended : (breaks : Breaks) (mark text word old passed after pending token places : List ℕ) (end : ℕ) → JoinsToMarkedText → marked_token breaks mark token ≡ marked_word breaks mark token → word ≡ token
@@ -55,13 +54,13 @@ word_appended breaks mark text word old passed after pending token places end jo
 
 -- ---- no bytes
 
-pub no_bounds : word_bounds [] ≡ []
-unfolding segments cut chars
-no_bounds = refl
+pub no_words : text_words [] ≡ []
+unfolding text_words segments cut chars
+no_words = refl
 
-none_either : (breaks : Breaks) (mark : List ℕ) (c : Bool) → (if c then [] else flat_map (marked_word breaks mark) (word_bounds [])) ≡ []
+none_either : (breaks : Breaks) (mark : List ℕ) (c : Bool) → (if c then [] else flat_map (marked_word breaks mark) (text_words [])) ≡ []
 none_either breaks mark true = refl
-none_either breaks mark false = ap (flat_map (marked_word breaks mark)) no_bounds
+none_either breaks mark false = ap (flat_map (marked_word breaks mark)) no_words
 
 pub nothing_marked : (breaks : Breaks) (mark token : List ℕ) → token ≡ [] → marked_token breaks mark token ≡ token
 unfolding marked_token

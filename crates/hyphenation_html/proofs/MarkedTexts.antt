@@ -1,12 +1,11 @@
 -- A text that is written word by word is the text with marks at its places.
-use Rattle.std.proofs.Common.{◌≡◌, ℕ, ◌+◌, ◌<◌, ◌||◌, Bool, true, false, cond, List, [], ◌∷◌, ◌++◌, map, length, refl, ap, sym, ◌∙◌, arith, append_assoc, append-nil, subst, IsTrue, if◌then◌else◌}
-use Rattle.std.specs.Prelude.{encode_utf8, encode_utf8_all}
+use Rattle.std.proofs.Common.{◌≡◌, ℕ, ◌+◌, ◌<◌, ◌||◌, Bool, true, false, List, [], ◌∷◌, ◌++◌, length, refl, sym, arith, append_assoc, append-nil, subst, IsTrue, if◌then◌else◌}
 use Rattle.std.specs.List.{concat, flat_map}
-use Rattle.std.specs.Str.{IsUtf8, chars}
-use Rattle.std.proofs.Math.Seq.{take-append_seam}
-use Rattle.std.proofs.lemmas.Str.{encodes-append, encodes-chars, IsUtf8-past_char, IsUtf8-take, IsCharBoundary-at_seam}
-use Rattle.unicode_segmentation.specs.Segments.{Rule, prepend, cut, segments}
-use Rattle.unicode_segmentation.specs.Word.{is_word_break, word_bounds}
+use Rattle.std.specs.Str.{IsUtf8}
+use Rattle.std.proofs.lemmas.Str.{IsUtf8-between}
+use Rattle.unicode_segmentation.specs.Segments.{with_offsets}
+use Rattle.text_words.specs.Words.{text_words, WordsAreSlices, WordsJoin}
+use Rattle.word_pieces.specs.Pieces.{AreSlices}
 use Rattle.html_pieces.specs.Bytes.{is_white_space}
 use Rattle.hyphenation_breaks.specs.Break.{ascend_on}
 use Rattle.hyphenation_segments.specs.Laws.{JoinsToText, JoinsToMarkedText}
@@ -29,8 +28,10 @@ ascend_within text least (p ∷ ps) a =
     let first = ascends_of text least p ps a in
     (boundary_within text p first.at, ascend_within text (p + 1) ps first.later)
 
--- The laws of segments and of breaks that the libraries prove.
+-- The laws of segments, breaks and words that the libraries prove.
 pub record Laws : Type 0 where
+  pub words : WordsAreSlices
+  pub words_join : WordsJoin
   pub join : JoinsToText
   pub joins : JoinsToMarkedText
   pub fit : FitWhereAscending
@@ -42,42 +43,20 @@ word_marked laws breaks mark word a u = record {
   parts = word_in_parts mark word (breaks word) laws.join laws.joins ((laws.fit word (breaks word)).1 (a word u));
 }
 
-after_word : (cs rest : List ℕ) → IsUtf8 (encode_utf8_all cs ++ rest) → IsUtf8 rest
-after_word [] rest u = u
-after_word (c ∷ cs) rest u = after_word cs rest (IsUtf8-past_char _ _ c u (append_assoc (encode_utf8 c) (encode_utf8_all cs) rest))
-
-words_marked : (laws : Laws) (breaks : Breaks) (mark : List ℕ) → AllAscend breaks → (pieces : List (List ℕ)) → IsUtf8 (concat (map encode_utf8_all pieces))
-    → IsMarked mark (concat (map encode_utf8_all pieces)) (words_places breaks (map encode_utf8_all pieces)) (flat_map (marked_word breaks mark) (map encode_utf8_all pieces))
-words_marked laws breaks mark a [] u = unmarked mark []
-words_marked laws breaks mark a (cs ∷ pieces) u =
-    let word : List ℕ = encode_utf8_all cs in
-    let rest : List ℕ = concat (map encode_utf8_all pieces) in
-    let later : IsUtf8 rest = after_word cs rest u in
-    let own : IsUtf8 word = subst IsUtf8 (take-append_seam word rest) (IsUtf8-take (word ++ rest) (length word) u (IsCharBoundary-at_seam (word ++ rest) word rest refl later)) in
-    joined (word_marked laws breaks mark word a own) (words_marked laws breaks mark a pieces later)
-
--- The bytes of a part that is put in front, and of the parts that are cut off.
-front_bytes : (part : List ℕ) (pieces : List (List ℕ)) → concat (map encode_utf8_all (prepend part pieces)) ≡ encode_utf8_all part ++ concat (map encode_utf8_all pieces)
-front_bytes part [] = refl
-front_bytes part (cs ∷ pieces) = ap (λ xs. xs ++ concat (map encode_utf8_all pieces)) (encodes-append part cs) ∙ append_assoc (encode_utf8_all part) (encode_utf8_all cs) (concat (map encode_utf8_all pieces))
-
-cut_bytes : (rule : Rule) (before cs after : List ℕ) → concat (map encode_utf8_all (cut rule before cs after)) ≡ encode_utf8_all cs
-unfolding cut
-cut_bytes rule before [] after = refl
-cut_bytes rule before (c ∷ cs) after =
-    let rest = cut rule (c ∷ before) cs after in
-    let bytes = encode_utf8_all (c ∷ []) ++ concat (map encode_utf8_all rest) in
-    elim (rule (c ∷ before) (cs ++ after)) as (λ b. concat (map encode_utf8_all (cond b ((c ∷ []) ∷ rest) (prepend (c ∷ []) rest))) ≡ bytes) [ true ↦ refl | false ↦ front_bytes (c ∷ []) rest ]
-    ∙ ap (λ x. x ++ concat (map encode_utf8_all rest)) (append-nil (encode_utf8 c)) ∙ ap (λ xs. encode_utf8 c ++ xs) (cut_bytes rule (c ∷ before) cs after)
+words_marked : (laws : Laws) (breaks : Breaks) (mark : List ℕ) → AllAscend breaks → (text : List ℕ) (at : ℕ) (words : List (List ℕ)) → IsUtf8 text → AreSlices text (with_offsets at words)
+    → IsMarked mark (concat words) (words_places breaks words) (flat_map (marked_word breaks mark) words)
+unfolding with_offsets
+words_marked laws breaks mark a text at [] u s = unmarked mark []
+words_marked laws breaks mark a text at (word ∷ words) u s =
+    let own : IsUtf8 word = subst IsUtf8 (sym s.0.bytes) (IsUtf8-between text at (at + length word) u (omega arith) s.0.start s.0.end) in
+    joined (word_marked laws breaks mark word a own) (words_marked laws breaks mark a text (at + length word) words u s.1)
 
 -- ---- tokens
 
-token_words : (laws : Laws) (breaks : Breaks) (mark token : List ℕ) → AllAscend breaks → IsUtf8 token → IsMarked mark token (words_places breaks (word_bounds token)) (flat_map (marked_word breaks mark) (word_bounds token))
-unfolding segments
+token_words : (laws : Laws) (breaks : Breaks) (mark token : List ℕ) → AllAscend breaks → IsUtf8 token → IsMarked mark token (words_places breaks (text_words token)) (flat_map (marked_word breaks mark) (text_words token))
 token_words laws breaks mark token a u =
-    let whole = cut_bytes is_word_break [] (chars token) [] ∙ encodes-chars token u in
-    let m = words_marked laws breaks mark a (cut is_word_break [] (chars token) []) (subst IsUtf8 (sym whole) u) in
-    subst (λ t. IsMarked mark t (words_places breaks (word_bounds token)) (flat_map (marked_word breaks mark) (word_bounds token))) whole m
+    subst (λ t. IsMarked mark t (words_places breaks (text_words token)) (flat_map (marked_word breaks mark) (text_words token))) (laws.words_join token u)
+    (words_marked laws breaks mark a token 0 (text_words token) u (laws.words token u))
 
 pub unless : {mark text pa oa : List ℕ} (c : Bool) → IsMarked mark text pa oa → IsMarked mark text (if c then [] else pa) (if c then text else oa)
 unless {mark} {text} true m = unmarked mark text

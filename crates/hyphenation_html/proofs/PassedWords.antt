@@ -5,8 +5,8 @@ use Rattle.std.specs.Str.{IsUtf8, IsCharBoundary}
 use Rattle.std.proofs.lemmas.Bool.{cases_lt}
 use Rattle.std.proofs.lemmas.List.Edits.{get_or-between, length-between}
 use Rattle.unicode_segmentation.specs.Segments.{with_offsets}
-use Rattle.unicode_segmentation.specs.Word.{word_bounds}
-use Rattle.word_pieces.specs.Pieces.{AreSlices, IsSlice, PiecesAreSlices, PiecesJoin}
+use Rattle.text_words.specs.Words.{text_words, WordsAreSlices, WordsJoin}
+use Rattle.word_pieces.specs.Pieces.{AreSlices, IsSlice}
 use Rattle.hyphenation_breaks.specs.Break.{plain_break}
 use Rattle.hyphenation_segments.specs.Fits.{Fits}
 use Rattle.hyphenation_segments.specs.Segments as segments
@@ -82,7 +82,7 @@ written_words breaks mark token words = flat_map (written_word breaks mark (is_l
 -- The text that is not appended yet, and the words of a token as they are written, after what was written before.
 abbrev pub written_after : Breaks → List ℕ → List ℕ → List ℕ → List ℕ → ℕ → ℕ → List ℕ
 written_after breaks mark text token old kept start =
-    old ++ (slice_range text kept start ++ written_words breaks mark token (word_bounds token))
+    old ++ (slice_range text kept start ++ written_words breaks mark token (text_words token))
 
 -- The words of a token up to a place are passed, and the text from `kept` on to there is not appended yet. The output, that
 -- text and the words to come give the result.
@@ -94,11 +94,11 @@ pub record IsPassed (breaks : Breaks) (mark text token whole output : List ℕ) 
   pub slices : AreSlices text (with_offsets at left)
   pub gives : output ++ (slice_range text kept at ++ written_words breaks mark token left) ≡ whole
 
-pub passed_none : (breaks : Breaks) (mark text token output : List ℕ) (kept start end : ℕ) (left : List (List ℕ)) → PiecesAreSlices → PiecesJoin → IsUtf8 token → kept ≤ start → start ≤ end
-    → IsCharBoundary text kept → IsCharBoundary text start → IsCharBoundary text end → token ≡ slice_range text start end → left ≡ word_bounds token
+pub passed_none : (breaks : Breaks) (mark text token output : List ℕ) (kept start end : ℕ) (left : List (List ℕ)) → WordsAreSlices → WordsJoin → IsUtf8 token → kept ≤ start → start ≤ end
+    → IsCharBoundary text kept → IsCharBoundary text start → IsCharBoundary text end → token ≡ slice_range text start end → left ≡ text_words token
     → IsPassed breaks mark text token (written_after breaks mark text token output kept start) output kept start end left
 passed_none breaks mark text token output kept start end left slices join v le order k s e are all =
-    let words = slices_of_text text token start end 0 (word_bounds token) order e are (slices token v) in
+    let words = slices_of_text text token start end 0 (text_words token) order e are (slices token v) in
     let none : start + 0 ≡ start = omega arith in
     let long : length (concat left) ≡ end - start = ap length (ap concat all ∙ join token v ∙ are) ∙ length-between text start end e.0 in
     record {
@@ -106,7 +106,7 @@ passed_none breaks mark text token output kept start end left slices join v le o
       ends = omega (arith, long, order);
       begins = k;
       goes_on = s;
-      slices = subst (λ ws. AreSlices text (with_offsets start ws)) (sym all) (subst (λ n. AreSlices text (with_offsets n (word_bounds token))) none words);
+      slices = subst (λ ws. AreSlices text (with_offsets start ws)) (sym all) (subst (λ n. AreSlices text (with_offsets n (text_words token))) none words);
       gives = ap (λ ws. output ++ (slice_range text kept start ++ written_words breaks mark token ws)) all;
     }
 
@@ -168,18 +168,18 @@ words_as_they_are : (breaks : Breaks) (mark : List ℕ) (words : List (List ℕ)
 words_as_they_are breaks mark [] = refl
 words_as_they_are breaks mark (word ∷ words) = ap (λ x. word ++ x) (words_as_they_are breaks mark words)
 
-words_by : (breaks : Breaks) (mark token : List ℕ) (whole : Bool) → concat (word_bounds token) ≡ token
-    → flat_map (written_word breaks mark whole) (word_bounds token) ≡ (if whole then token else flat_map (marked_word breaks mark) (word_bounds token))
-words_by breaks mark token true join = words_as_they_are breaks mark (word_bounds token) ∙ join
+words_by : (breaks : Breaks) (mark token : List ℕ) (whole : Bool) → concat (text_words token) ≡ token
+    → flat_map (written_word breaks mark whole) (text_words token) ≡ (if whole then token else flat_map (marked_word breaks mark) (text_words token))
+words_by breaks mark token true join = words_as_they_are breaks mark (text_words token) ∙ join
 words_by breaks mark token false join = refl
 
 -- The words of a token as they are written are the token with its marks.
-words_written : (breaks : Breaks) (mark token : List ℕ) → PiecesJoin → IsUtf8 token → written_words breaks mark token (word_bounds token) ≡ marked_token breaks mark token
+words_written : (breaks : Breaks) (mark token : List ℕ) → WordsJoin → IsUtf8 token → written_words breaks mark token (text_words token) ≡ marked_token breaks mark token
 unfolding marked_token
 words_written breaks mark token join u = words_by breaks mark token (is_left_whole token) (join token u)
 
 -- At the end the text that was passed is all that is left of the token.
-pub all_passed : {breaks : Breaks} {mark text token output : List ℕ} {kept at end : ℕ} (from start : ℕ) (old own : List ℕ) → PiecesJoin → IsUtf8 token → own ≡ token
+pub all_passed : {breaks : Breaks} {mark text token output : List ℕ} {kept at end : ℕ} (from start : ℕ) (old own : List ℕ) → WordsJoin → IsUtf8 token → own ≡ token
     → IsPassed breaks mark text token (written_after breaks mark text token old from start) output kept at end []
     → Leaves text kept end output (old ++ (slice_range text from start ++ marked_token breaks mark own))
 all_passed {breaks} {mark} {text} {token} {output} {kept} {at} {end} from start old own join u are h =
@@ -196,7 +196,7 @@ all_passed {breaks} {mark} {text} {token} {output} {kept} {at} {end} from start 
 
 whole_token : (breaks : Breaks) (mark token : List ℕ) → is_left_whole token ≡ true → marked_token breaks mark token ≡ token
 unfolding marked_token
-whole_token breaks mark token whole = ap (λ c. if c then token else flat_map (marked_word breaks mark) (word_bounds token)) whole
+whole_token breaks mark token whole = ap (λ c. if c then token else flat_map (marked_word breaks mark) (text_words token)) whole
 
 -- Nothing of a token is appended where it stays as it is.
 pub leaves_all : (text output marked : List ℕ) (kept start end : ℕ) → kept ≤ start → start ≤ end → IsCharBoundary text kept → IsCharBoundary text start → marked ≡ slice_range text start end

@@ -2,12 +2,12 @@
 use Rattle.std.proofs.Common.{◌≡◌, ℕ, ◌==◌, ◌&&◌, ◌||◌, Bool, true, false, List, [], ◌∷◌, ◌++◌, length, take, drop, refl, ap, sym, ◌∙◌, append_assoc, append-nil, subst, if◌then◌else◌, suc, zero, ◌<◌, arith}
 use Rattle.std.proofs.lemmas.Bool.{or_left, or_right}
 use Rattle.std.specs.Str.{IsUtf8}
-use Rattle.unicode_segmentation.specs.Word.{word_bounds}
+use Rattle.text_words.specs.Words.{text_words}
 use Rattle.hyphenation_segments.specs.Laws.{with_marks}
 use Rattle.html_pieces.specs.Bytes.{is_white_space}
 use Rattle.hyphenation_html.specs.Laws.{soft_hyphen}
 use Rattle.hyphenation_html.specs.Dictionaries.{Breaks}
-use Rattle.addresses.specs.Addresses.{is_address}
+use Rattle.text_words.specs.Names.{is_name}
 use Rattle.hyphenation_html.specs.Words.{has_soft_hyphen_after, is_left_whole}
 use Rattle.hyphenation_html.specs.Places.{shifted, words_places, token_places, tokens_places, text_places}
 use Rattle.hyphenation_html.specs.Private.Marked.{marked_token, marked_tokens}
@@ -52,14 +52,14 @@ marks_seen before (x ∷ xs) ys =
 
 whole_by_mark : (xs ys : List ℕ) → is_left_whole ((xs ++ soft_hyphen) ++ ys) ≡ true
 unfolding is_left_whole
-whole_by_mark xs ys = or_left (has_soft_hyphen_after 0 ((xs ++ soft_hyphen) ++ ys)) (is_address ((xs ++ soft_hyphen) ++ ys)) (marks_seen 0 xs ys)
+whole_by_mark xs ys = or_left (has_soft_hyphen_after 0 ((xs ++ soft_hyphen) ++ ys)) (is_name ((xs ++ soft_hyphen) ++ ys)) (marks_seen 0 xs ys)
 
 no_places : (breaks : Breaks) (token places : List ℕ) → token_places breaks token ≡ places → token_places breaks (with_marks soft_hyphen token places) ≡ []
 unfolding token_places
 no_places breaks token [] e = e
 no_places breaks token (p ∷ ps) e =
     let marked = with_marks soft_hyphen token (p ∷ ps) in
-    ap (λ c. if c then [] else words_places breaks (word_bounds marked)) (whole_by_mark (take p token) (drop p (with_marks soft_hyphen token ps)))
+    ap (λ c. if c then [] else words_places breaks (text_words marked)) (whole_by_mark (take p token) (drop p (with_marks soft_hyphen token ps)))
 
 -- ---- texts
 

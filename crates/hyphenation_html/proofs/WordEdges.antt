@@ -5,7 +5,7 @@ use Rattle.std.proofs.lemmas.List.{take-append-drop}
 use Rattle.hyphenation_segments.specs.Laws.{with_marks}
 use Rattle.hyphenation_html.specs.Laws.{soft_hyphen}
 use Rattle.hyphenation_html.specs.Touching.{begins_in_word, ends_in_word}
-use Rattle.addresses.specs.Addresses.{is_of_word}
+use Rattle.text_words.specs.Names.{is_of_word}
 
 -- The last byte is of a word, where `last` says so of what is before the text.
 ends_after : Bool → List ℕ → Bool

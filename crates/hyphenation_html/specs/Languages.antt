@@ -5,6 +5,7 @@ use Rattle.std.specs.Option.{option_map_or}
 use Rattle.std.specs.String.{string_bytes}
 use Rattle.html_pieces.specs.Bytes.{is_same_name}
 use Rattle.any_dictionary.specs.Dictionaries.{places_by}
+use Rattle.text_words.specs.Words.{unless_mixed}
 use Rattle.hyphenation_html.specs.Dictionaries.{Breaks}
 use Rattle.hyphenation_html.specs.Words.{within_limits}
 use Rattle.any_dictionary.specs.declared.AnyDictionary.{AnyDictionary}
@@ -19,9 +20,9 @@ Language = List ℕ × Breaks
 abbrev pub coded : LanguageDictionary → List ℕ × AnyDictionary
 coded language = (string_bytes language.code, language.dictionary)
 
--- The breaks of words by a dictionary and some settings.
+-- The breaks of words by a dictionary and some settings. A word with a letter beside a digit has none.
 abbrev pub breaks_under : Settings → AnyDictionary → Breaks
-breaks_under settings dictionary = within_limits settings.min_word settings.skip_capitals (places_by dictionary)
+breaks_under settings dictionary = within_limits settings.min_word settings.skip_capitals (unless_mixed (places_by dictionary))
 
 -- A code with the breaks of words by its dictionary and some settings.
 abbrev pub breaking : Settings → List ℕ × AnyDictionary → Language

@@ -1,8 +1,7 @@
 -- Where marks are put into a page. Places are byte offsets.
--- Source of words: UAX #29, Unicode Text Segmentation, as the kit's crate `unicode_segmentation` states it.
 use Rattle.std.specs.Prelude.{◌≡◌, ℕ, ◌+◌, ◌||◌, Bool, false, List, [], ◌∷◌, ◌++◌, map, length, Option, Some, None, if◌then◌else◌}
 use Rattle.std.specs.Option.{option_map_or}
-use Rattle.unicode_segmentation.specs.Word.{word_bounds}
+use Rattle.text_words.specs.Words.{text_words}
 use Rattle.html_pieces.specs.Bytes.{is_white_space}
 use Rattle.html_pieces.specs.declared.bytes.PageForm.{PageForm}
 use Rattle.html_pieces.specs.Forms.{form_of}
@@ -32,7 +31,7 @@ words_places breaks (word ∷ words) = breaks word ++ shifted (length word) (wor
 
 -- The breaks of the words of a token, which is between white space; none where it is left whole.
 unfoldable pub token_places : Breaks → List ℕ → List ℕ
-token_places breaks token = if is_left_whole token then [] else words_places breaks (word_bounds token)
+token_places breaks token = if is_left_whole token then [] else words_places breaks (text_words token)
 
 -- The breaks of a text from a token on, whose bytes so far are `front`. A token whose word goes on outside of the text has
 -- none. It is the first one where something touches the text from before, and the last one where it does from after.

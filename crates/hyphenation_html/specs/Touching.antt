@@ -1,7 +1,7 @@
 -- Words that go on beyond a text: over a tag within a line, or in a character reference.
 use Rattle.std.specs.Prelude.{ℕ, ◌-◌, ◌||◌, Bool, true, false, List, [], ◌∷◌, length, slice_get, if◌then◌else◌}
 use Rattle.std.specs.Option.{option_map_or}
-use Rattle.addresses.specs.Addresses.{is_of_word}
+use Rattle.text_words.specs.Names.{is_of_word}
 use Rattle.html_pieces.specs.Names.{name_of}
 use Rattle.html_pieces.specs.Bytes.{is_named}
 use Rattle.html_pieces.specs.Pieces.{Piece}

@@ -1,10 +1,10 @@
 -- Words that are left as they are.
 use Rattle.std.specs.Prelude.{ℕ, ◌==◌, ◌||◌, ◌&&◌, Bool, false, List, [], ◌∷◌, length, chars, nat_lt, if◌then◌else◌}
-use Rattle.addresses.specs.Addresses.{is_address}
+use Rattle.text_words.specs.Names.{is_name}
 use Rattle.unicode.specs.Binary.{is_uppercase}
 use Rattle.hyphenation_html.specs.Dictionaries.{Breaks}
 
--- ---- words, which are the pieces between word bounds
+-- ---- words
 
 -- The first of some characters is a capital: it has the property Uppercase.
 abbrev pub first_is_capital : List ℕ → Bool
@@ -27,6 +27,6 @@ abbrev pub has_soft_hyphen_after : ℕ → List ℕ → Bool
 has_soft_hyphen_after before [] = false
 has_soft_hyphen_after before (b ∷ bs) = before == 0xC2 && b == 0xAD || has_soft_hyphen_after b bs
 
--- A token is left whole: it has a soft hyphen of its own, or is an address.
+-- A token is left whole: it has a soft hyphen of its own, or is a name.
 unfoldable pub is_left_whole : List ℕ → Bool
-is_left_whole token = has_soft_hyphen_after 0 token || is_address token
+is_left_whole token = has_soft_hyphen_after 0 token || is_name token

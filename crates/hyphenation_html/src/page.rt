@@ -32,6 +32,7 @@ use html_pieces::tokenizer::{Piece, PieceKind};
 use hyphenation_hyphenator::hyphenator::laws::plain_breaks_fit_where_ascending;
 use hyphenation_segments::iter::laws::{marked_segments_join, segments_join};
 use std::alloc::{AllocError, Global};
+use text_words::laws::words_are_slices;
 
 // Returns the dictionary for the words of a text: none where it is left alone, or in no element that is known.
 fn dictionary_in<'l>(
@@ -191,7 +192,8 @@ fn all_fit(languages: &[LanguageDictionary], settings: &Settings<'_>)
 /// All that is not text stays as it is, byte for byte: tags, comments, scripts, character references. So do the texts
 /// of elements as `pre` and `code` ([`LEFT_ALONE_NAMES`](crate::LEFT_ALONE_NAMES)), with `translate="no"`, or with the
 /// class of the settings. So does the rest of a page that parsers may read in different ways. A part of a text between
-/// white space is left whole if it has a soft hyphen or is an address. So is one that goes on in a character reference,
+/// white space is left whole if it has a soft hyphen or is a name: an address, a path, an
+/// identifier, or the name of a file. So is one that goes on in a character reference,
 /// or over a tag within a line, as that of `b`. So with soft hyphens as marks a second run changes nothing of the result.
 ///
 /// An error says that memory was refused.
@@ -218,6 +220,7 @@ pub fn hyphenate_html(
     ensures without { languages.now ≡ [] → IfOk result (λ output. string_bytes output ≡ page.now) }
 {
     plain_breaks_fit_where_ascending();
+    words_are_slices();
     segments_join();
     marked_segments_join();
     pieces_join();

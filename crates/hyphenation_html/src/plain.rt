@@ -14,6 +14,7 @@ use any_dictionary::AnyDictionary;
 use hyphenation_hyphenator::hyphenator::laws::plain_breaks_fit_where_ascending;
 use hyphenation_segments::iter::laws::{marked_segments_join, segments_join};
 use std::alloc::{AllocError, Global};
+use text_words::laws::words_are_slices;
 
 // Returns a text that was written token by token.
 fn text_with_marks(
@@ -32,7 +33,8 @@ fn text_with_marks(
 
 /// Returns a text without markup with the mark at each break of its words that changes no letters.
 ///
-/// A part of the text between ASCII white space is left whole if it has a soft hyphen, or is an address. So are words that
+/// A part of the text between ASCII white space is left whole if it has a soft hyphen, or is a name: an address, a path, an identifier, or the name of a file. So are words
+/// with a letter beside a digit, and words that
 /// the settings leave alone; their class is not asked. Without the marks the result is the text, byte for byte. With soft
 /// hyphens as marks a second run changes nothing.
 ///
@@ -53,6 +55,7 @@ pub fn hyphenate_text(
         hyphenated settings.now dictionary.now (string_bytes made) ≡ string_bytes made) }
 {
     plain_breaks_fit_where_ascending();
+    words_are_slices();
     segments_join();
     marked_segments_join();
     limited_breaks_fit(dictionary, settings);

@@ -7,20 +7,20 @@ ghost use Rattle.std.specs.Str.{IsCharBoundary};
 ghost use Rattle.std.specs.String.{string_bytes};
 ghost use Rattle.hyphenation_breaks.specs.Break.{plain_break};
 ghost use Rattle.hyphenation_segments.specs.Fits.{Fits};
+ghost use Rattle.text_words.specs.Words.{is_mixed};
 ghost use Rattle.hyphenation_html.specs.Languages.{breaks_under};
 ghost use Rattle.hyphenation_html.specs.Words.{is_left_whole};
 ghost use Rattle.hyphenation_html.specs.Private.Marked.{so_far, marked_text_by, Puts};
 
 use crate::settings::Settings;
 use crate::words::{is_left_whole, is_passed_over};
-use addresses::laws::letters_are_no_address;
 use any_dictionary::AnyDictionary;
 use html_pieces::bytes::is_white_space;
 use hyphenation_segments::iter::laws::marked_segments_join;
 use hyphenation_segments::iter::push_marked_text;
 use std::alloc::{AllocError, Global};
-use word_pieces::WordPieces;
-use word_pieces::laws::{letters_are_one_piece, pieces_are_slices};
+use text_words::laws::{letters_are_no_name, letters_are_one_word, words_are_slices};
+use text_words::{TextWords, is_mixed};
 
 // A text that is being written, and a list for the breaks of a word, for which memory is taken once.
 #[derive(Drop)]
@@ -42,14 +42,17 @@ impl Output {
         })
     }
 
-    // Puts the breaks of a word into the list, none where it is passed over. Returns whether there is one.
+    // Puts the breaks of a word into the list, none where it is passed over or has a letter beside a digit. Returns whether
+    // there is one. Words of letters need not be looked through for digits.
     #[inline(always)]
     fn find_breaks(
         &mut self,
         dictionary: &AnyDictionary,
         settings: &Settings<'_>,
         word: &str,
+        letters: bool,
     ) -> Result<bool, AllocError>
+        requires letters { letters ≡ true → is_mixed word.now ≡ false }
         ensures breaks { OnOk result (self.new.breaks.items ≡ breaks_under settings.now dictionary.now word.now) }
         ensures fit { IfOk result (λ found. IsTrue found → Fits word.now (map plain_break self.new.breaks.items)) }
         ensures none { IfOk result (λ found. IsTrue (not found) → breaks_under settings.now dictionary.now word.now ≡ []) }
@@ -60,7 +63,14 @@ impl Output {
             return Ok(false);
         }
         dictionary.plain_places_into(self.alloc, word, &mut self.breaks)?;
-        Ok(!self.breaks.is_empty())
+        if self.breaks.is_empty() {
+            return Ok(false);
+        }
+        if !letters && is_mixed(word) {
+            self.breaks.clear();
+            return Ok(false);
+        }
+        Ok(true)
     }
 }
 
@@ -105,11 +115,11 @@ fn push_letters(
     ensures { IfOk result (Puts false settings.now dictionary.now
         token.entry.text.now kept token.entry.start token.entry.end output.old output.new) }
 {
-    letters_are_one_piece();
-    letters_are_no_address();
+    letters_are_one_word();
+    letters_are_no_name();
     marked_segments_join();
     let word = &token.text[token.start..token.end];
-    if !output.find_breaks(dictionary, settings, word)? {
+    if !output.find_breaks(dictionary, settings, word, true)? {
         return Ok(kept);
     }
     output.text.push_str(&token.text[kept..token.start])?;
@@ -130,16 +140,16 @@ fn push_words(
     ensures { IfOk result (Puts false settings.now dictionary.now
         token.entry.text.now kept token.entry.start token.entry.end output.old output.new) }
 {
-    pieces_are_slices();
+    words_are_slices();
     marked_segments_join();
     // Most tokens have no word with breaks, and need not be looked at for what leaves them whole.
     let mut is_asked = false;
     let mut left = kept;
     let mut at = token.start;
     let own = &token.text[token.start..token.end];
-    for word in WordPieces::new(own) {
+    for word in TextWords::new(own) {
         let end = at + word.len();
-        if output.find_breaks(dictionary, settings, word)? {
+        if output.find_breaks(dictionary, settings, word, false)? {
             if is_whole(is_asked, own) {
                 return Ok(kept);
             }

@@ -5,10 +5,10 @@ ghost use Rattle.html_pieces.specs.Pieces.{as_piece};
 ghost use Rattle.hyphenation_html.specs.Touching.{is_inline, goes_on_over, touched_after};
 ghost use Rattle.hyphenation_html.specs.Touching.{begins_in_word, ends_in_word, begins_touching, ends_touching, touched_before};
 
-use addresses::is_of_word;
 use html_pieces::bytes::is_one_of;
 use html_pieces::groups::FORMATTING_NAMES;
 use html_pieces::tokenizer::{Piece, PieceKind, name_of};
+use text_words::is_of_word;
 
 /// Elements within a line that are not [`FORMATTING_NAMES`]: a word may begin in one and end outside of it.
 pub const INLINE_NAMES: [&[u8]; 19] = [

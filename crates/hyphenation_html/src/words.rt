@@ -4,7 +4,7 @@ ghost use Rattle.std.specs.Prelude.{◌≡◌, chars, length, nat_lt};
 ghost use Rattle.hyphenation_html.specs.Words.{first_is_capital, is_passed_over, has_soft_hyphen_after, is_left_whole};
 
 use crate::settings::Settings;
-use addresses::is_address;
+use text_words::is_name;
 use unicode::properties::is_uppercase;
 
 // Whether a word begins with a capital.
@@ -53,10 +53,10 @@ fn has_soft_hyphen(token: &[u8]) -> bool
     false
 }
 
-// Whether a token is left whole: it has a soft hyphen of its own, or is an address.
+// Whether a token is left whole: it has a soft hyphen of its own, or is a name.
 #[tactic(auto, unfolding(crate::specs::Words::is_left_whole))]
 pub(crate) fn is_left_whole(token: &str) -> bool
     ensures { result ≡ is_left_whole token.now }
 {
-    has_soft_hyphen(token.as_bytes()) || is_address(token)
+    has_soft_hyphen(token.as_bytes()) || is_name(token)
 }

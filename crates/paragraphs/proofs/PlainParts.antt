@@ -3,9 +3,9 @@ use Rattle.std.proofs.Common.{◌≡◌, ℕ, zero, suc, ◌+◌, ◌<◌, true,
 use Rattle.std.specs.List.{All, flat_map}
 use Rattle.std.proofs.lemmas.List.{get_or-map, length-map}
 use Rattle.std.proofs.lemmas.List.Elements.{All-head, All-tail}
-use Rattle.addresses.specs.Addresses.{is_address}
 use Rattle.unicode_segmentation.specs.Segments.{with_offsets}
-use Rattle.unicode_segmentation.specs.Word.{word_bounds}
+use Rattle.text_words.specs.Names.{is_name}
+use Rattle.text_words.specs.Words.{is_mixed, text_words, unless_mixed}
 use Rattle.hyphenation_breaks.specs.Break.{Break, end_of, after_of}
 use Rattle.line_division.specs.Greedy.{IsOrderly}
 use Rattle.line_division.specs.Lines.{no_stretch, stretch_at}
@@ -25,10 +25,19 @@ plain_pieces : (breaks_of : List ℕ → List Break) (pieces : List (ℕ × List
 plain_pieces breaks_of [] plain = tt
 plain_pieces breaks_of (x ∷ xs) plain = plain_piece x.0 (breaks_of x.1) (flat_map (breaks_in breaks_of) xs) (plain x.1) (plain_pieces breaks_of xs plain)
 
+none_plain : All IsPlain []
+none_plain k d lt = absurd (omega (arith, lt))
+
+plain_unless_mixed : (breaks_of : List ℕ → List Break) → ArePlain breaks_of → ArePlain (unless_mixed breaks_of)
+plain_unless_mixed breaks_of plain word = elim (is_mixed word) as (λ t. All IsPlain (cond t [] (breaks_of word))) [
+  | true ↦ none_plain
+  | false ↦ plain word
+]
+
 plain_word : (breaks_of : List ℕ → List Break) (word : List ℕ) → ArePlain breaks_of → EachPlain (word_breaks breaks_of word)
-plain_word breaks_of word plain = elim (is_address word) as (λ t. EachPlain (cond t [] (piece_breaks breaks_of word))) [
+plain_word breaks_of word plain = elim (is_name word) as (λ t. EachPlain (cond t [] (piece_breaks breaks_of word))) [
   | true ↦ tt
-  | false ↦ plain_pieces breaks_of (with_offsets 0 (word_bounds word)) plain
+  | false ↦ plain_pieces (unless_mixed breaks_of) (with_offsets 0 (text_words word)) (plain_unless_mixed breaks_of plain)
 ]
 
 -- Each of the parts has this opening.

@@ -2,9 +2,9 @@
 use Rattle.std.specs.Prelude.{◌≡◌, ℕ, ◌+◌, ◌&&◌, nat_lt, Bool, None, All, if◌then◌else◌, List, [], ◌∷◌, ◌++◌, length}
 use Rattle.std.specs.Prelude.{map, drop, slice_range}
 use Rattle.std.specs.List.{flat_map}
-use Rattle.addresses.specs.Addresses.{is_address}
 use Rattle.unicode_segmentation.specs.Segments.{with_offsets}
-use Rattle.unicode_segmentation.specs.Word.{word_bounds}
+use Rattle.text_words.specs.Names.{is_name}
+use Rattle.text_words.specs.Words.{text_words, unless_mixed}
 use Rattle.hyphenation_breaks.specs.Ascii.{space, hyphen}
 use Rattle.hyphenation_breaks.specs.Break.{Break, begin_of, end_of, before_of, after_of}
 use Rattle.paragraphs.specs.Settings.{Setting, joined_text}
@@ -17,13 +17,13 @@ set_off offset b = record { place = offset + b.place; change = b.change }
 abbrev pub breaks_in : (List ℕ → List Break) → ℕ × List ℕ → List Break
 breaks_in breaks_of piece = map (set_off piece.0) (breaks_of piece.1)
 
--- The breaks of a word's pieces between word bounds.
+-- The breaks of the pieces of a word, which are what a text has for words. A piece with a letter beside a digit has none.
 abbrev pub piece_breaks : (List ℕ → List Break) → List ℕ → List Break
-piece_breaks breaks_of word = flat_map (breaks_in breaks_of) (with_offsets 0 (word_bounds word))
+piece_breaks breaks_of word = flat_map (breaks_in (unless_mixed breaks_of)) (with_offsets 0 (text_words word))
 
--- The breaks of a word: those of its pieces. An address of the web or of mail has none.
+-- The breaks of a word: those of its pieces. An address, a path, an identifier or the name of a file has none.
 abbrev pub word_breaks : (List ℕ → List Break) → List ℕ → List Break
-word_breaks breaks_of word = if is_address word then [] else piece_breaks breaks_of word
+word_breaks breaks_of word = if is_name word then [] else piece_breaks breaks_of word
 
 -- The indent of the first line, that of the others, and the cost of a line's end at a break of a word.
 pub record Style : Type 0 where

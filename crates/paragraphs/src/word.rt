@@ -5,18 +5,20 @@ ghost use Rattle.paragraphs.specs.Private.Open.{LiesIn, Passes, AddsParts, word_
 ghost use Rattle.paragraphs.specs.Private.PartStyles.{indent_of};
 ghost use Rattle.paragraphs.specs.Styles.{style_of};
 ghost use Rattle.paragraphs.specs.Parts.{set_off, breaks_in, piece_breaks, word_breaks, word_parts};
-ghost use Rattle.word_pieces.specs.Pieces.{piece_indices_left, IsSlice};
+ghost use Rattle.text_words.specs.Left.{words_left};
+ghost use Rattle.text_words.specs.Words.{unless_mixed};
+ghost use Rattle.word_pieces.specs.Pieces.{IsSlice};
 
 use crate::changes::PartChanges;
 use crate::part::Part;
 use crate::parting::{OpenPart, StyledWord};
 use crate::style::Indent;
-use addresses::{is_address, laws as address_laws};
 use hyphenation_breaks::breaks::Break;
 use hyphenation_hyphenator::hyphenator::Hyphenator;
 use std::alloc::{AllocError, Global};
 use std::mem;
-use word_pieces::{WordPieceIndices, laws as piece_laws};
+use text_words::laws::{letters_are_no_name, letters_are_one_word, words_are_slices};
+use text_words::{TextWords, is_mixed, is_name};
 
 // Passes a break of a piece of a word. The part that is being made ends there, where some of the word is on either
 // side.
@@ -74,10 +76,29 @@ fn pass_piece<'w, 's, 't, 'h, H: Hyphenator<'h>>(
     Ok(())
 }
 
-// Takes the next piece of a word, and returns it with the place where it begins.
-fn next_piece<'t>(pieces: &mut WordPieceIndices<'t>) -> Option<(usize, &'t str)>
-    ensures pieces { piece_indices_left pieces.old ≡ next_then result (piece_indices_left pieces.new) }
-    ensures end { result ≡ None → piece_indices_left pieces.new ≡ [] }
+// Passes the breaks of a piece, or none where it has a letter beside a digit.
+fn pass_unless_mixed<'w, 's, 't, 'h, H: Hyphenator<'h>>(
+    alloc: Global,
+    dictionary: &'h H,
+    piece: (usize, &str),
+    breaks: &mut Vec<H::Opportunity>,
+    parts: &mut Vec<Part<'s, 't>>,
+    current: &mut OpenPart<'w, 's, 't>,
+) -> Result<(), AllocError>
+    requires { IsSlice (word_of current.old) (piece.0, piece.1.now) }
+    ensures { OnOk result (Passes (breaks_in (unless_mixed (H.breaks_of dictionary.now)) (piece.entry.0, piece.entry.1.now))
+        parts.old.items current.old parts.new.items current.new) }
+{
+    if is_mixed(piece.1) {
+        return Ok(());
+    }
+    pass_piece(alloc, dictionary, piece, breaks, parts, current)
+}
+
+// Takes the next piece of a word.
+fn next_piece<'t>(pieces: &mut TextWords<'t>) -> Option<&'t str>
+    ensures pieces { words_left pieces.old ≡ next_then result (words_left pieces.new) }
+    ensures end { result ≡ None → words_left pieces.new ≡ [] }
 {
     pieces.next()
 }
@@ -93,16 +114,19 @@ fn pass_each_piece<'w, 's, 't, 'h, H: Hyphenator<'h>>(
     ensures { OnOk result (Passes (piece_breaks (H.breaks_of dictionary.now) (word_of current.old))
         parts.old.items current.old parts.new.items current.new) }
 {
-    piece_laws::pieces_are_slices();
-    let mut pieces = WordPieceIndices::new(current.word.text);
-    while let Some((offset, piece)) = next_piece(&mut pieces) {
-        pass_piece(alloc, dictionary, (offset, piece), breaks, parts, current)?;
+    words_are_slices();
+    let mut pieces = TextWords::new(current.word.text);
+    let mut offset = 0;
+    while let Some(piece) = next_piece(&mut pieces) {
+        let end = offset + piece.len();
+        pass_unless_mixed(alloc, dictionary, (offset, piece), breaks, parts, current)?;
+        offset = end;
     }
     Ok(())
 }
 
-// Passes the breaks of a word: those of all its pieces, or none if it is an address. One of letters of ASCII only is
-// one piece, and no address.
+// Passes the breaks of a word: those of all its pieces, or none if it is a name. One of letters of ASCII only is one piece,
+// and no name.
 #[inline(always)]
 fn pass_pieces<'w, 's, 't, 'h, H: Hyphenator<'h>>(
     alloc: Global,
@@ -114,15 +138,15 @@ fn pass_pieces<'w, 's, 't, 'h, H: Hyphenator<'h>>(
     ensures { OnOk result (Passes (word_breaks (H.breaks_of dictionary.now) (word_of current.old))
         parts.old.items current.old parts.new.items current.new) }
 {
-    piece_laws::pieces_are_slices();
-    piece_laws::letters_are_one_piece();
-    address_laws::letters_are_no_address();
+    words_are_slices();
+    letters_are_one_word();
+    letters_are_no_name();
     let word = current.word;
     if word.letters {
         pass_piece(alloc, dictionary, (0, word.text), breaks, parts, current)?;
         return Ok(());
     }
-    if is_address(word.text) {
+    if is_name(word.text) {
         return Ok(());
     }
     pass_each_piece(alloc, dictionary, breaks, parts, current)?;

@@ -52,7 +52,7 @@ Writes plain texts with soft hyphens where a dictionary breaks their words.
   --output FILE    the results go into this file, which is replaced
   --in-place       each FILE is replaced by its result
 Of an extended dictionary the breaks that change no letter are used. Addresses,
-and what has a soft hyphen, are left alone.
+paths, names of files, and what has a soft hyphen, are left alone.
 ";
 
 /// The message if memory was refused.

@@ -5,7 +5,7 @@ use Rattle.std.specs.List.{flat_map}
 use Rattle.std.specs.Str.{IsCharBoundary}
 use Rattle.std.specs.String.{string_bytes}
 use Rattle.hyphenation_html.specs.declared.text.Output.{Output}
-use Rattle.unicode_segmentation.specs.Word.{word_bounds}
+use Rattle.text_words.specs.Words.{text_words}
 use Rattle.html_pieces.specs.Bytes.{is_white_space}
 use Rattle.html_pieces.specs.declared.bytes.PageForm.{PageForm}
 use Rattle.html_pieces.specs.Forms.{form_of}
@@ -37,7 +37,7 @@ marked_word breaks mark word = with_marks mark word (breaks word)
 -- A token with the mark at the breaks of its words, or as it is where it is left whole.
 unfoldable pub marked_token : Breaks → List ℕ → List ℕ → List ℕ
 marked_token breaks mark token =
-    if is_left_whole token then token else flat_map (marked_word breaks mark) (word_bounds token)
+    if is_left_whole token then token else flat_map (marked_word breaks mark) (text_words token)
 
 -- A text with its marks, from a token on, whose bytes so far are `front`.
 abbrev pub marked_tokens : Breaks → List ℕ → Bool → Bool → List ℕ → List ℕ → List ℕ

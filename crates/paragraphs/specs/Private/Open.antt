@@ -45,9 +45,9 @@ abbrev pub AddsParts : List Part → List Part → List Setting → Type 0
 AddsParts old new added = settings_of new ≡ settings_of old ++ added
 
 -- The next piece, if there is one, and those after it.
-abbrev pub next_then : Option (ℕ × Bor (List ℕ)) → List (ℕ × List ℕ) → List (ℕ × List ℕ)
+abbrev pub next_then : Option (Bor (List ℕ)) → List (List ℕ) → List (List ℕ)
 next_then None others = others
-next_then (Some x) others = (x.0, x.1.now) ∷ others
+next_then (Some piece) others = piece.now ∷ others
 
 -- The parts of a word that was found. A line that begins with it has this indent.
 abbrev pub found_parts : (List ℕ → List Break) → Style → Indent → FirstWord → List Setting

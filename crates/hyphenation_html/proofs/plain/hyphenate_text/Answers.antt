@@ -9,19 +9,19 @@ use Rattle.hyphenation_html.proofs.plain.hyphenate_text.Goals as goal
 
 pub returns-clause-marked : goal.returns-clause-marked
 returns-clause-marked c =
-    let laws : Laws = record { join = c.segments_join.ensures; joins = c.marked_segments_join.ensures; fit = c.plain_breaks_fit_where_ascending.ensures } in
+    let laws : Laws = record { words = c.words_are_slices.ensures.slices; words_join = c.words_are_slices.ensures.join; join = c.segments_join.ensures; joins = c.marked_segments_join.ensures; fit = c.plain_breaks_fit_where_ascending.ensures } in
     let marked = tokens_marked laws (breaks_under c.args.settings.now c.args.dictionary.now) c.args.settings.now.mark.now false false [] c.args.text.now c.limited_breaks_fit.ensures c.utf8.text in
     IfOk-weaker c.text_with_marks.result _ _ (λ output e. e ∙ marked.is) c.text_with_marks.ensures
 
 pub returns-clause-kept : goal.returns-clause-kept
 returns-clause-kept c =
-    let laws : Laws = record { join = c.segments_join.ensures; joins = c.marked_segments_join.ensures; fit = c.plain_breaks_fit_where_ascending.ensures } in
+    let laws : Laws = record { words = c.words_are_slices.ensures.slices; words_join = c.words_are_slices.ensures.join; join = c.segments_join.ensures; joins = c.marked_segments_join.ensures; fit = c.plain_breaks_fit_where_ascending.ensures } in
     let marked = tokens_marked laws (breaks_under c.args.settings.now c.args.dictionary.now) c.args.settings.now.mark.now false false [] c.args.text.now c.limited_breaks_fit.ensures c.utf8.text in
     IfOk-weaker c.text_with_marks.result _ _ (λ output e. (marked.parts.0, marked.parts.1, marked.parts.2 ∙ sym e)) c.text_with_marks.ensures
 
 pub returns-clause-twice : goal.returns-clause-twice
 returns-clause-twice c = λ e.
-    let laws : Laws = record { join = c.segments_join.ensures; joins = c.marked_segments_join.ensures; fit = c.plain_breaks_fit_where_ascending.ensures } in
+    let laws : Laws = record { words = c.words_are_slices.ensures.slices; words_join = c.words_are_slices.ensures.join; join = c.segments_join.ensures; joins = c.marked_segments_join.ensures; fit = c.plain_breaks_fit_where_ascending.ensures } in
     let breaks = breaks_under c.args.settings.now c.args.dictionary.now in
     let mark = c.args.settings.now.mark.now in
     let marked = tokens_marked laws breaks mark false false [] c.args.text.now c.limited_breaks_fit.ensures c.utf8.text in

@@ -16,7 +16,7 @@ returns-then-not-branch c =
     let mark = c.args.settings.now.mark.now in
     let token = slice_range c.args.token.text.now c.args.token.start c.args.token.end in
     let some : 0 < length token = omega (arith, length-between c.args.token.text.now c.args.token.start c.args.token.end c.args.token.ends.0, c.requires.some) in
-    let one = letters_marked breaks mark token c.letters_are_one_piece.ensures c.letters_are_no_address.ensures some (c.args.token.alphabetic c.requires.letters) in
+    let one = letters_marked breaks mark token c.letters_are_one_word.ensures c.letters_are_no_name.ensures some (c.args.token.alphabetic c.requires.letters) in
     let none = ap breaks (sym c.range-word.ensures.value) ∙ c.in_ok-find_breaks.ensures.none (ap not c.if-not-branch.true) in
     subst (λ o. Leaves c.args.token.text.now c.args.kept c.args.token.end o (string_bytes c.args.output.now.text ++ (slice_range c.args.token.text.now c.args.kept c.args.token.start ++ marked_token breaks mark token))) (sym (ap string_bytes c.find_breaks.ensures.text))
     (leaves_all c.args.token.text.now (string_bytes c.args.output.now.text) (marked_token breaks mark token) c.args.kept c.args.token.start c.args.token.end c.requires.kept c.args.token.order c.requires.begins c.args.token.begins
@@ -28,7 +28,7 @@ returns c =
     let mark = c.args.settings.now.mark.now in
     let token = slice_range c.args.token.text.now c.args.token.start c.args.token.end in
     let some : 0 < length token = omega (arith, length-between c.args.token.text.now c.args.token.start c.args.token.end c.args.token.ends.0, c.requires.some) in
-    let one = letters_marked breaks mark token c.letters_are_one_piece.ensures c.letters_are_no_address.ensures some (c.args.token.alphabetic c.requires.letters) in
+    let one = letters_marked breaks mark token c.letters_are_one_word.ensures c.letters_are_no_name.ensures some (c.args.token.alphabetic c.requires.letters) in
     let word = c.range-word.result.now in
     let found = c.in_ok-find_breaks.ensures in
     word_appended breaks mark c.args.token.text.now word (string_bytes c.args.output.now.text) _ _ (slice_range c.args.token.text.now c.args.kept c.args.token.start) token _ c.args.token.end c.marked_segments_join.ensures one c.range-word.ensures.value

@@ -12,7 +12,7 @@ use Rattle.hyphenation_html.proofs.text.push_words.Goals as goal
 pub loop-word-init : goal.loop-word-init
 loop-word-init c = record {
   passed = passed_none (breaks_under c.args.settings.now c.args.dictionary.now) c.args.settings.now.mark.now c.args.token.text.now c.range-own.result.now (string_bytes c.args.output.now.text)
-      c.args.kept c.args.token.start c.args.token.end _ c.pieces_are_slices.ensures.slices c.pieces_are_slices.ensures.join c.range-own.utf8 c.requires.kept c.args.token.order
+      c.args.kept c.args.token.start c.args.token.end _ c.words_are_slices.ensures.slices c.words_are_slices.ensures.join c.range-own.utf8 c.requires.kept c.args.token.order
       c.requires.begins c.args.token.begins c.args.token.ends c.range-own.ensures.value (grind (arith, common_steps));
   asked = λ h. absurd (cc h);
   unasked = λ h. refl;
@@ -61,5 +61,5 @@ returns c =
     let breaks = breaks_under c.args.settings.now c.args.dictionary.now in
     let mark = c.args.settings.now.mark.now in
     let own = c.range-own.result.now in
-    all_passed c.args.kept c.args.token.start (string_bytes c.args.output.now.text) _ c.pieces_are_slices.ensures.join c.range-own.utf8 (sym c.range-own.ensures.value)
+    all_passed c.args.kept c.args.token.start (string_bytes c.args.output.now.text) _ c.words_are_slices.ensures.join c.range-own.utf8 (sym c.range-own.ensures.value)
     (subst (IsPassed breaks mark c.args.token.text.now own (written_after breaks mark c.args.token.text.now own (string_bytes c.args.output.now.text) c.args.kept c.args.token.start) (string_bytes c.loop-word.output.text) c.loop-word.left c.loop-word.at c.args.token.end) c.in-None.ensures.steps.0 c.loop-word.invariant.passed)

@@ -1,6 +1,6 @@
 use Rattle.std.proofs.Common.{◌≡◌, false, IsTrue}
 use Rattle.std.specs.String.{string_bytes}
-use Rattle.word_pieces.specs.Pieces.{pieces_left}
+use Rattle.text_words.specs.Left.{words_left}
 use Rattle.hyphenation_html.specs.Languages.{breaks_under}
 use Rattle.hyphenation_html.specs.Words.{is_left_whole}
 use Rattle.hyphenation_html.proofs.PassedWords.{IsPassed, written_after}
@@ -12,7 +12,7 @@ invariant-loop-word l =
     let mark = l.settings.mark.now in
     let old = string_bytes l.fn.output.text in
     record {
-      passed : IsPassed breaks mark l.token.text.now l.own (written_after breaks mark l.token.text.now l.own old l.kept l.token.start) (string_bytes l.output.text) l.left l.at l.token.end (pieces_left l.word-iterator);
+      passed : IsPassed breaks mark l.token.text.now l.own (written_after breaks mark l.token.text.now l.own old l.kept l.token.start) (string_bytes l.output.text) l.left l.at l.token.end (words_left l.word-iterator);
       asked : IsTrue l.is_asked → is_left_whole l.own ≡ false;
       unasked : l.is_asked ≡ false → string_bytes l.output.text ≡ old;
     }

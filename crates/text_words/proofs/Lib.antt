@@ -1,0 +1,4 @@
+mod LetterWords
+mod Letters
+mod Taken
+mod WordSlices
