@@ -9,6 +9,40 @@ use Rattle.html_pieces.specs.declared.groups.TheConstants.{SECTION_NAMES, HEADIN
 use Rattle.html_pieces.specs.declared.groups.ElementGroup.{ElementGroup}
 use Rattle.html_pieces.specs.declared.groups.ElementGroup.TheVariants.{Ordinary, Formatting, Paragraph, Division, Heading, Listing, Block, Rule, Item, Term, Choice, Choices, Ruby, Cell, Row, Rows, Caption, Columns, Column, Table, Scope, Root, Head, HeadContent, HeadVoid, Template, Void}
 
+-- The group of the elements of a name that is in none of the groups below: of blocks and formatting elements, or none.
+unfoldable pub group_in_body : List ℕ → ElementGroup
+group_in_body name =
+    if is_named SECTION_NAMES name then Block
+    else if is_named HEADING_NAMES name then Heading
+    else if is_one_of (codes "ol" ∷ codes "ul" ∷ []) name then Listing
+    else if is_named BLOCK_NAMES name then Block
+    else if is_named FORMATTING_NAMES name then Formatting
+    else Ordinary
+
+-- The group of a name that is in none of the groups below: of a page, its head or a scope, or without content.
+unfoldable pub group_by_content : List ℕ → ElementGroup
+group_by_content name =
+    if is_same_name name (codes "head") then Head
+    else if is_one_of (codes "body" ∷ codes "html" ∷ []) name then Root
+    else if is_same_name name (codes "template") then Template
+    else if is_named VOID_NAMES name then Void
+    else if is_named HEAD_VOID_NAMES name then HeadVoid
+    else if is_named HEAD_NAMES name then HeadContent
+    else if is_named SCOPE_NAMES name then Scope
+    else group_in_body name
+
+-- The group of a name that is in none of the groups below: of a table or a part of one.
+unfoldable pub group_in_table : List ℕ → ElementGroup
+group_in_table name =
+    if is_one_of (codes "td" ∷ codes "th" ∷ []) name then Cell
+    else if is_same_name name (codes "tr") then Row
+    else if is_one_of (codes "thead" ∷ codes "tbody" ∷ codes "tfoot" ∷ []) name then Rows
+    else if is_same_name name (codes "table") then Table
+    else if is_same_name name (codes "caption") then Caption
+    else if is_same_name name (codes "colgroup") then Columns
+    else if is_same_name name (codes "col") then Column
+    else group_by_content name
+
 -- The group of the elements of a name.
 unfoldable pub group_of : List ℕ → ElementGroup
 group_of name =
@@ -16,30 +50,11 @@ group_of name =
     else if is_one_of (codes "div" ∷ codes "address" ∷ codes "dialog" ∷ []) name then Division
     else if is_same_name name (codes "li") then Item
     else if is_one_of (codes "dt" ∷ codes "dd" ∷ []) name then Term
-    else if is_one_of (codes "td" ∷ codes "th" ∷ []) name then Cell
-    else if is_same_name name (codes "tr") then Row
-    else if is_one_of (codes "thead" ∷ codes "tbody" ∷ codes "tfoot" ∷ []) name then Rows
-    else if is_same_name name (codes "table") then Table
-    else if is_same_name name (codes "caption") then Caption
-    else if is_same_name name (codes "colgroup") then Columns
-    else if is_same_name name (codes "col") then Column
     else if is_same_name name (codes "hr") then Rule
     else if is_same_name name (codes "option") then Choice
     else if is_same_name name (codes "optgroup") then Choices
     else if is_one_of (codes "rt" ∷ codes "rp" ∷ []) name then Ruby
-    else if is_same_name name (codes "head") then Head
-    else if is_one_of (codes "body" ∷ codes "html" ∷ []) name then Root
-    else if is_same_name name (codes "template") then Template
-    else if is_named VOID_NAMES name then Void
-    else if is_named HEAD_VOID_NAMES name then HeadVoid
-    else if is_named HEAD_NAMES name then HeadContent
-    else if is_named SCOPE_NAMES name then Scope
-    else if is_named SECTION_NAMES name then Block
-    else if is_named HEADING_NAMES name then Heading
-    else if is_one_of (codes "ol" ∷ codes "ul" ∷ []) name then Listing
-    else if is_named BLOCK_NAMES name then Block
-    else if is_named FORMATTING_NAMES name then Formatting
-    else Ordinary
+    else group_in_table name
 
 -- Two groups are the same.
 abbrev pub is_same_group : ElementGroup → ElementGroup → Bool

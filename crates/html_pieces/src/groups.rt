@@ -2,7 +2,7 @@
 
 ghost use Rattle.std.specs.Prelude.{◌≡◌};
 ghost use Rattle.html_pieces.specs.Groups.{group_of, is_void, is_table_part, ends, stops, is_special, ends_scope};
-ghost use Rattle.html_pieces.specs.Groups.{bounds, is_heading, is_root};
+ghost use Rattle.html_pieces.specs.Groups.{bounds, group_by_content, group_in_body, group_in_table, is_heading, is_root};
 
 use self::ElementGroup::*;
 use crate::bytes::{is_one_of, is_same_name};
@@ -132,7 +132,26 @@ pub fn group_of(name: &[u8]) -> ElementGroup
         Item
     } else if is_same_name(name, b"dt") || is_same_name(name, b"dd") {
         Term
-    } else if is_same_name(name, b"td") || is_same_name(name, b"th") {
+    } else if is_same_name(name, b"hr") {
+        Rule
+    } else if is_same_name(name, b"option") {
+        Choice
+    } else if is_same_name(name, b"optgroup") {
+        Choices
+    } else if is_same_name(name, b"rt") || is_same_name(name, b"rp") {
+        Ruby
+    } else {
+        group_in_table(name)
+    }
+}
+
+// Returns the group of the elements of a name that is none of the above: of a table or a part of one, or another group.
+#[inline(always)]
+#[tactic(auto, unfolding(crate::specs::Groups::group_in_table))]
+fn group_in_table(name: &[u8]) -> ElementGroup
+    ensures { result ≡ group_in_table name.now }
+{
+    if is_same_name(name, b"td") || is_same_name(name, b"th") {
         Cell
     } else if is_same_name(name, b"tr") {
         Row
@@ -149,15 +168,19 @@ pub fn group_of(name: &[u8]) -> ElementGroup
         Columns
     } else if is_same_name(name, b"col") {
         Column
-    } else if is_same_name(name, b"hr") {
-        Rule
-    } else if is_same_name(name, b"option") {
-        Choice
-    } else if is_same_name(name, b"optgroup") {
-        Choices
-    } else if is_same_name(name, b"rt") || is_same_name(name, b"rp") {
-        Ruby
-    } else if is_same_name(name, b"head") {
+    } else {
+        group_by_content(name)
+    }
+}
+
+// Returns the group of the elements of a name that is none of the above: of a page, its head or a scope, of elements without
+// content, or another group.
+#[inline(always)]
+#[tactic(auto, unfolding(crate::specs::Groups::group_by_content))]
+fn group_by_content(name: &[u8]) -> ElementGroup
+    ensures { result ≡ group_by_content name.now }
+{
+    if is_same_name(name, b"head") {
         Head
     } else if is_same_name(name, b"body") || is_same_name(name, b"html") {
         Root
@@ -171,7 +194,18 @@ pub fn group_of(name: &[u8]) -> ElementGroup
         HeadContent
     } else if is_one_of(name, &SCOPE_NAMES) {
         Scope
-    } else if is_one_of(name, &SECTION_NAMES) {
+    } else {
+        group_in_body(name)
+    }
+}
+
+// Returns the group of the elements of a name that is none of the above: of blocks and formatting elements, or none.
+#[inline(always)]
+#[tactic(auto, unfolding(crate::specs::Groups::group_in_body))]
+fn group_in_body(name: &[u8]) -> ElementGroup
+    ensures { result ≡ group_in_body name.now }
+{
+    if is_one_of(name, &SECTION_NAMES) {
         Block
     } else if is_one_of(name, &HEADING_NAMES) {
         Heading
