@@ -129,3 +129,9 @@ def file_name(code, kind):
 def convert_arguments(row, paths):
     """The arguments of hyphenate-convert for a row."""
     return [row.kind, row.code, row.left, row.right, *paths]
+
+
+def reason(error):
+    """What the system said of an error: the path, where it names one, and why."""
+    path = error.filename2 or error.filename
+    return f"{path}: {error.strerror}" if path else error.strerror or str(error)
