@@ -132,6 +132,6 @@ def convert_arguments(row, paths):
 
 
 def reason(error):
-    """What the system said of an error: the path, where it names one, and why."""
+    """The path that an error of the system names, if it does, and its reason."""
     path = error.filename2 or error.filename
     return f"{path}: {error.strerror}" if path else error.strerror or str(error)
