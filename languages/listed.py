@@ -14,7 +14,7 @@ KNOWN_FOLDERS = (
     "/usr/share/texlive/texmf-dist/tex/generic/hyph-utf8/patterns/tex",
     "/usr/share/hyphen",
 )
-# The folders of dictionaries of the system, which the programs search last.
+# The folders of dictionaries of the system, which the programs search last, as crates/language_search has them.
 SYSTEM_FOLDERS = ("/usr/local/share/hyphenation", "/usr/share/hyphenation")
 # A tag is searched in small letters, and with - for _. Letters beyond ASCII stay.
 LONGEST_CODE = 32
@@ -86,21 +86,39 @@ def row_there(same, searched):
     return next(((row, paths) for row in same for paths in [paths_of(row, searched)] if paths), None)
 
 
-def folder_of_user():
-    """The folder of dictionaries of the user's own."""
-    data = os.environ.get("XDG_DATA_HOME") or os.path.expanduser("~/.local/share")
-    return os.path.join(data, "hyphenation")
+def variable(name):
+    """The value of an environment variable; empty if it is not there, or not UTF-8: the programs ignore it then."""
+    value = os.environ.get(name, "")
+    try:
+        os.fsencode(value).decode()
+    except UnicodeDecodeError:
+        return ""
+    return value
+
+
+def folders_of_user():
+    """The folders of dictionaries that the programs search first: those of HYPHENATION_PATH, then that of the user's own. There
+    is none without these variables."""
+    named = [folder for folder in variable("HYPHENATION_PATH").split(":") if folder]
+    home = variable("HOME")
+    data = variable("XDG_DATA_HOME") or (home and os.path.join(home, ".local/share"))
+    return named + ([os.path.join(data, "hyphenation")] if data else [])
 
 
 def default_folder():
-    """The folder to which dictionaries go."""
-    return os.environ.get("HYPHENATION_PATH", "").split(":")[0] or folder_of_user()
+    """The folder to which dictionaries go, or None."""
+    return next(iter(folders_of_user()), None)
 
 
 def dictionary_folders():
-    """The folders in which the programs search dictionaries."""
-    named = [folder for folder in os.environ.get("HYPHENATION_PATH", "").split(":") if folder]
-    return [*named, folder_of_user(), *SYSTEM_FOLDERS]
+    """The folders in which the programs search dictionaries, in their order, each once."""
+    return list(dict.fromkeys([*folders_of_user(), *SYSTEM_FOLDERS]))
+
+
+def texts_of(row, folders):
+    """The paths of a row's dictionary in these folders, in their order."""
+    paths = [os.path.join(folder, file_name(row.code, row.kind)) for folder in folders]
+    return [path for path in paths if os.path.isfile(path)]
 
 
 def file_name(code, kind):
@@ -111,3 +129,9 @@ def file_name(code, kind):
 def convert_arguments(row, paths):
     """The arguments of hyphenate-convert for a row."""
     return [row.kind, row.code, row.left, row.right, *paths]
+
+
+def reason(error):
+    """The path that an error of the system names, if it does, and its reason."""
+    path = error.filename2 or error.filename
+    return f"{path}: {error.strerror}" if path else error.strerror or str(error)

@@ -50,10 +50,12 @@ STUB
 
 # program_at FILE NAME: makes a program that writes its name, which is words of a shell, its arguments, and its input. With
 # an argument `message` it writes `message` to standard error. If its last argument is a number, that is its exit status.
+# For --help it writes a usage.
 program_at() {
   mkdir -p "$(dirname "$1")"
   cat >"$1" <<PROGRAM
 #!/usr/bin/env bash
+[ "\${1-}" != --help ] || { echo "usage: \${0##*/} [FILE..]"; exit; }
 printf %s "$2"
 printf ' [%s]' "\$@"
 printf ' %s\n' "\$(cat)"
