@@ -5,11 +5,10 @@ It does and prints as the programs in C do. LEFT and RIGHT are the minima. CALL 
   list          Dictionary.positions_of of this library, for all words at once
   dictionary    Dictionary.positions
   interface     positions of hyphenation.pyphen, this library's module with the interface of pyphen
-  remembered    the same, and each word was asked for before
   pyphen        positions of pyphen
   cached        the same, and each word was asked for before
 
-Both modules remember words. In `interface` and `pyphen` they forget them before each time, which takes no time here.
+Pyphen remembers words. In `pyphen` it forgets them before each time, which takes no time here.
 """
 
 import re
@@ -32,7 +31,7 @@ def caller(call, path, left, right):
             return sum(map(len, found))
 
         return of_words, lambda text: len(dictionary.text(text)) - len(text), lambda: None
-    if call in ("interface", "remembered"):
+    if call == "interface":
         from hyphenation import pyphen
     else:
         sys.path.append("/usr/lib/python3/dist-packages")
@@ -46,8 +45,7 @@ def caller(call, path, left, right):
     def of_text(text):
         return len(LETTERS.sub(lambda found: inserted(found.group()), text)) - len(text)
 
-    kept = call in ("remembered", "cached")
-    return of_each, of_text, lambda: None if kept else hyphenator.hd.cache.clear()
+    return of_each, of_text, hyphenator.hd.cache.clear if call == "pyphen" else lambda: None
 
 
 def main(minima, call, path, file, task, times):
@@ -57,7 +55,7 @@ def main(minima, call, path, file, task, times):
     content = content.split("\n")[:-1] if task == "words" else content
     ask = of_words if task == "words" else of_text
     found = spent = 0
-    if call in ("remembered", "cached"):
+    if call == "cached":
         ask(content)
     for _ in range(int(times)):
         before()

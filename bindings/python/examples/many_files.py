@@ -9,6 +9,7 @@ Each process loads the dictionary once. many_files_dask.py does the same on seve
 """
 
 import argparse
+import functools
 import multiprocessing
 import os
 import pathlib
@@ -16,19 +17,8 @@ from concurrent.futures import ProcessPoolExecutor
 
 from hyphenation import Dictionary
 
-# The dictionary of this process, the two folders and the mark.
-task = None
-
-
-def begin(text, source, target, mark):
-    """Loads the dictionary of a process."""
-    global task
-    task = Dictionary(text), source, target, mark
-
-
-def hyphenate(name):
+def hyphenate(dictionary, source, target, mark, name):
     """Marks the breaks of one file."""
-    dictionary, source, target, mark = task
     try:
         content = (source / name).read_bytes().decode()
     except UnicodeDecodeError as error:
@@ -47,19 +37,18 @@ def main():
     parser.add_argument("--processes", type=int, default=os.cpu_count(), metavar="N", help="how many (all processors)")
     given = parser.parse_args()
     # A faulty dictionary ends the program here, before any process begins.
-    text = Dictionary.from_path(given.dictionary).to_text()
-    how = text, given.source, given.target, given.mark
+    dictionary = Dictionary.from_path(given.dictionary)
+    hyphenate_one = functools.partial(hyphenate, dictionary, given.source, given.target, given.mark)
     names = sorted(path.relative_to(given.source) for path in given.source.rglob("*.txt"))
     if given.processes == 0:
-        begin(*how)
         for name in names:
-            hyphenate(name)
+            hyphenate_one(name)
     else:
         # A process that is forked from one with threads may not call the library, so new ones are started.
         started = multiprocessing.get_context("spawn")
-        with ProcessPoolExecutor(given.processes, started, begin, how) as pool:
+        with ProcessPoolExecutor(given.processes, started) as pool:
             # The list waits for all, and an error in a process is one here.
-            list(pool.map(hyphenate, names, chunksize=50))
+            list(pool.map(hyphenate_one, names, chunksize=50))
     print(f"{len(names)} files")
 
 

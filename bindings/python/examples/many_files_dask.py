@@ -12,35 +12,22 @@ run anywhere, each with this package, and see the two folders at the same paths.
   dask scheduler                                   on one machine (dask-scheduler, in older versions)
   dask worker tcp://HOST:8786 --nthreads 1         on each of the others (dask-worker)
 
-Each worker gets the dictionary's text, and loads it once.
+Each worker gets the dictionary once, and not with each task.
 """
 
 import argparse
 import os
 import pathlib
 
-from distributed import Client, LocalCluster, WorkerPlugin, get_worker
+from distributed import Client, LocalCluster
 
 from hyphenation import Dictionary
 
 FILES_OF_A_TASK = 50
 
 
-class Load(WorkerPlugin):
-    """Loads the dictionary of each worker, also of one that joins later."""
-
-    name = "hyphenation"
-
-    def __init__(self, text):
-        self.text = text
-
-    def setup(self, worker):
-        worker.hyphenation = Dictionary(self.text)
-
-
-def hyphenate(names, source, target, mark):
-    """Marks the breaks of some files, by the dictionary of the worker, and returns how many they are."""
-    dictionary = get_worker().hyphenation
+def hyphenate(names, dictionary, source, target, mark):
+    """Marks the breaks of some files, and returns how many they are."""
     for name in names:
         try:
             content = (source / name).read_bytes().decode()
@@ -62,14 +49,14 @@ def main():
     parser.add_argument("--workers", type=int, default=os.cpu_count(), metavar="N", help="how many (all processors)")
     given = parser.parse_args()
     # A faulty dictionary ends the program here, before any worker begins.
-    text = Dictionary.from_path(given.dictionary).to_text()
+    dictionary = Dictionary.from_path(given.dictionary)
     source, target = given.source.resolve(), given.target.resolve()
     names = sorted(path.relative_to(source) for path in source.rglob("*.txt"))
     tasks = [names[at : at + FILES_OF_A_TASK] for at in range(0, len(names), FILES_OF_A_TASK)]
     where = given.scheduler or LocalCluster(n_workers=given.workers, threads_per_worker=1, dashboard_address=None)
     with Client(where) as client:
-        client.register_worker_plugin(Load(text))
-        done = client.map(hyphenate, tasks, source=source, target=target, mark=given.mark, pure=False)
+        everywhere = client.scatter(dictionary, broadcast=True)
+        done = client.map(hyphenate, tasks, dictionary=everywhere, source=source, target=target, mark=given.mark, pure=False)
         print(f"{sum(client.gather(done))} files, {len(client.scheduler_info()['workers'])} workers")
 
 

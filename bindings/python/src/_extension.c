@@ -5,7 +5,10 @@
  * Each call has the type that hyphenation.h declares.
  *
  * There is no lock. A call that is made for a word keeps the lock of the interpreter, so that a handle is given to one call
- * at a time. A call that may take long gives it back meanwhile, and so has a handle of its own, which shares the dictionary. */
+ * at a time. A call that may take long, also of a long word, gives it back meanwhile, and so has a handle of its own, which
+ * shares the dictionary.
+ *
+ * Each interpreter of a process has a module, a class and exceptions of its own. Only the addresses of the calls are shared. */
 #define PY_SSIZE_T_CLEAN
 #define Py_LIMITED_API 0x030A0000
 #include <Python.h>
@@ -26,19 +29,25 @@ static struct {
   CALLS(DECLARE)
 } calls;
 
-/* The function of Python that raises the exception of a status. */
-static PyObject *raises;
+/* What a module has: the function of Python that raises the exception of a status; NULL before the library is open. */
+typedef struct {
+  PyObject *raises;
+} State;
 
 typedef struct {
   PyObject_HEAD
   hyphenation handle;
 } Handle;
-static PyTypeObject *handle_type;
 #define OF(self) (&((Handle *)(self))->handle)
 
+/* The state of a module, or of the one whose handle it is. */
+static State *state_of(PyObject *self) {
+  return PyModule_Check(self) ? PyModule_GetState(self) : PyType_GetModuleState(Py_TYPE(self));
+}
+
 /* Raises the exception of a status, and returns NULL. */
-static PyObject *fail(uint32_t status) {
-  PyObject *number = PyLong_FromUnsignedLong(status);
+static PyObject *fail(PyObject *self, uint32_t status) {
+  PyObject *raises = state_of(self)->raises, *number = PyLong_FromUnsignedLong(status);
   PyObject *none = number ? PyObject_CallFunctionObjArgs(raises, number, NULL) : NULL;
   Py_XDECREF(number);
   if (none) {
@@ -48,16 +57,13 @@ static PyObject *fail(uint32_t status) {
   return NULL;
 }
 
-static PyObject *none_or_fail(uint32_t status) {
-  if (status != HYPHENATION_DONE) return fail(status);
-  Py_RETURN_NONE;
-}
-
 /* The UTF-8 of a str, which lives as long as it; NULL with an exception set if it is none, or has a surrogate. */
 static const uint8_t *utf8_of(PyObject *text, size_t *length) {
   Py_ssize_t size;
   if (!PyUnicode_Check(text)) {
-    PyErr_SetString(PyExc_TypeError, "a word is a str");
+    PyObject *name = PyObject_GetAttrString((PyObject *)Py_TYPE(text), "__name__");
+    if (name) PyErr_Format(PyExc_TypeError, "a str is required, not %R", name);
+    Py_XDECREF(name);
     return NULL;
   }
   const char *bytes = PyUnicode_AsUTF8AndSize(text, &size);
@@ -65,11 +71,51 @@ static const uint8_t *utf8_of(PyObject *text, size_t *length) {
   return (const uint8_t *)bytes;
 }
 
-/* Room for `count` values of `size` bytes each, which are 0; NULL with an exception set if memory is refused. */
+/* Room for `count` values of `size` bytes each, which are 0; NULL if memory is refused. */
+static void *room_of(size_t count, size_t size) {
+  return count <= PY_SSIZE_T_MAX / size ? calloc(count ? count : 1, size) : NULL;
+}
+
+/* The same; NULL with an exception set. */
 static void *room_for(size_t count, size_t size) {
-  void *room = count <= PY_SSIZE_T_MAX / size ? calloc(count ? count : 1, size) : NULL;
+  void *room = room_of(count, size);
   if (!room) PyErr_NoMemory();
   return room;
+}
+
+/* ---- Long calls. */
+
+/* A call for a word of as many bytes may take long. */
+enum { LONG = 1 << 12 };
+
+/* What a call gets: the handle that it asks, and in a long call one of its own, and the state of the waiting thread. */
+typedef struct {
+  hyphenation *handle, own;
+  PyThreadState *thread;
+} Lent;
+
+/* Lends a handle. If the call is a long one other threads run from now on. Returns false with an exception set if memory is
+ * refused, or if there is no dictionary. */
+static bool lend(PyObject *self, bool is_long, Lent *it) {
+  it->handle = OF(self);
+  it->thread = NULL;
+  if (!is_long) return true;
+  it->own = (hyphenation)HYPHENATION_NONE;
+  uint32_t status = calls.share(OF(self), &it->own);
+  if (status != HYPHENATION_DONE) {
+    fail(self, status);
+    return false;
+  }
+  it->handle = &it->own;
+  it->thread = PyEval_SaveThread();
+  return true;
+}
+
+/* Takes back what was lent. */
+static void take_back(Lent *it) {
+  if (!it->thread) return;
+  calls.free(&it->own);
+  PyEval_RestoreThread(it->thread);
 }
 
 /* ---- Lists of positions. */
@@ -99,18 +145,20 @@ static PyObject *list_of(const size_t *places, size_t count, const uint8_t *text
 enum { USUAL = 64 };
 
 static PyObject *list_of_breaks(PyObject *self, PyObject *word, bool in_characters) {
-  size_t length, count = 0, usual[USUAL], *places = usual, room = USUAL;
+  size_t length, count = 0, usual[USUAL], *places = usual;
   const uint8_t *text = utf8_of(word, &length);
   PyObject *list = NULL;
-  if (!text) return NULL;
-  uint32_t status = calls.breaks(OF(self), text, length, places, room, &count);
+  Lent lent;
+  if (!text || !lend(self, length >= LONG, &lent)) return NULL;
+  uint32_t status = calls.breaks(lent.handle, text, length, places, USUAL, &count);
   if (status == HYPHENATION_NO_ROOM) {
-    room = count;
-    if (!(places = room_for(room, sizeof *places))) return NULL;
-    status = calls.breaks(OF(self), text, length, places, room, &count);
+    size_t room = count;
+    places = room_of(room, sizeof *places);
+    status = places ? calls.breaks(lent.handle, text, length, places, room, &count) : HYPHENATION_OUT_OF_MEMORY;
   }
+  take_back(&lent);
   if (status != HYPHENATION_DONE) {
-    fail(status);
+    fail(self, status);
   } else {
     bool plain = !in_characters || (size_t)PyUnicode_GetLength(word) == length;
     list = list_of(places, count, plain ? NULL : text);
@@ -125,15 +173,24 @@ static PyObject *positions(PyObject *self, PyObject *word) { return list_of_brea
 
 /* ---- Breaks that make changes. */
 
-/* The tuple of a change, whose texts begin at `texts`. The positions are counted from `at` and `characters`. */
-static PyObject *tuple_of(const hyphenation_change *it, const uint8_t *word, const uint8_t *texts) {
-  size_t at = 0, characters = 0, numbers[3], ends[3] = {it->place, it->begin, it->end};
-  for (int i = 0; i < 3; ++i) {
-    at = characters = 0;
-    numbers[i] = characters_to(word, ends[i], &at, &characters);
-  }
-  return Py_BuildValue("(nnns#s#)", (Py_ssize_t)numbers[0], (Py_ssize_t)numbers[1], (Py_ssize_t)numbers[2],
-                       (const char *)texts, (Py_ssize_t)it->before, (const char *)texts + it->before, (Py_ssize_t)it->after);
+/* For each byte of a word, and for its end, the number of characters before it; NULL with an exception set if memory is
+ * refused. So each place of a word, in whatever order they come, is counted in one step. */
+static size_t *characters_of(const uint8_t *word, size_t length) {
+  size_t *before = room_for(length + 1, sizeof *before), at = 0, characters = 0;
+  for (size_t i = 0; before && i <= length; ++i) before[i] = characters_to(word, i, &at, &characters);
+  return before;
+}
+
+/* A place in a word as a number of characters. Without `before` each byte is one. */
+static Py_ssize_t position_of(size_t place, const size_t *before) {
+  return (Py_ssize_t)(before ? before[place] : place);
+}
+
+/* The tuple of a change, whose texts begin at `texts`. */
+static PyObject *tuple_of(const hyphenation_change *it, const size_t *before, const uint8_t *texts) {
+  return Py_BuildValue("(nnns#s#)", position_of(it->place, before), position_of(it->begin, before),
+                       position_of(it->end, before), (const char *)texts, (Py_ssize_t)it->before,
+                       (const char *)texts + it->before, (Py_ssize_t)it->after);
 }
 
 /* An item of either sort. */
@@ -155,21 +212,20 @@ typedef struct {
 enum { USUAL_BYTES = 512 };
 
 /* The list of positions, and that of changes or None where there is no change. */
-static PyObject *pair_of(const Items *items, const uint8_t *word) {
+static PyObject *pair_of(const Items *items, const size_t *before) {
   const hyphenation_change *found = items->at.changes;
   const uint8_t *texts = items->texts;
   size_t count = items->count;
   bool changed = items->texts_count != 0;
   PyObject *list = NULL, *at = PyList_New((Py_ssize_t)count), *position;
-  size_t byte = 0, characters = 0;
   for (size_t i = 0; i < count; ++i) changed |= found[i].begin != found[i].place || found[i].end != found[i].place;
   if (changed) list = PyList_New((Py_ssize_t)count);
   if (!at || (changed && !list)) goto failed;
   for (size_t i = 0; i < count; ++i) {
-    position = PyLong_FromSize_t(characters_to(word, found[i].place, &byte, &characters));
+    position = PyLong_FromSsize_t(position_of(found[i].place, before));
     if (!position || PyList_SetItem(at, (Py_ssize_t)i, position)) goto failed;
     if (changed) {
-      PyObject *tuple = tuple_of(&found[i], word, texts);
+      PyObject *tuple = tuple_of(&found[i], before, texts);
       if (!tuple || PyList_SetItem(list, (Py_ssize_t)i, tuple)) goto failed;
       texts += found[i].before + found[i].after;
     }
@@ -182,17 +238,17 @@ failed:
 }
 
 /* The tuple of a listed break, whose text begins at `text`. */
-static PyObject *tuple_of_listed(const hyphenation_numbered *it, const uint8_t *word, const uint8_t *text) {
+static PyObject *tuple_of_listed(const hyphenation_numbered *it, const size_t *before, const uint8_t *text) {
   hyphenation_change change = {it->number, it->number - it->left, it->number + it->right, it->breakpoint,
                                it->length - it->breakpoint};
-  return tuple_of(&change, word, text);
+  return tuple_of(&change, before, text);
 }
 
-static PyObject *list_of_listed(const Items *found, const uint8_t *word) {
+static PyObject *list_of_listed(const Items *found, const size_t *before) {
   PyObject *list = PyList_New((Py_ssize_t)found->count);
   const uint8_t *texts = found->texts;
   for (size_t i = 0; list && i < found->count; texts += found->at.listed[i++].length) {
-    PyObject *tuple = tuple_of_listed(&found->at.listed[i], word, texts);
+    PyObject *tuple = tuple_of_listed(&found->at.listed[i], before, texts);
     if (!tuple || PyList_SetItem(list, (Py_ssize_t)i, tuple)) {
       Py_DECREF(list);
       return NULL;
@@ -201,43 +257,44 @@ static PyObject *list_of_listed(const Items *found, const uint8_t *word) {
   return list;
 }
 
-static uint32_t ask_for_changes(PyObject *self, const uint8_t *word, size_t length, Items *it) {
-  return calls.changes(OF(self), word, length, it->at.changes, it->room, &it->count, it->texts, it->texts_room,
+static uint32_t ask_for_changes(hyphenation *handle, const uint8_t *word, size_t length, Items *it) {
+  return calls.changes(handle, word, length, it->at.changes, it->room, &it->count, it->texts, it->texts_room,
                        &it->texts_count);
 }
 
-static uint32_t ask_for_exception(PyObject *self, const uint8_t *word, size_t length, Items *it) {
-  return calls.exception(OF(self), word, length, it->at.listed, it->room, &it->count, it->texts, it->texts_room,
+static uint32_t ask_for_exception(hyphenation *handle, const uint8_t *word, size_t length, Items *it) {
+  return calls.exception(handle, word, length, it->at.listed, it->room, &it->count, it->texts, it->texts_room,
                          &it->texts_count);
 }
 
 /* What a call writes of a word, as `made` makes it; None where it says that the word is no exception. */
 static PyObject *items_of(PyObject *self, PyObject *word,
-                          uint32_t (*ask)(PyObject *self, const uint8_t *word, size_t length, Items *it),
-                          PyObject *(*made)(const Items *found, const uint8_t *word)) {
+                          uint32_t (*ask)(hyphenation *handle, const uint8_t *word, size_t length, Items *it),
+                          PyObject *(*made)(const Items *found, const size_t *before)) {
   Item usual[USUAL];
   uint8_t usual_texts[USUAL_BYTES];
   Items it = {.at.any = usual, .room = USUAL, .texts = usual_texts, .texts_room = USUAL_BYTES};
-  size_t length;
+  size_t length, *before = NULL;
   const uint8_t *text = utf8_of(word, &length);
   PyObject *result = NULL;
-  if (!text) return NULL;
-  uint32_t status = ask(self, text, length, &it);
+  Lent lent;
+  if (!text || !lend(self, length >= LONG, &lent)) return NULL;
+  uint32_t status = ask(lent.handle, text, length, &it);
   if (status == HYPHENATION_NO_ROOM) {
     it.room = it.count;
     it.texts_room = it.texts_count;
-    if (!(it.at.any = room_for(it.room, sizeof *usual))) return NULL;
-    if (!(it.texts = room_for(it.texts_room, 1))) {
-      free(it.at.any);
-      return NULL;
-    }
-    status = ask(self, text, length, &it);
+    it.at.any = room_of(it.room, sizeof *usual);
+    it.texts = room_of(it.texts_room, 1);
+    status = it.at.any && it.texts ? ask(lent.handle, text, length, &it) : HYPHENATION_OUT_OF_MEMORY;
   }
+  take_back(&lent);
+  bool plain = it.count == 0 || (size_t)PyUnicode_GetLength(word) == length;
   if (status == HYPHENATION_NO_EXCEPTION) result = Py_NewRef(Py_None);
-  else if (status != HYPHENATION_DONE) fail(status);
-  else result = made(&it, text);
+  else if (status != HYPHENATION_DONE) fail(self, status);
+  else if (plain || (before = characters_of(text, length))) result = made(&it, before);
   if (it.at.any != usual) free(it.at.any);
   if (it.texts != usual_texts) free(it.texts);
+  free(before);
   return result;
 }
 
@@ -280,7 +337,7 @@ static bool lay_words(PyObject *tuple, Words *it) {
   return true;
 }
 
-/* Asks for the breaks of all words, with a handle of its own. */
+/* Asks for the breaks of all words. */
 static uint32_t break_words(hyphenation *handle, Words *it) {
   return calls.breaks_of_words(handle, it->text, it->length, it->ends, it->words, it->places, it->room, &it->count,
                                it->place_ends, it->words, &it->stops);
@@ -302,32 +359,27 @@ static PyObject *lists_of(const Words *it) {
 
 static PyObject *positions_of(PyObject *self, PyObject *tuple) {
   Words words = {0};
-  hyphenation own = HYPHENATION_NONE;
   PyObject *all = NULL;
+  Lent lent;
   if (!PyTuple_Check(tuple)) {
     PyErr_SetString(PyExc_TypeError, "the words are no tuple");
     return NULL;
   }
-  if (lay_words(tuple, &words)) {
-    uint32_t status = calls.share(OF(self), &own);
-    if (status == HYPHENATION_DONE) {
-      Py_BEGIN_ALLOW_THREADS
-      status = break_words(&own, &words);
-      if (status == HYPHENATION_NO_ROOM) {
-        size_t *more = words.count <= SIZE_MAX / sizeof *more ? realloc(words.places, words.count * sizeof *more) : NULL;
-        if (more) {
-          words.places = more;
-          words.room = words.count;
-          status = break_words(&own, &words);
-        } else {
-          status = HYPHENATION_OUT_OF_MEMORY;
-        }
+  if (lay_words(tuple, &words) && lend(self, true, &lent)) {
+    uint32_t status = break_words(lent.handle, &words);
+    if (status == HYPHENATION_NO_ROOM) {
+      size_t *more = words.count <= SIZE_MAX / sizeof *more ? realloc(words.places, words.count * sizeof *more) : NULL;
+      if (more) {
+        words.places = more;
+        words.room = words.count;
+        status = break_words(lent.handle, &words);
+      } else {
+        status = HYPHENATION_OUT_OF_MEMORY;
       }
-      Py_END_ALLOW_THREADS
-      calls.free(&own);
     }
+    take_back(&lent);
     if (status == HYPHENATION_DONE) all = lists_of(&words);
-    else fail(status);
+    else fail(self, status);
   }
   free_words(&words);
   return all;
@@ -343,42 +395,29 @@ typedef struct Question {
   size_t length, mark_length, more_length[2], columns;
 } Question;
 
-/* Makes the call with a room, while other threads run if it is a long one. */
-static uint32_t ask(Question *it, uint8_t *buffer, size_t room, size_t *count, bool is_long) {
-  PyThreadState *state = is_long ? PyEval_SaveThread() : NULL;
-  uint32_t status = it->ask(it, buffer, room, count);
-  if (state) PyEval_RestoreThread(state);
-  return status;
-}
-
 /* Makes the call with a room and then, if it is too short, with the room that is wanted. The result is a str, or bytes if
- * `raw`. */
-static PyObject *written(Question *it, size_t room, bool is_long, bool raw) {
+ * `raw`. Of a module no handle is asked. */
+static PyObject *written(PyObject *self, Question *it, size_t room, bool is_long, bool raw) {
   size_t count = 0;
   uint8_t *buffer = room_for(room, 1);
   PyObject *result = NULL;
-  if (!buffer) return NULL;
-  uint32_t status = ask(it, buffer, room, &count, is_long);
+  Lent lent;
+  if (!buffer || !lend(self, is_long, &lent)) {
+    free(buffer);
+    return NULL;
+  }
+  it->handle = lent.handle;
+  uint32_t status = it->ask(it, buffer, room, &count);
   if (status == HYPHENATION_NO_ROOM) {
     free(buffer);
-    if (!(buffer = room_for(room = count, 1))) return NULL;
-    status = ask(it, buffer, room, &count, is_long);
+    buffer = room_of(room = count, 1);
+    status = buffer ? it->ask(it, buffer, room, &count) : HYPHENATION_OUT_OF_MEMORY;
   }
-  if (status != HYPHENATION_DONE) fail(status);
+  take_back(&lent);
+  if (status != HYPHENATION_DONE) fail(self, status);
   else if (raw) result = PyBytes_FromStringAndSize((const char *)buffer, (Py_ssize_t)count);
   else result = PyUnicode_DecodeUTF8((const char *)buffer, (Py_ssize_t)count, NULL);
   free(buffer);
-  return result;
-}
-
-/* The same by a handle of its own, while other threads run. */
-static PyObject *written_long(PyObject *self, Question *it, size_t room) {
-  hyphenation own = HYPHENATION_NONE;
-  uint32_t status = calls.share(OF(self), &own);
-  if (status != HYPHENATION_DONE) return fail(status);
-  it->handle = &own;
-  PyObject *result = written(it, room, true, false);
-  calls.free(&own);
   return result;
 }
 
@@ -387,8 +426,8 @@ static uint32_t ask_language(Question *it, uint8_t *buffer, size_t capacity, siz
 }
 
 static PyObject *language(PyObject *self, PyObject *Py_UNUSED(none)) {
-  Question it = {.ask = ask_language, .handle = OF(self)};
-  return written(&it, 32, false, false);
+  Question it = {.ask = ask_language};
+  return written(self, &it, 32, false, false);
 }
 
 static uint32_t ask_values(Question *it, uint8_t *buffer, size_t capacity, size_t *count) {
@@ -396,8 +435,8 @@ static uint32_t ask_values(Question *it, uint8_t *buffer, size_t capacity, size_
 }
 
 static PyObject *values(PyObject *self, PyObject *word) {
-  Question it = {.ask = ask_values, .handle = OF(self)};
-  return (it.text = utf8_of(word, &it.length)) ? written(&it, it.length, false, true) : NULL;
+  Question it = {.ask = ask_values};
+  return (it.text = utf8_of(word, &it.length)) ? written(self, &it, it.length, it.length >= LONG, true) : NULL;
 }
 
 static uint32_t ask_text(Question *it, uint8_t *buffer, size_t capacity, size_t *count) {
@@ -409,7 +448,7 @@ static PyObject *text(PyObject *self, PyObject *arguments) {
   PyObject *content, *mark;
   if (!PyArg_ParseTuple(arguments, "OO", &content, &mark)) return NULL;
   if (!(it.text = utf8_of(content, &it.length)) || !(it.mark = utf8_of(mark, &it.mark_length))) return NULL;
-  return written_long(self, &it, it.length + it.length / 2 + 16);
+  return written(self, &it, it.length + it.length / 2 + 16, true, false);
 }
 
 static uint32_t ask_fill(Question *it, uint8_t *buffer, size_t capacity, size_t *count) {
@@ -422,7 +461,8 @@ static PyObject *fill(PyObject *self, PyObject *arguments) {
   if (!PyArg_ParseTuple(arguments, "OO", &content, &columns)) return NULL;
   it.columns = PyLong_AsSize_t(columns);
   if (it.columns == (size_t)-1 && PyErr_Occurred()) return NULL;
-  return (it.text = utf8_of(content, &it.length)) ? written_long(self, &it, it.length + it.length / 8 + 16) : NULL;
+  if (!(it.text = utf8_of(content, &it.length))) return NULL;
+  return written(self, &it, it.length + it.length / 8 + 16, true, false);
 }
 
 static uint32_t ask_write(Question *it, uint8_t *buffer, size_t capacity, size_t *count) {
@@ -431,7 +471,7 @@ static uint32_t ask_write(Question *it, uint8_t *buffer, size_t capacity, size_t
 
 static PyObject *write_text(PyObject *self, PyObject *Py_UNUSED(none)) {
   Question it = {.ask = ask_write};
-  return written_long(self, &it, 1 << 12);
+  return written(self, &it, 1 << 12, true, false);
 }
 
 static uint32_t ask_paths(Question *it, uint8_t *buffer, size_t capacity, size_t *count) {
@@ -439,23 +479,23 @@ static uint32_t ask_paths(Question *it, uint8_t *buffer, size_t capacity, size_t
                      it->more_length[1], buffer, capacity, count);
 }
 
-/* Whether the call has the library; else an exception is set. */
-static bool has_library(void) {
-  if (!raises) PyErr_SetString(PyExc_RuntimeError, "the library is not open yet");
-  return raises != NULL;
+/* Whether the module has the library; else an exception is set. */
+static bool has_library(const State *state) {
+  if (!state->raises) PyErr_SetString(PyExc_RuntimeError, "the library is not open yet");
+  return state->raises != NULL;
 }
 
-static PyObject *paths(PyObject *Py_UNUSED(module), PyObject *arguments) {
+static PyObject *paths(PyObject *module, PyObject *arguments) {
   Question it = {.ask = ask_paths};
   Py_ssize_t lengths[4];
-  if (!has_library() || !PyArg_ParseTuple(arguments, "y#y#y#y#", &it.text, &lengths[0], &it.mark, &lengths[1], &it.more[0],
-                                          &lengths[2], &it.more[1], &lengths[3]))
+  if (!has_library(state_of(module)) || !PyArg_ParseTuple(arguments, "y#y#y#y#", &it.text, &lengths[0], &it.mark, &lengths[1],
+                                                          &it.more[0], &lengths[2], &it.more[1], &lengths[3]))
     return NULL;
   it.length = (size_t)lengths[0];
   it.mark_length = (size_t)lengths[1];
   it.more_length[0] = (size_t)lengths[2];
   it.more_length[1] = (size_t)lengths[3];
-  return written(&it, 4096, false, true);
+  return written(module, &it, 4096, false, true);
 }
 
 /* ---- Loading, and what is left. */
@@ -518,12 +558,12 @@ static PyObject *load_patterns(PyObject *self, PyObject *arguments) {
 }
 
 static PyObject *share(PyObject *self, PyObject *Py_UNUSED(none)) {
-  PyObject *other = PyObject_CallObject((PyObject *)handle_type, NULL);
+  PyObject *other = PyObject_CallObject((PyObject *)Py_TYPE(self), NULL);
   if (!other) return NULL;
   uint32_t status = calls.share(OF(self), OF(other));
   if (status == HYPHENATION_DONE) return other;
   Py_DECREF(other);
-  return fail(status);
+  return fail(self, status);
 }
 
 static PyObject *close_handle(PyObject *self, PyObject *Py_UNUSED(none)) {
@@ -535,32 +575,34 @@ static PyObject *edit(PyObject *self, PyObject *arguments) {
   const uint8_t *content;
   Py_ssize_t length;
   if (!PyArg_ParseTuple(arguments, "y#", &content, &length)) return NULL;
-  return none_or_fail(calls.edit(OF(self), content, (size_t)length));
+  uint32_t status = calls.edit(OF(self), content, (size_t)length);
+  if (status != HYPHENATION_DONE) return fail(self, status);
+  Py_RETURN_NONE;
 }
 
 static PyObject *minima(PyObject *self, PyObject *Py_UNUSED(none)) {
   size_t left = 0, right = 0;
   uint32_t status = calls.minima(OF(self), &left, &right);
-  return status == HYPHENATION_DONE ? Py_BuildValue("(nn)", (Py_ssize_t)left, (Py_ssize_t)right) : fail(status);
+  return status == HYPHENATION_DONE ? Py_BuildValue("(nn)", (Py_ssize_t)left, (Py_ssize_t)right) : fail(self, status);
 }
 
-static PyObject *kind_of(PyObject *Py_UNUSED(module), PyObject *arguments) {
+static PyObject *kind_of(PyObject *module, PyObject *arguments) {
   const uint8_t *content;
   Py_ssize_t length;
-  if (!has_library() || !PyArg_ParseTuple(arguments, "y#", &content, &length)) return NULL;
+  if (!has_library(state_of(module)) || !PyArg_ParseTuple(arguments, "y#", &content, &length)) return NULL;
   return PyLong_FromUnsignedLong(calls.kind_of(content, (size_t)length));
 }
 
-static PyObject *cause_message(PyObject *Py_UNUSED(module), PyObject *arguments) {
+static PyObject *cause_message(PyObject *module, PyObject *arguments) {
   unsigned int cause;
-  if (!has_library() || !PyArg_ParseTuple(arguments, "I", &cause)) return NULL;
+  if (!has_library(state_of(module)) || !PyArg_ParseTuple(arguments, "I", &cause)) return NULL;
   return PyUnicode_FromString(calls.cause_message(cause));
 }
 
 /* ---- The class and the module. */
 
 static PyObject *new_handle(PyTypeObject *type, PyObject *arguments, PyObject *Py_UNUSED(named)) {
-  if (!has_library() || !PyArg_ParseTuple(arguments, "")) return NULL;
+  if (!has_library(PyType_GetModuleState(type)) || !PyArg_ParseTuple(arguments, "")) return NULL;
   /* (All bytes of it are 0: it holds no dictionary.) */
   return ((allocfunc)PyType_GetSlot(type, Py_tp_alloc))(type, 0);
 }
@@ -608,20 +650,18 @@ static PyType_Spec specification = {
     .slots = slots,
 };
 
-/* start(path, fail): opens the library, once. `fail` raises the exception of a status. */
-static PyObject *start(PyObject *Py_UNUSED(module), PyObject *arguments) {
+/* start(path, fail): opens the library, once in a process. `fail` raises the exception of a status in this interpreter. */
+static PyObject *start(PyObject *module, PyObject *arguments) {
   PyObject *path, *function;
+  State *state = state_of(module);
   if (!PyArg_ParseTuple(arguments, "O&O", PyUnicode_FSConverter, &path, &function)) return NULL;
-  if (raises) {
-    Py_DECREF(path);
-    Py_RETURN_NONE;
-  }
-  void *library = dlopen(PyBytes_AsString(path), RTLD_NOW | RTLD_LOCAL);
+  static bool is_open;
+  void *library = is_open ? NULL : dlopen(PyBytes_AsString(path), RTLD_NOW | RTLD_LOCAL);
   Py_DECREF(path);
 #define FIND(each) (library && (*(void **)&calls.each = dlsym(library, "hyphenation_" #each))) &&
-  if (CALLS(FIND) true) {
-    Py_INCREF(function);
-    raises = function;
+  if (is_open || (CALLS(FIND) true)) {
+    is_open = true;
+    if (!state->raises) state->raises = Py_NewRef(function);
     Py_RETURN_NONE;
   }
   const char *why = dlerror();
@@ -637,23 +677,41 @@ static PyMethodDef functions[] = {
     {NULL, NULL, 0, NULL},
 };
 
+static int make_module(PyObject *module) {
+  PyObject *handle_type = PyType_FromModuleAndSpec(module, &specification, NULL);
+  if (!handle_type) return -1;
+  int failed = PyModule_AddObjectRef(module, "Handle", handle_type);
+  Py_DECREF(handle_type);
+  return failed;
+}
+
+static int traverse_module(PyObject *module, visitproc visit, void *arg) {
+  Py_VISIT(state_of(module)->raises);
+  return 0;
+}
+
+static int clear_module(PyObject *module) {
+  Py_CLEAR(state_of(module)->raises);
+  return 0;
+}
+
+static void free_module(void *module) { clear_module(module); }
+
+static PyModuleDef_Slot module_slots[] = {
+    {Py_mod_exec, (void *)make_module},
+    {0, NULL},
+};
+
 static PyModuleDef definition = {
     PyModuleDef_HEAD_INIT,
     .m_name = "hyphenation._extension",
     .m_doc = "The calls of the library.",
-    .m_size = -1,
+    .m_size = sizeof(State),
     .m_methods = functions,
+    .m_slots = module_slots,
+    .m_traverse = traverse_module,
+    .m_clear = clear_module,
+    .m_free = free_module,
 };
 
-PyMODINIT_FUNC PyInit__extension(void) {
-  PyObject *module = PyModule_Create(&definition);
-  if (!module) return NULL;
-  handle_type = (PyTypeObject *)PyType_FromSpec(&specification);
-  Py_XINCREF(handle_type);
-  if (!handle_type || PyModule_AddObject(module, "Handle", (PyObject *)handle_type)) {
-    Py_XDECREF(handle_type);
-    Py_DECREF(module);
-    return NULL;
-  }
-  return module;
-}
+PyMODINIT_FUNC PyInit__extension(void) { return PyModuleDef_Init(&definition); }

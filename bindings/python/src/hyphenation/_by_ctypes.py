@@ -2,7 +2,7 @@
 
 `Handle` and the functions are those of the extension `_extension`, which takes their place where it was built. There is no
 lock. Short calls keep all other threads waiting, so a handle is given to one call at a time. Long calls let other threads
-run, and so have a handle of their own, which shares the dictionary.
+run, and so have a handle of their own, which shares the dictionary. So it is with a call for a long word.
 """
 
 import ctypes
@@ -11,7 +11,7 @@ from ctypes import POINTER, addressof, byref, c_bool, c_char_p, c_size_t, c_uint
 from itertools import accumulate
 from typing import Any, Callable, List, Optional, Tuple
 
-from ._results import DONE, NO_EXCEPTION, NO_ROOM, Loaded, fail, library_path, positions
+from ._results import DONE, NO_EXCEPTION, NO_ROOM, Loaded, encoded, fail, library_path, positions
 
 
 class _Held(ctypes.Structure):
@@ -56,12 +56,12 @@ _edit = _declare(_SHORT, "edit", _HANDLE, *_TEXT)
 _language = _declare(_SHORT, "language", _HANDLE, *_BUFFER)
 _minima = _declare(_SHORT, "minima", _HANDLE, POINTER(c_size_t), POINTER(c_size_t))
 # These two are called for each word. Their arguments have types of C already, so none is converted.
-_breaks = _declare(_SHORT, "breaks")
-_breaks.argtypes = None  # type: ignore[attr-defined]
-_changes = _declare(_SHORT, "changes")
-_changes.argtypes = None  # type: ignore[attr-defined]
+_breaks, _breaks_of_long = _declare(_SHORT, "breaks"), _declare(_LONG, "breaks")
+_changes, _changes_of_long = _declare(_SHORT, "changes"), _declare(_LONG, "changes")
+for _call in _breaks, _breaks_of_long, _changes, _changes_of_long:
+    _call.argtypes = None  # type: ignore[attr-defined]
 _breaks_of_words = _declare(_LONG, "breaks_of_words", _HANDLE, *_TEXT, c_void_p, c_size_t, *_BUFFER, *_BUFFER)
-_values = _declare(_SHORT, "values", _HANDLE, *_TEXT, *_BUFFER)
+_values, _values_of_long = (_declare(library, "values", _HANDLE, *_TEXT, *_BUFFER) for library in (_SHORT, _LONG))
 _exception = _declare(_SHORT, "exception", _HANDLE, *_TEXT, *_BUFFER, *_BUFFER)
 _text = _declare(_LONG, "text", _HANDLE, *_TEXT, *_TEXT, *_BUFFER)
 _fill = _declare(_LONG, "fill", _HANDLE, *_TEXT, c_size_t, *_BUFFER)
@@ -71,19 +71,13 @@ _cause_message = _declare(_SHORT, "cause_message", c_uint32, result=c_char_p)
 
 # Lengths of short texts, as the calls for each word take them.
 _LENGTHS = tuple(map(c_size_t, range(256)))
+# A call for a word of as many bytes may take long.
+_LONG_WORD = 1 << 12
 
 
 def _check(status: int) -> None:
     if status != DONE:
         fail(status)
-
-
-def _encoded(word: str) -> bytes:
-    """Returns the UTF-8 of a word."""
-    try:
-        return word.encode()
-    except AttributeError:
-        raise TypeError("a word is a str, and not {}".format(type(word).__name__)) from None
 
 
 def _written(room: int, call: _Call, *arguments: Any) -> bytes:
@@ -188,47 +182,59 @@ class Handle:
         _check(_minima(self._at, byref(left), byref(right)))
         return left.value, right.value
 
-    def places(self, word: str) -> List[int]:
-        """Returns the places of a word's breaks, in bytes."""
-        text = _encoded(word)
-        length = _LENGTHS[len(text)] if len(text) < 256 else c_size_t(len(text))
+    def _lent(self, text: bytes) -> "Handle":
+        """Returns the handle that is asked for a word: a long one has one of its own, since other threads run meanwhile."""
+        return self if len(text) < _LONG_WORD else self.share()
+
+    def _places(self, text: bytes) -> List[int]:
+        if len(text) < 256:
+            length, call, lent = _LENGTHS[len(text)], _breaks, self
+        else:
+            length, lent = c_size_t(len(text)), self._lent(text)
+            call = _breaks if lent is self else _breaks_of_long
         try:
             rooms = self._spare.pop()
         except IndexError:
             rooms = _Rooms()
-        status = _breaks(self._at, text, length, rooms.places_at, rooms.places_room, rooms.count_at)
+        status = call(lent._at, text, length, rooms.places_at, rooms.places_room, rooms.count_at)
         if status == NO_ROOM:
             rooms.give_places(rooms.count.value)
-            status = _breaks(self._at, text, length, rooms.places_at, rooms.places_room, rooms.count_at)
+            status = call(lent._at, text, length, rooms.places_at, rooms.places_room, rooms.count_at)
         if status != DONE:
             fail(status)
         found: List[int] = rooms.places[:rooms.count.value]
         self._spare.append(rooms)
         return found
 
+    def places(self, word: str) -> List[int]:
+        """Returns the places of a word's breaks, in bytes."""
+        return self._places(encoded(word))
+
     def positions(self, word: str) -> List[int]:
         """Returns the positions of a word's breaks, in characters."""
-        places = self.places(word)
-        if not places or word.isascii():
-            return places
-        return positions(word.encode(), places)
+        text = encoded(word)
+        return positions(text, self._places(text))
 
     def changes(self, word: str) -> Tuple[List[int], Optional[List[Tuple[int, int, int, str, str]]]]:
         """Returns the positions of a word's breaks; and the breaks if one of them makes a change."""
-        text = _encoded(word)
-        length = _LENGTHS[len(text)] if len(text) < 256 else c_size_t(len(text))
+        text = encoded(word)
+        if len(text) < 256:
+            length, call, lent = _LENGTHS[len(text)], _changes, self
+        else:
+            length, lent = c_size_t(len(text)), self._lent(text)
+            call = _changes if lent is self else _changes_of_long
         try:
             rooms = self._spare.pop()
         except IndexError:
             rooms = _Rooms()
-        status = _changes(
-            self._at, text, length, rooms.changes_at, rooms.changes_room, rooms.count_at, rooms.texts_at,
+        status = call(
+            lent._at, text, length, rooms.changes_at, rooms.changes_room, rooms.count_at, rooms.texts_at,
             rooms.texts_room, rooms.length_at,
         )
         if status == NO_ROOM:
             rooms.give_changes(max(rooms.count.value, 64), max(rooms.length.value, 512))
-            status = _changes(
-                self._at, text, length, rooms.changes_at, rooms.changes_room, rooms.count_at, rooms.texts_at,
+            status = call(
+                lent._at, text, length, rooms.changes_at, rooms.changes_room, rooms.count_at, rooms.texts_at,
                 rooms.texts_room, rooms.length_at,
             )
         if status != DONE:
@@ -249,11 +255,9 @@ class Handle:
 
     def positions_of(self, words: Tuple[str, ...]) -> List[List[int]]:
         """Returns the positions of the breaks of each of the words."""
-        text, number = "".join(words), len(words)
-        content = text.encode()
-        plain = len(content) == len(text)
-        lengths = map(len, words) if plain else [len(word.encode()) for word in words]
-        ends = array("Q", accumulate(lengths))
+        texts, number = list(map(encoded, words)), len(words)
+        content = b"".join(texts)
+        ends = array("Q", accumulate(map(len, texts)))
         place_ends = array("Q", bytes(8 * number))
         places, count, length = array("Q", bytes(8 * (len(content) // 4 + 16))), c_size_t(), c_size_t()
         other = self.share()
@@ -272,20 +276,17 @@ class Handle:
         _check(status)
         found, stops = places[:count.value].tolist(), place_ends.tolist()
         all_places = [found[begin:end] for begin, end in zip([0] + stops, stops)]
-        if not plain:
-            for at, word in enumerate(words):
-                if not word.isascii():
-                    all_places[at] = positions(word.encode(), all_places[at])
-        return all_places
+        return all_places if content.isascii() else list(map(positions, texts, all_places))
 
     def values(self, word: str) -> bytes:
         """Returns the values of a word's places."""
-        text = _encoded(word)
-        return _written(max(len(text), 1), _values, self._at, text, len(text))
+        text = encoded(word)
+        lent = self._lent(text)
+        return _written(max(len(text), 1), _values if lent is self else _values_of_long, lent._at, text, len(text))
 
     def exception(self, word: str) -> Optional[List[Tuple[int, int, int, str, str]]]:
         """Returns the breaks that are listed for a word; none if it is no exception."""
-        text = _encoded(word)
+        text = encoded(word)
         room, texts_room, count, length = 64, 512, c_size_t(), c_size_t()
         # A second time with the rooms that are wanted, if the first ones are too short.
         for _ in range(2):
@@ -301,26 +302,26 @@ class Handle:
         if status == NO_EXCEPTION:
             return None
         _check(status)
-        found, begin = [], 0
-        for at in range(0, 6 * count.value, 6):
-            place, _, left, right, breakpoint, size = numbered[at:at + 6]
-            middle, end = begin + breakpoint, begin + size
-            found.append((
-                len(text[:place].decode()), len(text[:place - left].decode()), len(text[:place + right].decode()),
-                texts.raw[begin:middle].decode(), texts.raw[middle:end].decode(),
-            ))
-            begin = end
+        numbers: List[int] = numbered[:6 * count.value]
+        places, lefts, rights, breakpoints, sizes = numbers[::6], numbers[2::6], numbers[3::6], numbers[4::6], numbers[5::6]
+        begins = positions(text, [place - left for place, left in zip(places, lefts)])
+        ends = positions(text, [place + right for place, right in zip(places, rights)])
+        content, found, at = ctypes.string_at(texts, length.value), [], 0
+        for place, begin, end, breakpoint, size in zip(positions(text, places), begins, ends, breakpoints, sizes):
+            middle, last = at + breakpoint, at + size
+            found.append((place, begin, end, content[at:middle].decode(), content[middle:last].decode()))
+            at = last
         return found
 
     def text(self, text: str, mark: str) -> str:
         """Returns a text with the mark at each break of its words."""
-        content, sign, other = _encoded(text), _encoded(mark), self.share()
+        content, sign, other = encoded(text), encoded(mark), self.share()
         room = len(content) + len(content) // 2 + 16
         return _written(room, _text, other._at, content, len(content), sign, len(sign)).decode()
 
     def fill(self, text: str, columns: int) -> str:
         """Returns the lines of a paragraph, each with a line feed behind it."""
-        content, other = _encoded(text), self.share()
+        content, other = encoded(text), self.share()
         room = len(content) + len(content) // 8 + 16
         return _written(room, _fill, other._at, content, len(content), columns).decode()
 

@@ -1,7 +1,7 @@
 """What the calls of the library return: statuses, causes, breaks, and the exceptions that take the place of statuses."""
 
 import os
-from typing import Callable, List, NamedTuple, NoReturn, Tuple
+from typing import Callable, Dict, List, NamedTuple, NoReturn, Tuple
 
 DONE, NO_ROOM, OUT_OF_MEMORY, NO_DICTIONARY, NOT_UTF8, REFUSED, OTHER_KIND, NO_LANGUAGE = range(8)
 BAD_ENDS, NO_MINIMA, NO_EXCEPTION = 8, 9, 10
@@ -72,9 +72,29 @@ def fail(status: int) -> NoReturn:
     raise RuntimeError("the library returned the status {}, which this call does not have".format(status))
 
 
+def wrong(given: object, wanted: str = "str") -> TypeError:
+    """Returns the error of an argument of another type."""
+    return TypeError("a {} is required, not {!r}".format(wanted, type(given).__name__))
+
+
+def encoded(text: str) -> bytes:
+    """Returns the UTF-8 of a str, and of a subclass that of the str that it is; all else is a TypeError."""
+    try:
+        return str.encode(text)
+    except TypeError:
+        raise wrong(text) from None
+
+
 def positions(content: bytes, places: List[int]) -> List[int]:
-    """Returns places in the bytes of a word, which ascend, as positions in its characters."""
-    return places if content.isascii() else [len(content[:place].decode()) for place in places]
+    """Returns places in the bytes of a word as positions in its characters. Each byte is looked at once."""
+    if content.isascii():
+        return places
+    found: Dict[int, int] = {}
+    at = characters = 0
+    for place in sorted(dict.fromkeys(places)):
+        characters += len(content[at:place].decode())
+        found[place], at = characters, place
+    return [found[place] for place in places]
 
 
 def library_path() -> str:

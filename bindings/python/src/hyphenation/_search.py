@@ -5,6 +5,7 @@ import os
 from typing import Iterator, List, Optional
 
 from . import _calls
+from ._results import encoded
 
 #: The package of dictionaries, which need not be installed.
 PACKAGE = "hyphenation_dictionaries"
@@ -21,7 +22,7 @@ def value(name: str) -> bytes:
 def paths(language: str, *values: bytes) -> List[str]:
     """Returns the paths at which the dictionary of a language is looked for, in their order, by the values of HYPHENATION_PATH,
     XDG_DATA_HOME and HOME."""
-    found = _calls.paths(language.encode(), *values)
+    found = _calls.paths(encoded(language), *values)
     return list(map(os.fsdecode, found.split(b"\0")[:-1]))
 
 
