@@ -20,8 +20,8 @@ joined : (begun rest : List ℕ) → concat (words_after begun rest) ≡ begun +
 joined begun [] = any_joined begun ∙ sym (append-nil begun)
 joined begun (b ∷ bs) =
     elim (is_sign b) as (λ c. concat (if c then if_any begun ++ (b ∷ []) ∷ words_after [] bs else words_after (begun ++ b ∷ []) bs) ≡ begun ++ b ∷ bs) [
-      true ↦ concat-append (if_any begun) ((b ∷ []) ∷ words_after [] bs) ∙ ap (λ xs. xs ++ b ∷ concat (words_after [] bs)) (any_joined begun) ∙ ap (λ xs. begun ++ b ∷ xs) (joined [] bs)
-    | false ↦ joined (begun ++ b ∷ []) bs ∙ append_assoc begun (b ∷ []) bs
+      | true ↦ concat-append (if_any begun) ((b ∷ []) ∷ words_after [] bs) ∙ ap (λ xs. xs ++ b ∷ concat (words_after [] bs)) (any_joined begun) ∙ ap (λ xs. begun ++ b ∷ xs) (joined [] bs)
+      | false ↦ joined (begun ++ b ∷ []) bs ∙ append_assoc begun (b ∷ []) bs
     ]
 
 all_joined : (pieces : List (List ℕ)) → concat (flat_map words_of_piece pieces) ≡ concat pieces
@@ -76,8 +76,8 @@ utf8_words : (begun rest : List ℕ) → IsUtf8 (begun ++ rest) → AreUtf8 (wor
 utf8_words begun [] u = utf8_any begun (subst IsUtf8 (append-nil begun) u)
 utf8_words begun (b ∷ bs) u =
     elim (is_sign b) as (λ c. is_sign b ≡ c → AreUtf8 (if c then if_any begun ++ (b ∷ []) ∷ words_after [] bs else words_after (begun ++ b ∷ []) bs)) [
-      true ↦ λ e. let p = parted begun b bs (sign_is_ascii b e) u in utf8_both (if_any begun) ((b ∷ []) ∷ words_after [] bs) (utf8_any begun p.front) (p.sign, utf8_words [] bs p.later)
-    | false ↦ λ e. utf8_words (begun ++ b ∷ []) bs (subst IsUtf8 (sym (append_assoc begun (b ∷ []) bs)) u)
+      | true ↦ λ e. let p = parted begun b bs (sign_is_ascii b e) u in utf8_both (if_any begun) ((b ∷ []) ∷ words_after [] bs) (utf8_any begun p.front) (p.sign, utf8_words [] bs p.later)
+      | false ↦ λ e. utf8_words (begun ++ b ∷ []) bs (subst IsUtf8 (sym (append_assoc begun (b ∷ []) bs)) u)
     ] refl
 
 utf8_pieces : (text : List ℕ) (at : ℕ) (pieces : List (List ℕ)) → IsUtf8 text → AreSlices text (with_offsets at pieces) → AreUtf8 (flat_map words_of_piece pieces)
