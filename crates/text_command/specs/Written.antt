@@ -13,6 +13,7 @@ use Rattle.command_line.specs.Steps.{EndsIn}
 use Rattle.command_line.specs.declared.TheConstants.{VERSION}
 use Rattle.command_line.specs.declared.failure.Failure.{Failure}
 use Rattle.command_line.specs.declared.failure.Failure.TheVariants as failed
+use Rattle.text_words.specs.Words.{unless_mixed}
 use Rattle.hyphenation_html.specs.Texts.{hyphenated_by}
 use Rattle.hyphenation_html.specs.Words.{within_limits}
 use Rattle.text_results.specs.Files.{WrittenFiles}
@@ -31,7 +32,7 @@ asked_text args = help_or_version NAME.now VERSION.now USAGE.now args
 -- letters.
 abbrev pub result_of : ParsedOptions → AnyDictionary → List ℕ → List ℕ
 result_of options dictionary text =
-    hyphenated_by (within_limits options.min_word options.skip_capitals (places_by dictionary)) options.mark text
+    hyphenated_by (within_limits options.min_word options.skip_capitals (unless_mixed (places_by dictionary))) options.mark text
 
 -- Results of arguments: those of the texts that they name, in their order, by the dictionary that they name.
 pub record AreResults (args : ParsedArgs) (bytes_of : KnownFiles) (folders : List (List ℕ)) (left : Option (List ℕ)) (results : List (List ℕ)) : Type 0 where
