@@ -3,13 +3,14 @@
 //! [`ReplaceFiles`] is implemented for the files of a runtime, and for a list that records what was written
 //! ([`Recorded`]). So a contract over any `ReplaceFiles` says which file gets which bytes.
 
-ghost use Rattle.std.specs.Prelude.{◌∷◌, [], Option, None, Some, OnErr, OnOk, map};
+ghost use Rattle.std.specs.Prelude.{◌≡◌, ◌∷◌, [], Option, None, Some, is_some, OnErr, OnOk, map, if◌then◌else◌};
 ghost use Rattle.std.specs.String.{string_bytes};
 ghost use Rattle.text_results.specs.Files.{WrittenFiles, WritesFiles};
 
 use std::alloc::Global;
-use std::fs::{Files, Metadata, OpenFile, OpenOptions};
+use std::fs::{Files, Metadata, OpenFile, OpenOptions, Permissions};
 use std::io::{ErrorKind, Write};
+use std::os::unix::fs::{OpenOptionsExt, PermissionsExt};
 use std::path::AsPath;
 use std::{fs, io};
 
@@ -30,8 +31,8 @@ pub trait ReplaceFiles {
         ensures kept { OnErr result (WritesFiles (written self.old) (written self.new) []) };
 }
 
-// A new file is written beside the old one, with its permissions, and then gets its name. A symbolic link is followed. A
-// file that is none of the disk, as a terminal or a pipe, is written where it is.
+// A new file is written beside the old one, with its permissions, and then gets its name. A symbolic link is followed, also
+// one that leads to no file yet. A file that is none of the disk, as a terminal or a pipe, is written where it is.
 impl<F: Files> ReplaceFiles for F {
     ghost written = { λ _. None };
 
@@ -59,16 +60,29 @@ impl ReplaceFiles for Recorded {
     }
 }
 
-// Writes bytes to a file that is there and is none of the disk.
-fn write_through<F: Files>(files: &F, path: &str, bytes: &[u8]) -> io::Result<()> {
-    let mut file = OpenOptions::new().write(true).open(files, path)?;
+// Writes bytes to a file that is there and is none of the disk, or to the new file to which a link leads.
+fn write_through<F: Files>(files: &F, path: &str, is_new: bool, bytes: &[u8]) -> io::Result<()> {
+    let mut file = OpenOptions::new()
+        .write(true)
+        .create(is_new)
+        .open(files, path)?;
     file.write_all(bytes)
 }
 
-// Fills a new file, which gets the permissions of the old one first, and waits until the disk has it.
+// Returns the permissions with which a new file is made, where the mask leaves them: those of any new file or, where it takes
+// the place of an old one, none for others, who could open it before it gets those of the old one.
+fn first_mode(old: &Option<Metadata>) -> u32
+    ensures { result ≡ (if is_some old.now then 0o600 else 0o666) }
+{
+    if old.is_some() { 0o600 } else { 0o666 }
+}
+
+// Fills a new file, which gets the permissions of the old one first, and waits until the disk has it. The bits by which a
+// program gets the rights of its file's owner are left out, since the owner may be another one now.
 fn fill<T: Write + OpenFile>(file: &mut T, old: &Option<Metadata>, bytes: &[u8]) -> io::Result<()> {
     if let Some(old) = old {
-        file.set_permissions(old.permissions())?;
+        let permissions = old.permissions().mode() & 0o777;
+        file.set_permissions(Permissions::from_mode(permissions))?;
     }
     file.write_all(bytes)?;
     file.sync_all()
@@ -108,6 +122,7 @@ fn replace_by_new<F: Files>(
         match OpenOptions::new()
             .write(true)
             .create_new(true)
+            .mode(first_mode(old))
             .open(files, beside.as_str())
         {
             Ok(file) => return fill_and_rename(files, file, &beside, target, old, bytes),
@@ -134,11 +149,19 @@ fn replace_file<F: Files>(files: &F, alloc: Global, path: &str, bytes: &[u8]) ->
     };
     if let Some(old) = &old {
         if !old.is_file() {
-            return write_through(files, path, bytes);
+            return write_through(files, path, false, bytes);
         }
     }
     match files.canonicalize(alloc, path) {
         Ok(target) => replace_by_new(files, alloc, target.path_text(), &old, bytes),
-        Err(_) => replace_by_new(files, alloc, path, &old, bytes),
+        Err(e) => {
+            if old.is_some() {
+                return Err(e);
+            }
+            if files.symlink_metadata(path).is_ok() {
+                return write_through(files, path, true, bytes);
+            }
+            replace_by_new(files, alloc, path, &old, bytes)
+        }
     }
 }

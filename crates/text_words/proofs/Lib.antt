@@ -1,4 +1,5 @@
 mod LetterWords
 mod Letters
 mod Taken
+mod Unsigned
 mod WordSlices
