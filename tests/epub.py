@@ -87,6 +87,9 @@ class Entry(zipfile.ZipInfo):
         self.external_attr = (0o100640 + number % 8) << 16
         self.comment = f"number {number}".encode()
         self.extra = b"\x55\x54\x05\x00\x01" + bytes([number % 256]) * 4
+        if name == "book/style.css":
+            # the field of large sizes, which it has without need
+            self.extra = b"\x01\x00\x10\x00" + bytes(16) + self.extra
         self.create_system = number % 4
 
 
