@@ -35,7 +35,9 @@ PAGE = """<?xml version="1.0" encoding="utf-8"?>
 <html xmlns="http://www.w3.org/1999/xhtml"{language}><head><title>firkin</title></head>
 <body><p>{text}</p></body></html>
 """
-NCX = '<ncx xmlns="http://www.daisy.org/z3986/2005/ncx/" version="2005-1"><navMap><navPoint><text>firkin</text></navPoint></navMap></ncx>'
+NCX = """<ncx xmlns="http://www.daisy.org/z3986/2005/ncx/" version="2005-1">
+<navMap><navPoint><text>firkin</text></navPoint></navMap></ncx>
+"""
 ENCRYPTION = """<encryption xmlns="urn:oasis:names:tc:opendocument:xmlns:container" xmlns:enc="http://www.w3.org/2001/04/xmlenc#">
 <enc:EncryptedData><enc:EncryptionMethod Algorithm="{method}"/>
 <enc:CipherData><enc:CipherReference URI="{path}"/></enc:CipherData></enc:EncryptedData>
@@ -131,6 +133,7 @@ def make(folder):
     write(folder / "none.epub", files({}))
     second = {**ONE, "other.xhtml": ("book/other.xhtml", page("firkin"))}
     write(folder / "two.epub", files(second, "<dc:language>qaa</dc:language>"))
+    write(folder / "language.epub", files(ONE, f"<dc:language>--{'a' * 200000}</dc:language>"))
     without = files(ONE)
     del without["mimetype"]
     write(folder / "no-mimetype.epub", without)
@@ -208,9 +211,8 @@ def differences(old, new):
     before, after = (zipfile.ZipFile(path) for path in (old, new))
     if before.comment != after.comment:
         yield f"the comment is {after.comment}"
-    names = [entry.filename for entry in after.infolist()]
-    if names != sorted(before.namelist(), key=lambda name: name != "mimetype"):
-        yield f"the files are {names}"
+    if after.namelist() != ["mimetype", *(name for name in before.namelist() if name != "mimetype")]:
+        yield f"the files are {after.namelist()}"
     for entry in after.infolist():
         if entry.filename not in before.namelist():
             yield f"{entry.filename}: new: {after.read(entry).decode()}"
