@@ -1,8 +1,8 @@
 """Books for tests/epub, and what differs between two of them.
 
-  epub.py make FOLDER          writes good books, hostile ones, and damaged ones
-  epub.py differences OLD NEW  writes a line for each difference: the new text of a page, with - for a soft hyphen
-  epub.py whole OLD NEW        writes which books of a folder are neither as they were in another one nor whole
+- `epub.py make FOLDER` writes good books, hostile ones, and damaged ones.
+- `epub.py differences OLD NEW` writes a line for each difference. A page is written as it is now, with - for a soft hyphen.
+- `epub.py whole OLD NEW` writes which books of a folder are neither as they were in another one nor whole.
 """
 
 import pathlib
