@@ -134,6 +134,8 @@ def make(folder):
     second = {**ONE, "other.xhtml": ("book/other.xhtml", page("firkin"))}
     write(folder / "two.epub", files(second, "<dc:language>qaa</dc:language>"))
     write(folder / "language.epub", files(ONE, f"<dc:language>--{'a' * 200000}</dc:language>"))
+    wrong = {"toc.ncx": ("book/toc.ncx", NCX), "../mimetype": ("mimetype", "firkin")}
+    write(folder / "wrong-pages.epub", files({**ONE, **wrong}))
     without = files(ONE)
     del without["mimetype"]
     write(folder / "no-mimetype.epub", without)
