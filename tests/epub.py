@@ -125,8 +125,10 @@ def make(folder):
     write(folder / "good.epub", whole, comment=b"a book")
     with zipfile.ZipFile(folder / "good.epub", "a") as archive:
         stored = Entry("book/stored.bin", 20)
-        stored.compress_type, stored.external_attr = zipfile.ZIP_STORED, 0
+        stored.compress_type = zipfile.ZIP_STORED
         archive.writestr(stored, b"firkin")
+        # (writing gives permissions to a file that has none)
+        stored.external_attr = 0
     write(folder / "unflagged.epub", files(PAGES), Unflagged)
     many = {f"{at}.xhtml": (f"book/{at}.xhtml", page("firkin", "qaa")) for at in range(4001)}
     write(folder / "many.epub", files(many))
