@@ -141,7 +141,8 @@ def make(folder):
     without = files(ONE)
     del without["mimetype"]
     write(folder / "no-mimetype.epub", without)
-    out = {"../../../escaped.xhtml": ("../../escaped.xhtml", page("firkin")), "/escaped.xhtml": ("/escaped.xhtml", page("firkin"))}
+    absolute = f"{folder.resolve()}/escaped.xhtml"
+    out = {"../../../escaped.xhtml": ("../../escaped.xhtml", page("firkin")), absolute: (absolute, page("firkin"))}
     write(folder / "up.epub", files(out))
 
     make_hostile(folder / "hostile")
