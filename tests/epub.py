@@ -196,8 +196,10 @@ def make_hostile(folder):
     write(folder / "twice.epub", [*good.items(), (one, page("other"))])
     zero = other("zero", {"book/a_b": b""})
     zero.write_bytes(zero.read_bytes().replace(b"book/a_b", b"book/a\0b"))
-    for name, at, value in (("locked", 8, b"\x01\x00"), ("large", 24, (256 * 2**20 + 1).to_bytes(4, "little")),
-                            ("small", 24, b"\x05\x00\x00\x00"), ("crc", 16, b"\x01\x02\x03\x04"), ("method", 10, b"\x0c\x00")):
+    for name, at, value in (
+            ("locked", 8, b"\x01\x00"), ("method", 10, b"\x0c\x00"), ("crc", 16, b"\x01\x02\x03\x04"),
+            ("small", 24, b"\x05\x00\x00\x00"), ("longer", 24, b"\x00\x10\x00\x00"),
+            ("large", 24, (256 * 2**20 + 1).to_bytes(4, "little"))):
         of_directory(other(name, {}), one, at, value)
     parts = [f"book/{at}.xhtml" for at in range(17)]
     two = files({"0.xhtml": (parts[0], ""), "1.xhtml": (parts[1], "")})
