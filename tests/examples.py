@@ -20,6 +20,8 @@ import shutil
 import subprocess
 import sys
 
+import epub
+
 ROOT = pathlib.Path(__file__).resolve().parent.parent
 PAGES = [path.relative_to(ROOT).as_posix() for pattern in ("*.md", "docs/*.md", "*/README.md") for path in sorted(ROOT.glob(pattern))]
 
@@ -169,6 +171,8 @@ def folder_for(scratch, number):
     for name, text in (("notes.txt", "Two firkins of ale.\n"), ("mail.txt", "Subject: ale\n\n> Two firkins of ale.\n\nNone.\n"),
                        ("paragraph.txt", "Two firkins\nof ale\n"), ("page.html", page), ("chapter1.xhtml", page), ("chapter2.xhtml", page)):
         (folder / name).write_text(text)
+    one = {"one.xhtml": ("book/one.xhtml", epub.page("Two firkins of ale."))}
+    epub.write(folder / "book.epub", epub.files(one, "<dc:language>en</dc:language>"))
     for path in pathlib.Path("/usr/share/hyphen").glob("hyph_de_DE.dic"):
         (folder / path.name).symlink_to(path)
     return folder
@@ -277,7 +281,8 @@ def check_itself(scratch):
 
 def main(words):
     scratch, lists = pathlib.Path(words[0]), words[1:] == ["--list"]
-    (scratch / "bin/hyphenate-languages").symlink_to(ROOT / "bin/hyphenate-languages")
+    for name in ("hyphenate-epub", "hyphenate-languages"):
+        (scratch / "bin" / name).symlink_to(ROOT / "bin" / name)
     mans = sorted(ROOT.glob("docs/man/*.[17]"))
     left_out, compared, ran = [], [], 0
     sources = [(page, commands_of_page(page)) for page in PAGES] + [(f"docs/man/{path.name}", commands_of_man(path)) for path in mans]

@@ -5,8 +5,10 @@
 # The programs. The first one's name is that of the launcher, and the launchers of the others read it.
 programs=(hyphenate hyphenate-canonical hyphenate-convert hyphenate-explain hyphenate-html hyphenate-lines hyphenate-text)
 
-# The files of languages/ that hyphenate-languages needs where it is installed.
+# The programs that are scripts in Python, and the files of languages/ and of tools/ that they need where they are installed.
+scripts=(hyphenate-epub hyphenate-languages)
 of_languages=(list variants listed.py making.py)
+of_tools=(VERSION scripts.py)
 
 # crate_of NAME: the crate of a program, in `crate`; libhyphenation is the static library for C. All programs are one file,
 # which does the work of the one by whose name it is called.
