@@ -114,8 +114,8 @@ static bool lend(PyObject *self, bool is_long, Lent *it) {
 /* Takes back what was lent. */
 static void take_back(Lent *it) {
   if (!it->thread) return;
-  calls.free(&it->own);
   PyEval_RestoreThread(it->thread);
+  calls.free(&it->own);
 }
 
 /* ---- Lists of positions. */
