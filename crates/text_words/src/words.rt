@@ -27,7 +27,8 @@ pub struct TextWords<'t> {
 const fn is_sign(byte: u8) -> bool
     ensures { result ≡ is_sign byte }
 {
-    byte == b'.' || byte == b':'
+    // Letters are above both.
+    byte <= b':' && (byte == b'.' || byte == b':')
 }
 
 // Whether a text has a dot or a colon.
