@@ -37,7 +37,7 @@ NOT_RUN = [
     (r".*: tests/", "it is a script of tests/"),
     (r".*: bench/", "it measures"),
     (r".*: packaging/|packaging/README.md: hyphenate-", "it makes packages or needs them; tests/packages and packaging/try do so"),
-    (r"languages/README.md: (mkdir tex|for package)", "it downloads packages"),
+    (r"docs/LANGUAGES.md: (mkdir tex|for package)", "it downloads packages"),
     (r".*: languages/(make|libreoffice|table) ", "it goes through all languages; tests/languages runs what it does over a few"),
     (r".*: DICPATH=", "it starts LibreOffice; tests/libreoffice does so"),
     (r"docs/man/hyphenate-languages.1: hyphenate-languages$", "it makes the dictionaries of all languages on the machine"),
