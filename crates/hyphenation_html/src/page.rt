@@ -192,9 +192,9 @@ fn all_fit(languages: &[LanguageDictionary], settings: &Settings<'_>)
 /// All that is not text stays as it is, byte for byte: tags, comments, scripts, character references. So do the texts
 /// of elements as `pre` and `code` ([`LEFT_ALONE_NAMES`](crate::LEFT_ALONE_NAMES)), with `translate="no"`, or with the
 /// class of the settings. So does the rest of a page that parsers may read in different ways. A part of a text between
-/// white space is left whole if it has a soft hyphen or is a name: an address, a path, an
-/// identifier, or the name of a file. So is one that goes on in a character reference,
-/// or over a tag within a line, as that of `b`. So with soft hyphens as marks a second run changes nothing of the result.
+/// white space is left whole if it has a soft hyphen or is a name: an address, a path, an identifier, or the name of a
+/// file. So is one that goes on in a character reference, or over a tag within a line, as that of `b`. So with soft
+/// hyphens as marks a second run changes nothing of the result.
 ///
 /// An error says that memory was refused.
 ///

@@ -244,10 +244,10 @@ fn even_lines<'h, H: Hyphenator<'h>>(
 
 /// Returns the lines of a paragraph: its words with one space between them, broken where a line ends.
 ///
-/// A word is what is between gaps. It may be broken where the dictionary breaks one of its pieces, which are the words that
-/// `text_words` has, if some of the word is on either side. An address, a path, an identifier or the name of a file is not
-/// broken. A soft hyphen is shown only as the hyphen of a line that ends there. A line has at most `columns` columns of a terminal, or it holds
-/// one part, which can't be divided.
+/// A word is what is between gaps. It may be broken where the dictionary breaks one of its pieces, which are the words
+/// that `text_words` has, if some of the word is on either side. An address, a path, an identifier or the name of a
+/// file is not broken. A soft hyphen is shown only as the hyphen of a line that ends there. A line has at most
+/// `columns` columns of a terminal, or it holds one part, which can't be divided.
 ///
 /// The error says that memory was refused, or that the paragraph is too long.
 ///

@@ -6,7 +6,7 @@ ghost use Rattle.text_words.specs.Names.{begins_with_word, ends_name, ends_with,
 
 /// The endings by which the name of a file or of a host is told, after its last dot.
 ///
-/// Which of them these are is a choice of this crate. They are such as end no sentence.
+/// Which of them these are is a choice of this crate. Few of them are words that may come right after a dot.
 pub const ENDINGS: [&[u8]; 44] = [
     b"cfg", b"com", b"conf", b"css", b"csv", b"deb", b"de", b"dll", b"docx", b"doc", b"edu",
     b"epub", b"exe", b"fr", b"gif", b"gz", b"html", b"htm", b"hu", b"ini", b"jpeg", b"jpg",
@@ -107,8 +107,8 @@ fn begins_with_sign(before: u8, text: &[u8]) -> bool
         || ends_name(before, text)
 }
 
-/// Reports whether a part of a text is a name, which is left whole: an address of the web or of mail, a path, an identifier,
-/// or the name of a file or a host. It may have punctuation around it. The part is between white space.
+/// Reports whether a part of a text is a name, which is left whole: an address of the web or of mail, a path, an
+/// identifier, or the name of a file or a host. It may have punctuation around it. The part is between white space.
 ///
 /// It is one if it has any of these signs:
 ///

@@ -12,8 +12,9 @@ use word_pieces::WordPieces;
 
 /// An iterator over the words of a text.
 ///
-/// They are the pieces between Unicode's word bounds, each cut further at its dots and colons, which are words of their own.
-/// So the words, joined, are the text. `it's 3.5, no.` has the words `it's`, a space, `3`, `.`, `5`, `,`, a space, `no` and `.`.
+/// They are the pieces between Unicode's word bounds, each cut further at its dots and colons, which are words of their
+/// own. So the words, joined, are the text. `it's 3.5, no.` has the words `it's`, a space, `3`, `.`, `5`, `,`, a space,
+/// `no` and `.`.
 #[derive(Drop)]
 pub struct TextWords<'t> {
     // The pieces that are not begun.
@@ -27,8 +28,7 @@ pub struct TextWords<'t> {
 const fn is_sign(byte: u8) -> bool
     ensures { result ≡ is_sign byte }
 {
-    // Letters are above both.
-    byte <= b':' && (byte == b'.' || byte == b':')
+    byte == b'.' || byte == b':'
 }
 
 // Whether a text has a dot or a colon.
@@ -187,7 +187,8 @@ fn is_mixed_in_turn(word: &[u8]) -> bool
     false
 }
 
-/// Reports whether a word has a letter beside a digit, as `H2O` and `v2` have. A character beyond ASCII counts as a letter.
+/// Reports whether a word has a letter beside a digit, as `H2O` and `v2` have. A character beyond ASCII counts as a
+/// letter.
 #[tactic(auto, using(crate::proofs::Unsigned::no_digit))]
 pub fn is_mixed(word: &str) -> bool
     ensures { result ≡ is_mixed word.now }
