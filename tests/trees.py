@@ -416,7 +416,7 @@ def run(program, options, pages):
         for path, page in zip(paths, pages):
             with open(path, "wb") as file:
                 file.write(page)
-        ran = subprocess.run([program, *options, "--language", OTHERWISE, "--in-place", *paths], capture_output=True, check=False)
+        ran = subprocess.run([program, *options, "--lang", OTHERWISE, "--in-place", *paths], capture_output=True, check=False)
         if ran.returncode:
             sys.exit(f"status {ran.returncode}: {ran.stderr.decode()}")
         written = []

@@ -86,10 +86,10 @@ def end_at_signals():
 
 
 def run(usage, main):
-    """Runs a program, and ends with its status. --help and --version stand alone, and nothing more is loaded for these."""
+    """Runs a program, and ends with its status. --help, -h and --version stand alone, and nothing more is loaded for these."""
     try:
-        if sys.argv[1:] in (["--help"], ["--version"]):
-            write(usage if sys.argv[1] == "--help" else f"{NAME} {version()}\n")
+        if sys.argv[1:] in (["--help"], ["-h"], ["--version"]):
+            write(f"{NAME} {version()}\n" if sys.argv[1] == "--version" else usage)
             sys.exit(DONE)
         end_at_signals()
         sys.exit(main())

@@ -7,7 +7,7 @@ use Rattle.any_dictionary.specs.declared.AnyDictionary.{AnyDictionary}
 use Rattle.command_line.specs.About.{help_or_version}
 use Rattle.command_line.specs.Dictionaries.{KnownFiles, IsOfArgument, IsFailureOf}
 use Rattle.command_line.specs.Endings.{End, Done, Refuses, Fails, IsRefusal}
-use Rattle.command_line.specs.Options.{ReadArguments, RefusedArgument, refused, after_step, read_arguments}
+use Rattle.command_line.specs.Options.{ReadArguments, RefusedArgument, refused, after_step, last_value, read_arguments}
 use Rattle.command_line.specs.Steps.{EndsIn}
 use Rattle.command_line.specs.Usage.{options_in}
 use Rattle.command_line.specs.declared.TheConstants.{VERSION}
@@ -24,15 +24,17 @@ use Rattle.canonical_command.specs.declared.TheConstants.{NAME, USAGE}
 abbrev pub asked_text : List (Bor (List ℕ)) → Option (List ℕ)
 asked_text args = help_or_version NAME.now VERSION.now USAGE.now args
 
--- The path or the language that operands name. None means standard input.
-abbrev pub named_by : List (List ℕ) → Result (Option (List ℕ)) RefusedArgument
-named_by [] = Ok None
-named_by (dictionary ∷ []) = Ok (Some dictionary)
-named_by (dictionary ∷ other ∷ rest) = Err (refused other None NoMore)
+-- The path or the language that is named: a language stands for the first operand, and there may be no more. None means
+-- standard input.
+abbrev pub named_by : Option (List ℕ) → List (List ℕ) → Result (Option (List ℕ)) RefusedArgument
+named_by language [] = Ok language
+named_by (Some language) (other ∷ rest) = Err (refused other None NoMore)
+named_by None (dictionary ∷ []) = Ok (Some dictionary)
+named_by None (dictionary ∷ other ∷ rest) = Err (refused other None NoMore)
 
 -- The path or the language that all arguments name, or the first argument that is refused.
 abbrev pub parsed_args : List (Bor (List ℕ)) → Result (Option (List ℕ)) RefusedArgument
-parsed_args args = after_step (λ read. named_by read.operands) (read_arguments (options_in USAGE.now) (texts_now args))
+parsed_args args = after_step (λ read. named_by (last_value (codes "--lang") read.given) read.operands) (read_arguments (options_in USAGE.now) (texts_now args))
 
 -- ---- dictionaries
 

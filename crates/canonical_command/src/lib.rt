@@ -27,26 +27,32 @@ pub const NAME: &str = "hyphenate-canonical";
 /// The usage, for `--help`.
 pub const USAGE: &str = "\
 usage: hyphenate-canonical [DICTIONARY]
-       hyphenate-canonical --help
+       hyphenate-canonical --lang CODE
+       hyphenate-canonical -h | --help
        hyphenate-canonical --version
 Puts a dictionary text in order, of the kind that its first line names.
-  DICTIONARY  a dictionary text, by its path, which has a / or a .; or the
-              language of one that hyphenate-languages made; standard input
-              without DICTIONARY
+  DICTIONARY       a dictionary text, by its path, which has a / or a .; or the
+                   language of one that hyphenate-languages made; standard input
+                   without DICTIONARY
+  -l, --lang CODE  the language of the dictionary, in place of DICTIONARY
 ";
 
 /// The message if memory was refused.
 pub const NO_MEMORY: &str = "hyphenate-canonical: no memory\n";
 
-// Returns the path or the language that operands name. `None` means standard input.
-fn named_by<'w>(operands: &[&'w str]) -> Result<Option<&'w str>, ReadError<'w>>
-    ensures named { IfOk result (λ named. named_by (texts_now operands.now) ≡ Ok (option_copied named)) }
-    ensures refused { IfErr result (IsReadError (named_by (texts_now operands.now))) }
+// Returns what a language or operands name, unless there is one operand too many. `None` means standard input.
+fn named_by<'w>(
+    language: Option<&'w str>,
+    operands: &[&'w str],
+) -> Result<Option<&'w str>, ReadError<'w>>
+    ensures named { IfOk result (λ named.
+        named_by (option_copied language.entry) (texts_now operands.now) ≡ Ok (option_copied named)) }
+    ensures refused { IfErr result (IsReadError (named_by (option_copied language.entry) (texts_now operands.now))) }
 {
-    match operands {
-        [] => Ok(None),
-        [dictionary] => Ok(Some(*dictionary)),
-        [_, other, ..] => Err(ReadError::Bad(BadArgument {
+    match (language, operands) {
+        (named, []) => Ok(named),
+        (None, [dictionary]) => Ok(Some(*dictionary)),
+        (None, [_, other, ..]) | (Some(_), [other, ..]) => Err(ReadError::Bad(BadArgument {
             argument: *other,
             value: None,
             expected: Expected::NoMore,
@@ -60,7 +66,7 @@ fn parsed_args<'w>(alloc: Global, args: &'w [&'w str]) -> Result<Option<&'w str>
     ensures refused { IfErr result (IsReadError (parsed_args args.now)) }
 {
     let arguments = read(alloc, USAGE, args)?;
-    named_by(&arguments.operands)
+    named_by(arguments.last("--lang"), &arguments.operands)
 }
 
 // Returns why standard input gave no dictionary, as a failure of the program.

@@ -6,10 +6,10 @@ use Rattle.std.specs.Option.{option_map_or}
 use Rattle.std.proofs.lemmas.Bool.{cond-true, cond-false, and_parts, not-true}
 use Rattle.std.proofs.lemmas.List.{append_assoc, append-nil}
 use Rattle.hyphenation_grammar.specs.Lines.{is_same}
-use Rattle.command_line.specs.Options.{ReadArguments, RefusedArgument, refused, Any, OperandsAlone, is_operand, form_of, name_in, value_in, with_given, with_operand, with_option, with_option_if_known, with_argument, after_step, read_after}
+use Rattle.command_line.specs.Options.{ReadArguments, RefusedArgument, refused, Any, OperandsAlone, is_operand, form_of, name_in, value_in, with_given, with_operand, with_option, with_option_if_known, with_argument, expected_for, after_step, read_after}
 use Rattle.command_line.specs.OptionLaws.{ValuesJoin, OperandsFollowDashes, OperandsAreRead, OptionsMove, OperandsAreKept, stands_alone}
 use Rattle.command_line.specs.Usage.{OptionForm}
-use Rattle.command_line.specs.declared.options.Expected.TheVariants.{KnownOption, NoValue}
+use Rattle.command_line.specs.declared.options.Expected.TheVariants.{NoValue}
 use Rattle.command_line.proofs.OptionTexts.{name_in_name, value_in_name, name_in_joined, value_in_joined, joined_is_no_operand, joined_is_not_dashes, operand_is_not_dashes}
 
 as_option : (forms : List OptionForm) (so_far : ReadArguments) (text : List ℕ) → is_same text (codes "--") ≡ false → is_operand text ≡ false
@@ -146,7 +146,7 @@ option_if_known_keeps : (forms : List OptionForm) (so_far : ReadArguments) (text
     → Keeps forms rest read → not (option_map_or (λ form. form.takes_value) found false && is_none (value_in text)) ≡ true
     → after_step (λ step. read_after forms step.0 step.1 rest) (with_option_if_known so_far found text) ≡ Ok read
     → read.operands ≡ so_far.operands ++ filter is_operand rest
-option_if_known_keeps forms so_far text rest read None keeps alone h = no_refusal (refused (name_in text) None KnownOption) read h
+option_if_known_keeps forms so_far text rest read None keeps alone h = no_refusal (refused (name_in text) None (expected_for (name_in text))) read h
 option_if_known_keeps forms so_far text rest read (Some form) keeps alone h = option_keeps forms so_far rest read form (value_in text) keeps alone h
 
 argument_keeps : (forms : List OptionForm) (so_far : ReadArguments) (text : List ℕ) (rest : List (List ℕ)) (read : ReadArguments)

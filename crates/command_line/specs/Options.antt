@@ -6,7 +6,7 @@ use Rattle.std.specs.Option.{option_map_or}
 use Rattle.hyphenation_grammar.specs.Lines.{is_same, starts_with, number_of}
 use Rattle.command_line.specs.Usage.{OptionForm}
 use Rattle.command_line.specs.declared.options.Expected.{Expected}
-use Rattle.command_line.specs.declared.options.Expected.TheVariants.{KnownOption, Value, NoValue, Number, Code, CodeAndPath, OneOf, EvenLines, Operand, NoMore}
+use Rattle.command_line.specs.declared.options.Expected.TheVariants.{KnownOption, Lang, Value, NoValue, Number, Code, CodeAlone, CodeAndPath, OneOf, EvenLines, Operand, NoMore}
 
 -- An option that is given: its name with its dashes, and its value if it has one.
 pub record GivenOption : Type 0 where
@@ -55,9 +55,20 @@ name_in text = option_map_or (λ at. take at text) (position (λ b. b == 61) tex
 abbrev pub value_in : List ℕ → Option (List ℕ)
 value_in text = option_map (λ at. drop (at + 1) text) (position (λ b. b == 61) text)
 
+-- The name of the option that a name or a short form means. A short form means the same option in all programs.
+unfoldable pub long_name : List ℕ → List ℕ
+long_name name =
+    if is_same name (codes "-i") then codes "--in-place"
+    else (if is_same name (codes "-l") then codes "--lang"
+    else (if is_same name (codes "-o") then codes "--output" else name))
+
 -- The first form of that name.
+abbrev pub form_named : List OptionForm → List ℕ → Option OptionForm
+form_named forms name = find (λ form. is_same form.name name) forms
+
+-- The first form of the option that a name or a short form means.
 abbrev pub form_of : List OptionForm → List ℕ → Option OptionForm
-form_of forms name = find (λ form. is_same form.name name) forms
+form_of forms name = form_named forms (long_name name)
 
 -- The refusal of an option or operand.
 abbrev pub refused : List ℕ → Option (List ℕ) → Expected → RefusedArgument
@@ -72,10 +83,14 @@ with_option so_far form None =
     if form.takes_value then Ok (so_far, ValueOf form.name)
     else Ok (with_given so_far form.name None, Any)
 
+-- The expectation in place of a name that no option has. `--language` is `--lang` by another name.
+abbrev pub expected_for : List ℕ → Expected
+expected_for name = if is_same name (codes "--language") then Lang else KnownOption
+
 -- Arguments with an option, if there is a form of its name.
 abbrev pub with_option_if_known : ReadArguments → Option OptionForm → List ℕ → Result (ReadArguments × Next) RefusedArgument
 with_option_if_known so_far (Some form) text = with_option so_far form (value_in text)
-with_option_if_known so_far None text = Err (refused (name_in text) None KnownOption)
+with_option_if_known so_far None text = Err (refused (name_in text) None (expected_for (name_in text)))
 
 -- Arguments with one more, and what may come next. After `--` all are operands.
 abbrev pub with_argument : List OptionForm → ReadArguments → Next → List ℕ → Result (ReadArguments × Next) RefusedArgument
@@ -119,6 +134,16 @@ values_of name given = filter_map (λ one. if is_same one.name name then one.val
 abbrev pub last_value : List ℕ → List GivenOption → Option (List ℕ)
 last_value name given = last_or None (values_of name given)
 
+-- The dictionary of a language or of operands, and the operands beside it: a language stands for the first operand.
+abbrev pub dictionary_and_rest : Option (List ℕ) → List (List ℕ) → Result (List ℕ × List (List ℕ)) RefusedArgument
+dictionary_and_rest (Some language) operands = Ok (language, operands)
+dictionary_and_rest None [] = Err (refused (codes "DICTIONARY") None Operand)
+dictionary_and_rest None (dictionary ∷ rest) = Ok (dictionary, rest)
+
+-- The dictionary that arguments name, and the operands beside it: the value of the last `--lang`, or else the first operand.
+abbrev pub named_dictionary : ReadArguments → Result (List ℕ × List (List ℕ)) RefusedArgument
+named_dictionary read = dictionary_and_rest (last_value (codes "--lang") read.given) read.operands
+
 -- The number from a least one to a greatest one that a text spells; none if it spells no number between them.
 abbrev pub number_within : ℕ → ℕ → List ℕ → Option ℕ
 number_within least greatest text =
@@ -143,11 +168,13 @@ number_given name least greatest otherwise given =
 -- The words that say what was expected in place of an argument.
 abbrev pub expectation : Expected → List ℕ
 expectation KnownOption = codes "no such option"
+expectation Lang = codes "no such option: it is --lang"
 expectation Value = codes "a value is missing"
 expectation NoValue = codes "takes no value"
 expectation (Number least greatest) =
     codes "not a number from " ++ (decimal least ++ (codes " to " ++ decimal greatest))
 expectation Code = codes "not the code of a language"
+expectation CodeAlone = codes "not the code of a language: --dictionary CODE=PATH gives a path"
 expectation CodeAndPath = codes "not of the form CODE=PATH"
 expectation (OneOf names) = codes "not one of " ++ names.now
 expectation EvenLines = codes "only with --even"

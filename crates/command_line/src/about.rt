@@ -18,7 +18,7 @@ fn write_version<W: Write>(name: &str, output: &mut W) -> io::Result<()>
     output.write_all(b"\n")
 }
 
-/// Writes the usage if the only argument is `--help`, and the name with the version if it is `--version`.
+/// Writes the usage if the only argument is `--help` or `-h`, and the name with the version if it is `--version`.
 ///
 /// Returns the status to end with: 0, or 5 if the text can't be written. For other arguments it returns `None`, and
 /// nothing is written.
@@ -41,7 +41,7 @@ pub fn write_help_or_version<W: Write>(
     };
     let written = if *arg == "--version" {
         write_version(name, output)
-    } else if *arg == "--help" {
+    } else if *arg == "--help" || *arg == "-h" {
         output.write_all(usage.as_bytes())
     } else {
         return None;

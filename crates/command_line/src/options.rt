@@ -1,15 +1,17 @@
 //! The arguments of a program, read by the options that its usage has.
 
-ghost use Rattle.std.specs.Prelude.{◌≡◌, ◌==◌, ◌++◌, IfErr, IfOk, MatchResult, OnOk, map, option_copied, option_map, position};
+ghost use Rattle.std.specs.Prelude.{◌≡◌, ◌==◌, ◌++◌, IfErr, IfOk, MatchResult, Ok, Err, OnOk, map, option_copied, option_map, position};
 ghost use Rattle.std.specs.Option.{option_to_list};
+ghost use Rattle.hyphenation_breaks.specs.Borrowed.{texts_now};
 ghost use Rattle.hyphenation_grammar.specs.Lines.{tokens_after};
 ghost use Rattle.command_line.specs.Endings.{EndsBy, Refuses, Tells};
-ghost use Rattle.command_line.specs.Options.{Any, no_arguments, with_given, with_operand, is_operand, name_in, value_in, form_of};
+ghost use Rattle.command_line.specs.Options.{Any, no_arguments, with_given, with_operand, is_operand, name_in, value_in, long_name, form_named, form_of};
+ghost use Rattle.command_line.specs.Options.{expected_for, named_dictionary};
 ghost use Rattle.command_line.specs.Options.{with_option, with_option_if_known, with_argument, ended, read_arguments};
 ghost use Rattle.command_line.specs.Options.{is_given, values_of, last_value, number_within, number_given};
 ghost use Rattle.command_line.specs.OptionLaws.{ValuesJoin, OperandsFollowDashes, OperandsAreRead, OptionsMove, OperandsAreKept};
 ghost use Rattle.command_line.specs.Reading.{given_options, as_read, as_refused, IsAsWanted, IsReadError};
-ghost use Rattle.command_line.specs.Usage.{begin_with_word, option_in, options_in};
+ghost use Rattle.command_line.specs.Usage.{begin_with_word, option_in, option_of, options_in, without_short};
 ghost use Rattle.command_line.specs.Private.Readers.{as_form, as_form_in, as_next, IsReader, IsStep};
 
 use crate::messages::Messages;
@@ -42,6 +44,8 @@ pub struct Arguments<'w> {
 pub enum Expected {
     /// The name of an option that the program has.
     KnownOption,
+    /// The option `--lang`, which is called otherwise.
+    Lang,
     /// A value of the option, after an equals sign or as the next argument.
     Value,
     /// The option without a value.
@@ -50,6 +54,8 @@ pub enum Expected {
     Number { least: usize, greatest: usize },
     /// The code of a language.
     Code,
+    /// The code of a language, without the path that `--dictionary` takes.
+    CodeAlone,
     /// The code of a language, and a path, as `CODE=PATH`.
     CodeAndPath,
     /// One of these names, as `standard, extended`.
@@ -154,11 +160,20 @@ fn begins_with_word(rest: Option<&[u8]>) -> bool
     }
 }
 
-// The name of the option that a line of a usage has, and whether it takes a value.
-fn option_in(line: &[u8]) -> Option<(&[u8], bool)>
-    ensures { option_map as_form_in result ≡ option_in line.now }
+// A text without the short form at its beginning.
+fn without_short(text: &[u8]) -> &[u8]
+    ensures { result.now ≡ without_short text.now }
 {
-    let text = strip_prefix(b"  ", line)?;
+    match text {
+        [_, _, rest @ ..] => strip_prefix(b", ", rest).unwrap_or(text),
+        _ => text,
+    }
+}
+
+// The name of the option of a text, and whether it takes a value.
+fn option_of(text: &[u8]) -> Option<(&[u8], bool)>
+    ensures { option_map as_form_in result ≡ option_of text.now }
+{
     if !starts_with(b"--", text) {
         return None;
     }
@@ -166,10 +181,34 @@ fn option_in(line: &[u8]) -> Option<(&[u8], bool)>
     Some((name, begins_with_word(rest)))
 }
 
+// The name of the option that a line of a usage has, and whether it takes a value.
+fn option_in(line: &[u8]) -> Option<(&[u8], bool)>
+    ensures { option_map as_form_in result ≡ option_in line.now }
+{
+    let text = strip_prefix(b"  ", line)?;
+    option_of(without_short(text))
+}
+
+// The name of the option that a name or a short form means.
+#[tactic(auto, unfolding(crate::specs::Options::long_name))]
+fn long_name(name: &str) -> &str
+    ensures { result.now ≡ long_name name.now }
+{
+    if name == "-i" {
+        "--in-place"
+    } else if name == "-l" {
+        "--lang"
+    } else if name == "-o" {
+        "--output"
+    } else {
+        name
+    }
+}
+
 // The first option of that name in a usage.
 #[tactic(auto, unfolding(crate::specs::Usage::options_in))]
-fn form_of<'w>(usage: &str, name: &'w str) -> Option<OptionForm<'w>>
-    ensures { option_map as_form result ≡ form_of (options_in usage.now) name.now }
+fn form_named<'w>(usage: &str, name: &'w str) -> Option<OptionForm<'w>>
+    ensures { option_map as_form result ≡ form_named (options_in usage.now) name.now }
 {
     let mut rest = usage.as_bytes();
     while let Some((line, after)) = next_line(rest) {
@@ -181,6 +220,24 @@ fn form_of<'w>(usage: &str, name: &'w str) -> Option<OptionForm<'w>>
         rest = after;
     }
     None
+}
+
+// The first option in a usage that a name or a short form means.
+fn form_of<'w>(usage: &str, name: &'w str) -> Option<OptionForm<'w>>
+    ensures { option_map as_form result ≡ form_of (options_in usage.now) name.now }
+{
+    form_named(usage, long_name(name))
+}
+
+// The expectation in place of a name that no option has.
+fn expected_for(name: &str) -> Expected
+    ensures { result ≡ expected_for name.now }
+{
+    if name == "--language" {
+        Expected::Lang
+    } else {
+        Expected::KnownOption
+    }
 }
 
 // Appends a value, if there is one.
@@ -264,7 +321,7 @@ impl<'w> Reader<'w> {
             None => Err(ReadError::Bad(BadArgument {
                 argument: name,
                 value: None,
-                expected: Expected::KnownOption,
+                expected: expected_for(name),
             })),
         }
     }
@@ -309,8 +366,11 @@ impl<'w> Reader<'w> {
 
 /// Reads arguments by the options that the usage of a program has.
 ///
-/// A line of the usage is that of an option if it begins with two spaces and two hyphens, as `  --width N  the columns`. The
-/// option takes a value if a word comes after one space, and none if a second space comes there.
+/// A line of the usage is that of an option if it begins with two spaces and two hyphens, as `  --width N  the columns`. A
+/// short form may stand before the hyphens, as `  -l, --lang CODE`. The option takes a value if a word comes after one
+/// space, and none if a second space comes there.
+///
+/// The short forms `-i`, `-l` and `-o` are read as `--in-place`, `--lang` and `--output`, where the usage has these.
 ///
 /// An argument that begins with `-` is an option, except `-` itself, which is an operand. The value of an option is the
 /// text after its first `=`, or else the next argument. After the argument `--` all are operands.
@@ -362,6 +422,31 @@ impl<'w> Arguments<'w> {
             }
         }
         last
+    }
+
+    /// Returns the dictionary that the arguments name, and the operands beside it.
+    ///
+    /// The value of the last `--lang` is the dictionary, and all operands are beside it. Without `--lang` the dictionary is
+    /// the first operand. The error says that it is missing.
+    ///
+    /// ```text
+    /// arguments.dictionary_and_rest()?    // of `de letter.txt` and of `letter.txt --lang de`: ("de", ["letter.txt"])
+    /// ```
+    pub fn dictionary_and_rest(&self) -> Result<(&'w str, &[&'w str]), BadArgument<'w>>
+        ensures named { IfOk result (λ found. named_dictionary (as_read self.now) ≡ Ok (found.0.now, texts_now found.1.now)) }
+        ensures refused { IfErr result (λ bad. named_dictionary (as_read self.now) ≡ Err (as_refused bad)) }
+    {
+        if let Some(language) = self.last("--lang") {
+            return Ok((language, &self.operands));
+        }
+        match self.operands.split_first() {
+            Some((dictionary, rest)) => Ok((*dictionary, rest)),
+            None => Err(BadArgument {
+                argument: "DICTIONARY",
+                value: None,
+                expected: Expected::Operand,
+            }),
+        }
     }
 
     /// Returns the values of all options of that name, in their order. The error says that memory was refused.
@@ -427,12 +512,16 @@ impl Display for Expected {
     fn fmt<W: fmt::Write>(&self, f: &mut fmt::Formatter<W>) -> fmt::Result {
         match self {
             Expected::KnownOption => f.write_str("no such option"),
+            Expected::Lang => f.write_str("no such option: it is --lang"),
             Expected::Value => f.write_str("a value is missing"),
             Expected::NoValue => f.write_str("takes no value"),
             Expected::Number { least, greatest } => {
                 write!(f, "not a number from {least} to {greatest}")
             }
             Expected::Code => f.write_str("not the code of a language"),
+            Expected::CodeAlone => f.write_str(
+                "not the code of a language: --dictionary CODE=PATH gives a path",
+            ),
             Expected::CodeAndPath => f.write_str("not of the form CODE=PATH"),
             Expected::OneOf(names) => write!(f, "not one of {names}"),
             Expected::EvenLines => f.write_str("only with --even"),

@@ -43,7 +43,7 @@ pub const NAME: &str = "hyphenate-convert";
 
 /// The usage, for `--help` and for arguments of no form.
 pub const USAGE: &str =
-    "usage: hyphenate-convert KIND CODE LEFT RIGHT FILE..\n       hyphenate-convert --help\n       hyphenate-convert --version\n       FILE: one .dic; or .tex, .pat.txt and .hyp.txt. LEFT and RIGHT: 0 to 255, or - for what the file says\n";
+    "usage: hyphenate-convert KIND CODE LEFT RIGHT FILE..\n       hyphenate-convert -h | --help\n       hyphenate-convert --version\n       FILE: one .dic; or .tex, .pat.txt and .hyp.txt. LEFT and RIGHT: 0 to 255, or - for what the file says\n";
 
 /// The message if memory was refused.
 pub const NO_MEMORY: &str = "hyphenate-convert: no memory\n";

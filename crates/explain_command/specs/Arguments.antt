@@ -1,12 +1,10 @@
 -- How the program `hyphenate-explain` reads its arguments.
-use Rattle.std.specs.Prelude.{ℕ, List, [], ◌∷◌, codes, if◌then◌else◌, map, None, Result, Ok, Err, unwrap_or}
+use Rattle.std.specs.Prelude.{ℕ, List, codes, fold, if◌then◌else◌, Result, Ok}
 use Rattle.std.specs.Borrow.{Bor}
-use Rattle.std.specs.List.{last_or}
 use Rattle.hyphenation_breaks.specs.Borrowed.{texts_now}
 use Rattle.hyphenation_grammar.specs.Lines.{is_same}
-use Rattle.command_line.specs.Options.{GivenOption, ReadArguments, RefusedArgument, refused, after_step, read_arguments}
+use Rattle.command_line.specs.Options.{GivenOption, ReadArguments, RefusedArgument, after_step, named_dictionary, read_arguments}
 use Rattle.command_line.specs.Usage.{options_in}
-use Rattle.command_line.specs.declared.options.Expected.TheVariants.{Operand}
 use Rattle.explanations.specs.declared.style.Style.{Style}
 use Rattle.explanations.specs.declared.style.Style.TheVariants.{Picture, Lines, Svg}
 use Rattle.explain_command.specs.declared.TheConstants.{USAGE}
@@ -17,22 +15,21 @@ pub record ParsedArgs : Type 0 where
   pub dictionary : List ℕ
   pub words : List (List ℕ)
 
--- The style that the option of a name asks for: a drawing for `--svg`, else lines.
-abbrev pub style_by : List ℕ → Style
-style_by name = if is_same name (codes "--svg") then Svg else Lines
+-- The style that the option of a name asks for: a drawing for `--svg`, lines for `--plain`, else the one so far.
+abbrev pub style_by : Style → List ℕ → Style
+style_by so_far name = if is_same name (codes "--svg") then Svg else (if is_same name (codes "--plain") then Lines else so_far)
 
--- The style that options ask for. The last one counts; without any it is pictures.
+-- The style that options ask for. The last one that asks for one counts; without any it is pictures.
 abbrev pub style_of : List GivenOption → Style
-style_of given = unwrap_or (last_or None (map (λ one. style_by one.name) given)) Picture
+style_of given = fold (λ so_far one. style_by so_far one.name) Picture given
 
--- The arguments of a style and operands. The first operand is the dictionary, and the others are words.
-abbrev pub args_of : Style → List (List ℕ) → Result ParsedArgs RefusedArgument
-args_of style [] = Err (refused (codes "DICTIONARY") None Operand)
-args_of style (dictionary ∷ words) = Ok (record { style = style; dictionary = dictionary; words = words })
+-- The arguments of a style, and of a dictionary and the words beside it, unless these are refused.
+abbrev pub args_of : Style → Result (List ℕ × List (List ℕ)) RefusedArgument → Result ParsedArgs RefusedArgument
+args_of style named = after_step (λ found. Ok (record { style = style; dictionary = found.0; words = found.1 })) named
 
 -- Arguments that are read.
 abbrev pub args_as_read : ReadArguments → Result ParsedArgs RefusedArgument
-args_as_read read = args_of (style_of read.given) read.operands
+args_as_read read = args_of (style_of read.given) (named_dictionary read)
 
 -- All arguments as they are parsed, or the first that is refused.
 abbrev pub parsed_args : List (Bor (List ℕ)) → Result ParsedArgs RefusedArgument

@@ -28,15 +28,17 @@ pub const NAME: &str = "hyphenate-explain";
 /// The usage, for `--help`. The arguments are read by the options that it has.
 pub const USAGE: &str = "\
 usage: hyphenate-explain [--plain | --svg] DICTIONARY [WORD..]
-       hyphenate-explain --help
+       hyphenate-explain [--plain | --svg] --lang CODE [WORD..]
+       hyphenate-explain -h | --help
        hyphenate-explain --version
 Shows why words break where they do: the patterns in each word, the values that
 they give, and the fact that decides.
-  DICTIONARY  a dictionary text, by its path, which has a / or a .; or the
-              language of one that hyphenate-languages made
-  WORD        a word; the words of standard input without WORD
-  --plain     lines for programs, in place of pictures
-  --svg       a drawing in SVG, in place of pictures
+  DICTIONARY       a dictionary text, by its path, which has a / or a .; or the
+                   language of one that hyphenate-languages made
+  WORD             a word; the words of standard input without WORD
+  -l, --lang CODE  the language of the dictionary; then all operands are WORDs
+  --plain          lines for programs, in place of pictures
+  --svg            a drawing in SVG, in place of pictures
 ";
 
 /// The message if memory was refused.

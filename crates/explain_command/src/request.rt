@@ -2,12 +2,13 @@
 
 ghost use Rattle.std.specs.Prelude.{◌≡◌, IfErr, IfOk, Ok, map};
 ghost use Rattle.hyphenation_breaks.specs.Borrowed.{texts_now};
+ghost use Rattle.command_line.specs.Options.{named_dictionary};
 ghost use Rattle.command_line.specs.Reading.{as_given, as_read, IsReadError};
 ghost use Rattle.explain_command.specs.Arguments.{args_as_read, args_of, style_by, style_of, parsed_args};
 ghost use Rattle.explain_command.specs.Private.Requests.{parsed_request};
 
 use crate::USAGE;
-use command_line::options::{Arguments, BadArgument, Expected, Given, ReadError, read};
+use command_line::options::{Arguments, Given, ReadError, read};
 use explanations::Style;
 use std::alloc::{AllocError, Global};
 
@@ -22,26 +23,28 @@ pub struct Request<'w> {
     pub words: Vec<&'w str>,
 }
 
-// Returns the style that the option of a name asks for.
-fn style_by(name: &str) -> Style
-    ensures { result ≡ style_by name.now }
+// Returns the style that the option of a name asks for, or the one so far if it asks for none.
+fn style_by(so_far: Style, name: &str) -> Style
+    ensures { result ≡ style_by so_far name.now }
 {
     if name == "--svg" {
         Style::Svg
-    } else {
+    } else if name == "--plain" {
         Style::Lines
+    } else {
+        so_far
     }
 }
 
-// Returns the style that options ask for: that of the last one.
+// Returns the style that options ask for: that of the last one that asks for one.
 fn style_of(given: &[Given<'_>]) -> Style
     ensures { result ≡ style_of (map as_given given.now) }
 {
-    let mut style = None;
+    let mut style = Style::Picture;
     for one in given {
-        style = Some(style_by(one.name));
+        style = style_by(style, one.name);
     }
-    style.unwrap_or(Style::Picture)
+    style
 }
 
 // Returns the given words.
@@ -53,27 +56,24 @@ fn words_of<'w>(alloc: Global, words: &[&'w str]) -> Result<Vec<&'w str>, AllocE
     Ok(copied)
 }
 
-// Returns the request of a style and operands.
-fn with_operands<'w>(
+// Returns the request of a style, and of the dictionary and the words that arguments name.
+fn with_style<'w>(
     alloc: Global,
     style: Style,
-    operands: &[&'w str],
+    arguments: &Arguments<'w>,
 ) -> Result<Request<'w>, ReadError<'w>>
-    ensures parsed { IfOk result (λ request. args_of style (texts_now operands.now) ≡ Ok (parsed_request request)) }
-    ensures refused { IfErr result (IsReadError (args_of style (texts_now operands.now))) }
+    ensures parsed { IfOk result (λ request.
+        args_of style (named_dictionary (as_read arguments.now)) ≡ Ok (parsed_request request)) }
+    ensures refused { IfErr result (IsReadError (args_of style (named_dictionary (as_read arguments.now)))) }
 {
-    let Some((dictionary, words)) = operands.split_first() else {
-        return Err(ReadError::Bad(BadArgument {
-            argument: "DICTIONARY",
-            value: None,
-            expected: Expected::Operand,
-        }));
-    };
-    Ok(Request {
-        style,
-        dictionary: *dictionary,
-        words: words_of(alloc, words)?,
-    })
+    match arguments.dictionary_and_rest() {
+        Ok((dictionary, words)) => Ok(Request {
+            style,
+            dictionary,
+            words: words_of(alloc, words)?,
+        }),
+        Err(bad) => Err(ReadError::Bad(bad)),
+    }
 }
 
 // Returns the request of arguments that are read.
@@ -81,11 +81,11 @@ fn of_arguments<'w>(alloc: Global, arguments: &Arguments<'w>) -> Result<Request<
     ensures parsed { IfOk result (λ request. args_as_read (as_read arguments.now) ≡ Ok (parsed_request request)) }
     ensures refused { IfErr result (IsReadError (args_as_read (as_read arguments.now))) }
 {
-    with_operands(alloc, style_of(&arguments.given), &arguments.operands)
+    with_style(alloc, style_of(&arguments.given), arguments)
 }
 
 impl<'w> Request<'w> {
-    /// Parses arguments `[--plain | --svg] DICTIONARY [WORD..]`. The error is the first that is refused, or says that memory
+    /// Parses arguments `[--plain | --svg] [DICTIONARY] [WORD..]`. The error is the first that is refused, or says that memory
     /// was refused.
     pub fn from_args(alloc: Global, args: &'w [&'w str]) -> Result<Request<'w>, ReadError<'w>>
         ensures parsed { IfOk result (λ request. parsed_args args.now ≡ Ok (parsed_request request)) }

@@ -1,9 +1,9 @@
 -- How the program `hyphenate-html` reads its arguments.
-use Rattle.std.specs.Prelude.{ℕ, ◌+◌, ◌==◌, Bool, List, [], ◌∷◌, ◌++◌, codes, take, drop, if◌then◌else◌, Option, Some, None, option_and_then, position, Result, Ok, Err, unwrap_or}
+use Rattle.std.specs.Prelude.{ℕ, ◌+◌, ◌==◌, Bool, List, [], ◌∷◌, ◌++◌, codes, take, drop, if◌then◌else◌, Option, Some, None, option_and_then, position, is_some, Result, Ok, Err, unwrap_or}
 use Rattle.std.specs.Borrow.{Bor}
 use Rattle.command_line.specs.Options.{GivenOption, ReadArguments, RefusedArgument, refused, after_step, read_arguments, is_given, last_value, values_of, number_given}
 use Rattle.command_line.specs.Usage.{options_in}
-use Rattle.command_line.specs.declared.options.Expected.TheVariants.{CodeAndPath}
+use Rattle.command_line.specs.declared.options.Expected.TheVariants.{CodeAlone, CodeAndPath}
 use Rattle.hyphenation_breaks.specs.Borrowed.{texts_now}
 use Rattle.hyphenation_breaks.specs.Language.{is_code}
 use Rattle.hyphenation_html.specs.Laws.{soft_hyphen}
@@ -34,30 +34,40 @@ code_and_path text = option_and_then
     (λ at. if is_code (take at text) then Some (take at text, drop (at + 1) text) else None)
     (position (λ b. b == 61) text)
 
--- A dictionary, or the refusal of the value of `--lang` that gives none.
+-- A dictionary, or the refusal of the value of `--dictionary` that gives none.
 abbrev pub dictionary_or_refused : List ℕ → Option (List ℕ × List ℕ) → Result (List ℕ × List ℕ) RefusedArgument
 dictionary_or_refused value (Some one) = Ok one
-dictionary_or_refused value None = Err (refused (codes "--lang") (Some value) CodeAndPath)
+dictionary_or_refused value None = Err (refused (codes "--dictionary") (Some value) CodeAndPath)
 
--- Dictionaries after some others, by values of `--lang`. The first that is refused decides.
+-- Dictionaries after some others, by values of `--dictionary`. The first that is refused decides.
 abbrev pub dictionaries_after : List (List ℕ × List ℕ) → List (List ℕ) → Result (List (List ℕ × List ℕ)) RefusedArgument
 dictionaries_after so_far [] = Ok so_far
 dictionaries_after so_far (value ∷ values) =
     after_step (λ one. dictionaries_after (so_far ++ one ∷ []) values)
     (dictionary_or_refused value (code_and_path value))
 
--- The dictionaries that values of `--lang` give, in their order.
+-- The dictionaries that values of `--dictionary` give, in their order.
 abbrev pub dictionaries_of : List (List ℕ) → Result (List (List ℕ × List ℕ)) RefusedArgument
 dictionaries_of values = dictionaries_after [] values
+
+-- The language of a value of `--lang`; it is empty if there is none. A value with `=` is refused.
+abbrev pub language_or_refused : Option (List ℕ) → Result (List ℕ) RefusedArgument
+language_or_refused None = Ok []
+language_or_refused (Some value) = if is_some (position (λ b. b == 61) value)
+    then Err (refused (codes "--lang") (Some value) CodeAlone) else Ok value
+
+-- The language that options give to text for which a page names none: the last one counts.
+abbrev pub language_given : List GivenOption → Result (List ℕ) RefusedArgument
+language_given given = language_or_refused (last_value (codes "--lang") given)
 
 -- The options with these dictionaries, by those that are given. The last of those of one name counts. The first that is
 -- refused decides, in this order.
 abbrev pub options_with : List (List ℕ × List ℕ) → List GivenOption → Result ParsedOptions RefusedArgument
 options_with dictionaries given =
-    after_step (λ min_word. after_step (λ target. Ok (record {
+    after_step (λ language. after_step (λ min_word. after_step (λ target. Ok (record {
       given = dictionaries;
       folder = last_value (codes "--dictionaries") given;
-      language = unwrap_or (last_value (codes "--language") given) [];
+      language = language;
       mark = unwrap_or (last_value (codes "--mark") given) soft_hyphen;
       class = unwrap_or (last_value (codes "--class") given) (codes "donthyphenate");
       min_word = min_word;
@@ -65,11 +75,12 @@ options_with dictionaries given =
       target = target;
     }))
     (target_of given))
-    (number_given (codes "--min-word") 0 65535 0 given)
+    (number_given (codes "--min-word") 0 65535 0 given))
+    (language_given given)
 
--- The dictionaries that options give, each by a `--lang`.
+-- The dictionaries that options give, each by a `--dictionary`.
 abbrev pub dictionaries_given : List GivenOption → Result (List (List ℕ × List ℕ)) RefusedArgument
-dictionaries_given given = dictionaries_of (values_of (codes "--lang") given)
+dictionaries_given given = dictionaries_of (values_of (codes "--dictionary") given)
 
 -- The options by those that are given.
 abbrev pub options_of : List GivenOption → Result ParsedOptions RefusedArgument

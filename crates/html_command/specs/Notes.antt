@@ -45,7 +45,7 @@ texts_of pages = map (λ marked. marked.text) pages
 -- The words of each note.
 abbrev pub words_of : Note → List ℕ
 words_of NoDictionary = codes "no dictionary for a language that the page names, so nothing is changed"
-words_of NoLanguage = codes "the page names no language, so nothing is changed; --language names it"
+words_of NoLanguage = codes "the page names no language, so nothing is changed; --lang names it"
 
 -- The line of a note on the page of a name. Standard input is not named.
 abbrev pub line_on : List ℕ → List ℕ → List ℕ → List ℕ

@@ -42,21 +42,21 @@ pub const NAME: &str = "hyphenate-html";
 /// The usage, for `--help`. The arguments are read by the options that it has.
 pub const USAGE: &str = "\
 usage: hyphenate-html [OPTION..] [FILE..]
-       hyphenate-html --help
+       hyphenate-html -h | --help
        hyphenate-html --version
 Writes HTML or XHTML pages with soft hyphens in the words of their text.
-  FILE                   a page; standard input for -, or without FILE
-  --lang CODE=PATH       the dictionary of a language, once for each. Without it,
-                         those that hyphenate-languages made
-  --dictionaries FOLDER  the folder in which these are
-  --language CODE        the language of text for which a page names none
-  --mark MARK            in place of the soft hyphen
-  --class CLASS          elements of this class are left alone, in place of
-                         those of the class donthyphenate
-  --min-word N           shorter words are left alone; N counts characters
-  --skip-capitals        words that begin with a capital are left alone
-  --output FILE          the results go into this file, which is replaced
-  --in-place             each FILE is replaced by its result
+  FILE                    a page; standard input for -, or without FILE
+  -l, --lang CODE         the language of text for which a page names none
+  --dictionary CODE=PATH  the dictionary of a language, once for each. Without
+                          it, those that hyphenate-languages made
+  --dictionaries FOLDER   the folder in which these are
+  --mark MARK             in place of the soft hyphen
+  --class CLASS           elements of this class are left alone, in place of
+                          those of the class donthyphenate
+  --min-word N            shorter words are left alone; N counts characters
+  --skip-capitals         words that begin with a capital are left alone
+  -o, --output FILE       the results go into this file, which is replaced
+  -i, --in-place          each FILE is replaced by its result
 Of an extended dictionary the breaks that change no letter are used.
 ";
 
@@ -147,7 +147,7 @@ impl<'w, F: NamedFiles, S: ReplaceFiles, I: Read, O: Write> ProgramSteps<S, I, O
 /// unless the status is 0, or the output can't be written. Standard input is read only if it is one of the pages.
 ///
 /// ```text
-/// let call = Call { args: &["--in-place", "--lang", "en=en-us.txt", "chapter.html"], folders: &[] };
+/// let call = Call { args: &["-i", "--dictionary", "en=en-us.txt", "chapter.html"], folders: &[] };
 /// answer(&rt, &mut &rt, rt.alloc(), &call, &mut rt.stdin(), &mut rt.stdout(), &mut errors)    // 0
 /// ```
 pub fn answer<F: NamedFiles, S: ReplaceFiles, I: Read, O: Write, E: Write>(

@@ -77,9 +77,7 @@ fn words_of(note: Note) -> &'static str
     match note {
         Note::NoDictionary =>
             "no dictionary for a language that the page names, so nothing is changed",
-        Note::NoLanguage => {
-            "the page names no language, so nothing is changed; --language names it"
-        }
+        Note::NoLanguage => { "the page names no language, so nothing is changed; --lang names it" }
     }
 }
 
@@ -125,7 +123,7 @@ fn write_note<E: Write>(
 /// Writes the notes of the program of this name on pages of these names, each in a line.
 ///
 /// ```text
-/// hyphenate-html: note: old.html: the page names no language, so nothing is changed; --language names it
+/// hyphenate-html: note: old.html: the page names no language, so nothing is changed; --lang names it
 /// ```
 pub fn write_notes<E: Write>(
     alloc: Global,

@@ -1,10 +1,10 @@
 //! Parses the arguments of the program.
 
-ghost use Rattle.std.specs.Prelude.{◌≡◌, ◌==◌, IfErr, IfOk, Ok, map, option_map, position};
+ghost use Rattle.std.specs.Prelude.{◌≡◌, ◌==◌, IfErr, IfOk, Ok, Err, map, option_map, position};
 ghost use Rattle.hyphenation_breaks.specs.Borrowed.{texts_now};
-ghost use Rattle.command_line.specs.Reading.{as_read, given_options, IsReadError};
+ghost use Rattle.command_line.specs.Reading.{as_read, as_refused, given_options, IsReadError};
 ghost use Rattle.html_command.specs.Arguments.{code_and_path, dictionaries_of, dictionaries_given};
-ghost use Rattle.html_command.specs.Arguments.{options_with, options_of, args_of, args_as_read, parsed_args};
+ghost use Rattle.html_command.specs.Arguments.{language_given, options_with, options_of, args_of, args_as_read, parsed_args};
 ghost use Rattle.html_command.specs.Private.Requests.{parsed_dictionary, parsed_options, parsed_request, AreAsWanted};
 
 use crate::USAGE;
@@ -66,7 +66,7 @@ fn given_dictionary(text: &str) -> Option<GivenDictionary<'_>>
     })
 }
 
-// Returns the dictionaries that values of `--lang` give.
+// Returns the dictionaries that values of `--dictionary` give.
 fn dictionaries_of<'w>(
     alloc: Global,
     values: &[&'w str],
@@ -79,7 +79,7 @@ fn dictionaries_of<'w>(
     for value in values {
         let Some(one) = given_dictionary(*value) else {
             return Err(ReadError::Bad(BadArgument {
-                argument: "--lang",
+                argument: "--dictionary",
                 value: Some(*value),
                 expected: Expected::CodeAndPath,
             }));
@@ -100,8 +100,26 @@ fn dictionaries_given<'w>(
         ≡ Ok (map parsed_dictionary given.items)) }
     ensures refused { IfErr result (IsReadError (dictionaries_given (given_options arguments.now))) }
 {
-    let values = arguments.all(alloc, "--lang")?;
+    let values = arguments.all(alloc, "--dictionary")?;
     dictionaries_of(alloc, &values)
+}
+
+// Returns the language of text for which a page names none. It is empty if none is given.
+fn language_given<'w>(arguments: &Arguments<'w>) -> Result<&'w str, BadArgument<'w>>
+    ensures given { IfOk result (λ language. language_given (given_options arguments.now) ≡ Ok language.now) }
+    ensures refused { IfErr result (λ bad. language_given (given_options arguments.now) ≡ Err (as_refused bad)) }
+{
+    let Some(value) = arguments.last("--lang") else {
+        return Ok("");
+    };
+    if first_equals_sign(value.as_bytes()).is_some() {
+        return Err(BadArgument {
+            argument: "--lang",
+            value: Some(value),
+            expected: Expected::CodeAlone,
+        });
+    }
+    Ok(value)
 }
 
 // Returns the options with these dictionaries, by those that are given.
@@ -111,13 +129,14 @@ fn options_with<'w>(
 ) -> Result<Options<'w>, BadArgument<'w>>
     ensures { AreAsWanted result (options_with (map parsed_dictionary given.entry.items) (given_options arguments.now)) }
 {
+    let language = language_given(arguments)?;
     let min_word = arguments.number("--min-word", 0, 65535, 0)?;
     let target = target_of(arguments)?;
     let usual = Settings::new();
     Ok(Options {
         given,
         folder: arguments.last("--dictionaries"),
-        language: arguments.last("--language").unwrap_or(""),
+        language,
         settings: Settings {
             mark: arguments.last("--mark").unwrap_or(usual.mark),
             class: arguments.last("--class").unwrap_or(usual.class),

@@ -1,12 +1,12 @@
 -- How the program `hyphenate-lines` reads its arguments.
-use Rattle.std.specs.Prelude.{ℕ, ◌==◌, ◌&&◌, not, Bool, if◌then◌else◌, is_some, List, [], ◌∷◌}
+use Rattle.std.specs.Prelude.{ℕ, ◌==◌, ◌&&◌, not, Bool, if◌then◌else◌, is_some, List, []}
 use Rattle.std.specs.Prelude.{codes, Option, Some, None, Result, Ok, Err, unwrap_or}
 use Rattle.std.specs.Borrow.{Bor}
 use Rattle.hyphenation_breaks.specs.Borrowed.{texts_now}
 use Rattle.command_line.specs.Options.{GivenOption, ReadArguments, RefusedArgument, refused, after_step, read_arguments}
-use Rattle.command_line.specs.Options.{is_given, last_value, number_given}
+use Rattle.command_line.specs.Options.{is_given, last_value, named_dictionary, number_given}
 use Rattle.command_line.specs.Usage.{options_in}
-use Rattle.command_line.specs.declared.options.Expected.TheVariants.{EvenLines, Operand}
+use Rattle.command_line.specs.declared.options.Expected.TheVariants.{EvenLines}
 use Rattle.paragraphs.specs.Parts.{Style}
 use Rattle.paragraphs.specs.declared.setting.Aim.{Aim}
 use Rattle.paragraphs.specs.declared.setting.Aim.TheVariants.{Full, Even}
@@ -65,15 +65,14 @@ options_of given =
     (number_given (codes "--last") 0 65535 0 given))
     (number_given (codes "--width") 0 65535 72 given)
 
--- The arguments of options and operands. The first operand is the dictionary, and the others are inputs.
-abbrev pub args_of : ParsedOptions → List (List ℕ) → Result ParsedArgs RefusedArgument
-args_of options [] = Err (refused (codes "DICTIONARY") None Operand)
-args_of options (dictionary ∷ names) =
-    Ok (record { options = options; dictionary = dictionary; inputs = inputs_of names })
+-- The arguments of options, and of a dictionary and the names of inputs beside it, unless these are refused.
+abbrev pub args_of : ParsedOptions → Result (List ℕ × List (List ℕ)) RefusedArgument → Result ParsedArgs RefusedArgument
+args_of options named =
+    after_step (λ found. Ok (record { options = options; dictionary = found.0; inputs = inputs_of found.1 })) named
 
 -- Arguments that are read.
 abbrev pub args_as_read : ReadArguments → Result ParsedArgs RefusedArgument
-args_as_read read = after_step (λ options. args_of options read.operands) (options_of read.given)
+args_as_read read = after_step (λ options. args_of options (named_dictionary read)) (options_of read.given)
 
 -- All arguments as they are parsed, or the first that is refused.
 abbrev pub parsed_args : List (Bor (List ℕ)) → Result ParsedArgs RefusedArgument

@@ -28,21 +28,23 @@ pub const NAME: &str = "hyphenate-lines";
 /// The usage, for `--help`. The arguments are read by the options that it has.
 pub const USAGE: &str = "\
 usage: hyphenate-lines [OPTION..] DICTIONARY [FILE..]
-       hyphenate-lines --help
+       hyphenate-lines [OPTION..] --lang CODE [FILE..]
+       hyphenate-lines -h | --help
        hyphenate-lines --version
 Writes texts in lines, with words broken where a dictionary says. Quotes,
 items and heads of mails keep their form.
-  DICTIONARY     a dictionary text, by its path, which has a / or a .; or the
-                 language of one that hyphenate-languages made
-  FILE           a text; standard input for -, or without FILE
-  --width N      the columns of a line, 72 without it
-  --even         lines of the least cost, in place of lines as full as can be
-  --price P      with --even, the cost of a hyphen
-  --last N       with --even, the columns that a last line must have
-  --ladder N     only with --even: the hyphens in a row, 1 to 255
-  --indent TEXT  before each line of a paragraph
-  --first TEXT   before its first line, in place of that of the others
-  --plain        texts are paragraphs alone, with an empty line between two
+  DICTIONARY       a dictionary text, by its path, which has a / or a .; or the
+                   language of one that hyphenate-languages made
+  FILE             a text; standard input for -, or without FILE
+  -l, --lang CODE  the language of the dictionary; then all operands are FILEs
+  --width N        the columns of a line, 72 without it
+  --even           lines of the least cost, in place of lines as full as can be
+  --price P        with --even, the cost of a hyphen
+  --last N         with --even, the columns that a last line must have
+  --ladder N       only with --even: the hyphens in a row, 1 to 255
+  --indent TEXT    before each line of a paragraph
+  --first TEXT     before its first line, in place of that of the others
+  --plain          texts are paragraphs alone, with an empty line between two
 ";
 
 /// The message if memory was refused.

@@ -2,7 +2,7 @@
 
 ghost use Rattle.std.specs.Prelude.{◌≡◌, [], codes, IfErr, IfOk, Ok, option_copied, option_map, unwrap_or};
 ghost use Rattle.hyphenation_breaks.specs.Borrowed.{texts_now};
-ghost use Rattle.command_line.specs.Options.{last_value, number_given};
+ghost use Rattle.command_line.specs.Options.{last_value, named_dictionary, number_given};
 ghost use Rattle.command_line.specs.Reading.{as_read, given_options, IsAsWanted, IsReadError};
 ghost use Rattle.lines_command.specs.Arguments.{limit_of, if_limit_serves, options_of, args_of, args_as_read};
 ghost use Rattle.lines_command.specs.Arguments.{style_for, aim_for, parsed_args};
@@ -167,27 +167,24 @@ impl<'w> Options<'w> {
     }
 }
 
-// Returns the request of options and operands.
-fn with_operands<'w>(
+// Returns the request of options, and of the dictionary and the inputs that arguments name.
+fn with_inputs<'w>(
     alloc: Global,
     options: Options<'w>,
-    operands: &[&'w str],
+    arguments: &Arguments<'w>,
 ) -> Result<Request<'w>, ReadError<'w>>
-    ensures parsed { IfOk result (λ request.
-        args_of (parsed_options options.entry) (texts_now operands.now) ≡ Ok (parsed_request request)) }
-    ensures refused { IfErr result (IsReadError (args_of (parsed_options options.entry) (texts_now operands.now))) }
+    ensures parsed { IfOk result (λ request. args_of (parsed_options options.entry) (named_dictionary (as_read arguments.now))
+        ≡ Ok (parsed_request request)) }
+    ensures refused { IfErr result (IsReadError
+        (args_of (parsed_options options.entry) (named_dictionary (as_read arguments.now)))) }
 {
-    match operands {
-        [dictionary, names @ ..] => Ok(Request {
+    match arguments.dictionary_and_rest() {
+        Ok((dictionary, names)) => Ok(Request {
             options,
-            dictionary: *dictionary,
+            dictionary,
             inputs: inputs_of(alloc, names)?,
         }),
-        [] => Err(ReadError::Bad(BadArgument {
-            argument: "DICTIONARY",
-            value: None,
-            expected: Expected::Operand,
-        })),
+        Err(bad) => Err(ReadError::Bad(bad)),
     }
 }
 
@@ -197,13 +194,13 @@ fn of_arguments<'w>(alloc: Global, arguments: &Arguments<'w>) -> Result<Request<
     ensures refused { IfErr result (IsReadError (args_as_read (as_read arguments.now))) }
 {
     match Options::from_arguments(arguments) {
-        Ok(options) => with_operands(alloc, options, &arguments.operands),
+        Ok(options) => with_inputs(alloc, options, arguments),
         Err(bad) => Err(ReadError::Bad(bad)),
     }
 }
 
 impl<'w> Request<'w> {
-    /// Parses arguments `[OPTION..] DICTIONARY [FILE..]`. The error is the first that is refused, or says that memory was
+    /// Parses arguments `[OPTION..] [DICTIONARY] [FILE..]`. The error is the first that is refused, or says that memory was
     /// refused.
     pub fn from_args(alloc: Global, args: &'w [&'w str]) -> Result<Request<'w>, ReadError<'w>>
         ensures parsed { IfOk result (λ request. parsed_args args.now ≡ Ok (parsed_request request)) }

@@ -1,10 +1,9 @@
 -- How the program `hyphenate-text` reads its arguments.
-use Rattle.std.specs.Prelude.{ℕ, Bool, List, [], ◌∷◌, codes, Option, Some, None, Result, Ok, Err, unwrap_or}
+use Rattle.std.specs.Prelude.{ℕ, Bool, List, codes, Result, Ok, unwrap_or}
 use Rattle.std.specs.Borrow.{Bor}
 use Rattle.hyphenation_breaks.specs.Borrowed.{texts_now}
-use Rattle.command_line.specs.Options.{GivenOption, ReadArguments, RefusedArgument, refused, after_step, read_arguments, is_given, last_value, number_given}
+use Rattle.command_line.specs.Options.{GivenOption, ReadArguments, RefusedArgument, after_step, read_arguments, is_given, last_value, named_dictionary, number_given}
 use Rattle.command_line.specs.Usage.{options_in}
-use Rattle.command_line.specs.declared.options.Expected.TheVariants.{Operand}
 use Rattle.text_results.specs.Targets.{Target, target_of, names_for}
 use Rattle.text_command.specs.declared.TheConstants.{USAGE}
 use Rattle.text_command.specs.declared.request.TheConstants.{SOFT_HYPHEN}
@@ -42,17 +41,13 @@ args_with options dictionary names =
     after_step (λ inputs. Ok (record { options = options; dictionary = dictionary; inputs = inputs }))
     (names_for options.target names)
 
--- The arguments of options, a language and operands. Without a language the first operand is the dictionary, and the
--- others are texts.
-abbrev pub args_of : ParsedOptions → Option (List ℕ) → List (List ℕ) → Result ParsedArgs RefusedArgument
-args_of options (Some language) operands = args_with options language operands
-args_of options None [] = Err (refused (codes "DICTIONARY") None Operand)
-args_of options None (dictionary ∷ names) = args_with options dictionary names
+-- The arguments of options, and of a dictionary and the names of texts beside it, unless these are refused.
+abbrev pub args_of : ParsedOptions → Result (List ℕ × List (List ℕ)) RefusedArgument → Result ParsedArgs RefusedArgument
+args_of options named = after_step (λ found. args_with options found.0 found.1) named
 
 -- Arguments that are read.
 abbrev pub args_as_read : ReadArguments → Result ParsedArgs RefusedArgument
-args_as_read read =
-    after_step (λ options. args_of options (last_value (codes "--lang") read.given) read.operands) (options_of read.given)
+args_as_read read = after_step (λ options. args_of options (named_dictionary read)) (options_of read.given)
 
 -- All arguments as they are parsed, or the first that is refused.
 abbrev pub parsed_args : List (Bor (List ℕ)) → Result ParsedArgs RefusedArgument

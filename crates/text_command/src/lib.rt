@@ -39,18 +39,18 @@ pub const NAME: &str = "hyphenate-text";
 pub const USAGE: &str = "\
 usage: hyphenate-text [OPTION..] DICTIONARY [FILE..]
        hyphenate-text [OPTION..] --lang CODE [FILE..]
-       hyphenate-text --help
+       hyphenate-text -h | --help
        hyphenate-text --version
 Writes plain texts with soft hyphens where a dictionary breaks their words.
-  DICTIONARY       a dictionary text, by its path, which has a / or a .; or the
-                   language of one that hyphenate-languages made
-  FILE             a text; standard input for -, or without FILE
-  --lang CODE      the language of the dictionary; then all operands are FILEs
-  --mark MARK      in place of the soft hyphen
-  --min-word N     shorter words are left alone; N counts characters
-  --skip-capitals  words that begin with a capital are left alone
-  --output FILE    the results go into this file, which is replaced
-  --in-place       each FILE is replaced by its result
+  DICTIONARY         a dictionary text, by its path, which has a / or a .; or
+                     the language of one that hyphenate-languages made
+  FILE               a text; standard input for -, or without FILE
+  -l, --lang CODE    the language of the dictionary; then all operands are FILEs
+  --mark MARK        in place of the soft hyphen
+  --min-word N       shorter words are left alone; N counts characters
+  --skip-capitals    words that begin with a capital are left alone
+  -o, --output FILE  the results go into this file, which is replaced
+  -i, --in-place     each FILE is replaced by its result
 Of an extended dictionary the breaks that change no letter are used. Addresses,
 paths, names of files, and what has a soft hyphen, are left alone.
 ";

@@ -1,14 +1,15 @@
 //! Parses the arguments of the program.
 
-ghost use Rattle.std.specs.Prelude.{◌≡◌, IfErr, IfOk, Ok, option_copied};
+ghost use Rattle.std.specs.Prelude.{◌≡◌, IfErr, IfOk, Ok};
 ghost use Rattle.hyphenation_breaks.specs.Borrowed.{texts_now};
+ghost use Rattle.command_line.specs.Options.{named_dictionary};
 ghost use Rattle.command_line.specs.Reading.{as_read, given_options, IsReadError};
 ghost use Rattle.text_command.specs.Arguments.{options_of};
 ghost use Rattle.text_command.specs.Arguments.{args_with, args_of, args_as_read, parsed_args};
 ghost use Rattle.text_command.specs.Private.Requests.{parsed_options, parsed_request, AreAsWanted};
 
 use crate::USAGE;
-use command_line::options::{Arguments, BadArgument, Expected, ReadError, read};
+use command_line::options::{Arguments, BadArgument, ReadError, read};
 use std::alloc::Global;
 use text_results::targets::{Target, names_for, target_of};
 
@@ -75,28 +76,20 @@ fn with_names<'w>(
     })
 }
 
-// Returns the request of options, a language and operands.
-fn with_operands<'w>(
+// Returns the request of options, and of the dictionary and the texts that arguments name.
+fn with_texts<'w>(
     alloc: Global,
     options: Options<'w>,
-    language: Option<&'w str>,
-    operands: &[&'w str],
+    arguments: &Arguments<'w>,
 ) -> Result<Request<'w>, ReadError<'w>>
-    ensures parsed { IfOk result (λ one. args_of (parsed_options options.entry) (option_copied language.entry)
-        (texts_now operands.now) ≡ Ok (parsed_request one)) }
+    ensures parsed { IfOk result (λ one. args_of (parsed_options options.entry) (named_dictionary (as_read arguments.now))
+        ≡ Ok (parsed_request one)) }
     ensures refused { IfErr result (IsReadError
-        (args_of (parsed_options options.entry) (option_copied language.entry) (texts_now operands.now))) }
+        (args_of (parsed_options options.entry) (named_dictionary (as_read arguments.now)))) }
 {
-    if let Some(language) = language {
-        return with_names(alloc, options, language, operands);
-    }
-    match operands {
-        [dictionary, names @ ..] => with_names(alloc, options, *dictionary, names),
-        [] => Err(ReadError::Bad(BadArgument {
-            argument: "DICTIONARY",
-            value: None,
-            expected: Expected::Operand,
-        })),
+    match arguments.dictionary_and_rest() {
+        Ok((dictionary, names)) => with_names(alloc, options, dictionary, names),
+        Err(bad) => Err(ReadError::Bad(bad)),
     }
 }
 
@@ -106,10 +99,7 @@ fn of_arguments<'w>(alloc: Global, arguments: &Arguments<'w>) -> Result<Request<
     ensures refused { IfErr result (IsReadError (args_as_read (as_read arguments.now))) }
 {
     match Options::from_arguments(arguments) {
-        Ok(options) => {
-            let language = arguments.last("--lang");
-            with_operands(alloc, options, language, &arguments.operands)
-        }
+        Ok(options) => with_texts(alloc, options, arguments),
         Err(bad) => Err(ReadError::Bad(bad)),
     }
 }
