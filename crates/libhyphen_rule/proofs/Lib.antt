@@ -30,3 +30,5 @@ pub mod PlainWords
 pub mod PlainCalls
 pub mod PlainCompounds
 pub mod OrdinaryWords
+pub mod KeptChanges
+pub mod UnchangingCalls

@@ -4,13 +4,13 @@ use Rattle.std.specs.List.{list_any, range_with_len}
 use Rattle.hyphenation_breaks.specs.Ascii.{digit_zero, equals_sign}
 use Rattle.libhyphen_files.specs.Bytes.{before_nul}
 use Rattle.libhyphen_files.specs.Files.{Rules}
-use Rattle.libhyphen_files.specs.Levels.{Level, pattern_at}
+use Rattle.libhyphen_files.specs.Levels.{HasNoChanges, Level, pattern_at}
 use Rattle.libhyphen_files.specs.Patterns.{Pattern}
 use Rattle.hyphenation_breaks.specs.Dictionary.{TextMap}
 use Rattle.libhyphen_rule.specs.Counting.{begins_key, counted_in}
 use Rattle.libhyphen_rule.specs.declared.calls.CallMinima.{CallMinima}
-use Rattle.libhyphen_rule.specs.Calls.{Answer, answer_of, at_least_two, digits_by_no_hyphen, found_by_call, least_of, no_hyphen_digit}
-use Rattle.libhyphen_rule.specs.Minima.{has_equals, is_equals, is_short_after, is_short_before}
+use Rattle.libhyphen_rule.specs.Calls.{Answer, answer_of, at_least_two, digits_by_no_hyphen, found_by_call, least_of, no_hyphen_digit, text_of_call}
+use Rattle.libhyphen_rule.specs.Minima.{change_is_short_after, change_is_short_before, has_equals, is_equals, is_short_after, is_short_before}
 use Rattle.libhyphen_rule.specs.OneLevel.{ChangeAt, digit_at, is_odd, level_changes, level_digits, offers}
 use Rattle.libhyphen_rule.specs.Words.{characters, is_beside, written_word}
 
@@ -25,6 +25,15 @@ MarksTakenOut =
     (word digits : List ℕ) (changes : List (Option ChangeAt)) → has_equals word ≡ false
     → list_any is_some changes ≡ false
     → without_equals (written_word word digits changes) ≡ word
+
+-- No word that a call writes loses a letter, by patterns that change none: without the equals signs it is the word again. The
+-- word itself has no equals sign.
+abbrev pub CallsLoseNoLetter : Type 0
+CallsLoseNoLetter =
+    (rules : Rules) (given : Option CallMinima) (text : List ℕ) (size : ℕ)
+    → HasNoChanges rules.first_level.patterns → HasNoChanges rules.next_level.patterns
+    → has_equals (take size text) ≡ false
+    → without_equals (text_of_call rules given text size) ≡ take size text
 
 -- ---- Marks with changes.
 
@@ -99,6 +108,17 @@ ForbiddenPlacesAreEven =
     × (is_beside_some rules text byte ≡ true
     → (slice_index (digits_by_no_hyphen rules given text (found_by_call rules given text size).digits) byte ≡ no_hyphen_digit given)
     × (is_odd (slice_index (digits_by_no_hyphen rules given text (found_by_call rules given text size).digits) byte) ≡ false))
+
+-- A place with too few letters before it keeps its change only if that has enough before its region and in its text: so it is
+-- not short by the left minimum of a call. A place with too few letters behind it keeps none that is short by the right one.
+abbrev pub ChangesKeepMinima : Type 0
+ChangesKeepMinima =
+    (rules : Rules) (given : Option CallMinima) (text : List ℕ) (size byte : ℕ) (change : ChangeAt)
+    → slice_index_or (found_by_call rules given text size).changes byte None ≡ Some change
+    → (is_short_before rules.utf8 (at_least_two (least_of rules.first_level.minima given).left) (before_nul text) byte ≡ true
+    → change_is_short_before rules.utf8 (at_least_two (least_of rules.first_level.minima given).left) (before_nul text) (byte + 1) change ≡ false)
+    × (is_short_after rules.utf8 (at_least_two (least_of rules.first_level.minima given).right) (take size text) byte ≡ true
+    → change_is_short_after rules.utf8 (at_least_two (least_of rules.first_level.minima given).right) (before_nul text) (byte + 1) change ≡ false)
 
 -- ---- As many digits as letters.
 

@@ -2,13 +2,19 @@
 //!
 //! Each function here does nothing: its contract is a law, which the check proves.
 
-ghost use Rattle.libhyphen_rule.specs.Laws.{ClosedPatternsReadAlike, DigitsLieWithinTheWord, ForbiddenPlacesAreEven};
-ghost use Rattle.libhyphen_rule.specs.Laws.{MarksTakenOut, NoLetterIsLost, RegionsLieWithinTheWord};
+ghost use Rattle.libhyphen_rule.specs.Laws.{CallsLoseNoLetter, ChangesKeepMinima, ClosedPatternsReadAlike};
+ghost use Rattle.libhyphen_rule.specs.Laws.{DigitsLieWithinTheWord, ForbiddenPlacesAreEven, MarksTakenOut, NoLetterIsLost};
+ghost use Rattle.libhyphen_rule.specs.Laws.{RegionsLieWithinTheWord};
 
 /// A word without an equals sign and without changes, written with its breaks, is the word again once the equals signs
 /// are taken out.
 pub fn marks_taken_out()
     ensures { MarksTakenOut }
+{}
+
+/// A word that a call writes by patterns without changes is the word again once the equals signs are taken out.
+pub fn calls_lose_no_letter()
+    ensures { CallsLoseNoLetter }
 {}
 
 /// Where no mark reaches over another one, the written word is the word with each mark's text in the place of its
@@ -21,6 +27,12 @@ pub fn no_letter_is_lost()
 /// None is beside a text without breaks.
 pub fn forbidden_places_are_even()
     ensures { ForbiddenPlacesAreEven }
+{}
+
+/// No break with a change has fewer letters before it or behind it than the minima of a call ask for, by the letters of
+/// the word where its place has enough of them, or by those before or behind its region with those of its text.
+pub fn changes_keep_minima()
+    ensures { ChangesKeepMinima }
 {}
 
 /// A call finds a digit for each byte of the word, and gives one for each character. No level finds a break behind the
