@@ -1,9 +1,11 @@
 -- How the program `hyphenate-text` reads its arguments.
-use Rattle.std.specs.Prelude.{ℕ, Bool, List, codes, Result, Ok, unwrap_or}
+use Rattle.std.specs.Prelude.{ℕ, Bool, List, codes, Option, Some, None, Result, Ok, unwrap_or}
 use Rattle.std.specs.Borrow.{Bor}
 use Rattle.hyphenation_breaks.specs.Borrowed.{texts_now}
 use Rattle.command_line.specs.Options.{GivenOption, ReadArguments, RefusedArgument, after_step, read_arguments, is_given, last_value, named_dictionary, number_given}
 use Rattle.command_line.specs.Usage.{options_in}
+use Rattle.text_results.specs.Removals.{ParsedRemoval, removal_of}
+use Rattle.text_results.specs.declared.removal.Source.TheVariants.{Text}
 use Rattle.text_results.specs.Targets.{Target, target_of, names_for}
 use Rattle.text_command.specs.declared.TheConstants.{USAGE}
 use Rattle.text_command.specs.declared.request.TheConstants.{SOFT_HYPHEN}
@@ -16,7 +18,7 @@ pub record ParsedOptions : Type 0 where
   pub skip_capitals : Bool
   pub target : Target
 
--- Arguments: the options, the path or the language of a dictionary, and the names of the texts.
+-- The arguments of marks: the options, the path or the language of a dictionary, and the names of the texts.
 pub record ParsedArgs : Type 0 where
   pub options : ParsedOptions
   pub dictionary : List ℕ
@@ -49,6 +51,20 @@ args_of options named = after_step (λ found. args_with options found.0 found.1)
 abbrev pub args_as_read : ReadArguments → Result ParsedArgs RefusedArgument
 args_as_read read = after_step (λ options. args_of options (named_dictionary read)) (options_of read.given)
 
--- All arguments as they are parsed, or the first that is refused.
-abbrev pub parsed_args : List (Bor (List ℕ)) → Result ParsedArgs RefusedArgument
-parsed_args args = after_step args_as_read (read_arguments (options_in USAGE.now) (texts_now args))
+-- The task of arguments: marks are put in, or soft hyphens are taken out.
+pub data Task : Type 0 where
+  Marks : ParsedArgs → Task
+  Removes : ParsedRemoval → Task
+
+-- The task of arguments that ask for this removal, or for none.
+abbrev pub task_by : Option ParsedRemoval → ReadArguments → Result Task RefusedArgument
+task_by (Some removal) read = Ok (Removes removal)
+task_by None read = after_step (λ args. Ok (Marks args)) (args_as_read read)
+
+-- The task of arguments that are read.
+abbrev pub task_as_read : ReadArguments → Result Task RefusedArgument
+task_as_read read = after_step (λ removal. task_by removal read) (removal_of Text read)
+
+-- The task of all arguments, or the first that is refused.
+abbrev pub parsed_args : List (Bor (List ℕ)) → Result Task RefusedArgument
+parsed_args args = after_step task_as_read (read_arguments (options_in USAGE.now) (texts_now args))

@@ -17,9 +17,10 @@ use Rattle.text_words.specs.Words.{unless_mixed}
 use Rattle.hyphenation_html.specs.Texts.{hyphenated_by}
 use Rattle.hyphenation_html.specs.Words.{within_limits}
 use Rattle.text_results.specs.Files.{WrittenFiles}
+use Rattle.text_results.specs.Removals.{EndsRemoval}
 use Rattle.text_results.specs.Texts.{IsFailureAmong}
 use Rattle.text_results.specs.Written.{Ends, EndsRefused}
-use Rattle.text_command.specs.Arguments.{ParsedArgs, ParsedOptions, parsed_args}
+use Rattle.text_command.specs.Arguments.{ParsedArgs, ParsedOptions, Task, Marks, Removes, parsed_args}
 use Rattle.text_command.specs.declared.TheConstants.{NAME, USAGE}
 
 -- The text that the arguments ask for by `--help` or `--version`, if they do.
@@ -59,21 +60,24 @@ IsFailureBefore args bytes_of folders left failure = (dictionary : AnyDictionary
 -- ---- how the program ends
 
 -- How the program ends for its arguments: one is refused, or the results of its texts are written or fail.
-abbrev pub EndsFor : {W S : Type 0} → Result ParsedArgs RefusedArgument → KnownFiles → List (List ℕ) → Option (List ℕ)
+abbrev pub EndsFor : {W S : Type 0} → Result Task RefusedArgument → KnownFiles → List (List ℕ) → Option (List ℕ)
     → (W → Option (List ℕ)) → W → W → (S → Option WrittenFiles) → S → S → End → Type 0
 EndsFor (Err refused) bytes_of folders left contents old new written old_files new_files =
     EndsRefused refused old_files new_files
-EndsFor (Ok args) bytes_of folders left contents old new written old_files new_files =
+EndsFor (Ok (Removes removal)) bytes_of folders left contents old new written old_files new_files =
+    EndsRemoval removal bytes_of left contents old new written old_files new_files
+EndsFor (Ok (Marks args)) bytes_of folders left contents old new written old_files new_files =
     Ends (AreResults args bytes_of folders left) (IsFailureBefore args bytes_of folders left) args.options.target args.inputs
     contents old new written old_files new_files
 
 -- Standard input is none of the texts of arguments, or one of the arguments is refused.
-abbrev pub names_files_alone : Result ParsedArgs RefusedArgument → Bool
-names_files_alone (Ok args) = not (list_any is_standard_input args.inputs)
+abbrev pub names_files_alone : Result Task RefusedArgument → Bool
+names_files_alone (Ok (Removes removal)) = not (list_any is_standard_input removal.inputs)
+names_files_alone (Ok (Marks args)) = not (list_any is_standard_input args.inputs)
 names_files_alone (Err refused) = true
 
 -- The program ends so for its arguments, as they are parsed. Standard input is as it was if it is none of the texts.
-abbrev pub EndsParsed : {W S I : Type 0} → Result ParsedArgs RefusedArgument → KnownFiles → List (List ℕ) → (I → Option (List ℕ)) → I → I
+abbrev pub EndsParsed : {W S I : Type 0} → Result Task RefusedArgument → KnownFiles → List (List ℕ) → (I → Option (List ℕ)) → I → I
     → (W → Option (List ℕ)) → W → W → (S → Option WrittenFiles) → S → S → End → Type 0
 EndsParsed parsed bytes_of folders remaining before after contents old new written old_files new_files end =
     EndsFor parsed bytes_of folders (remaining before) contents old new written old_files new_files end

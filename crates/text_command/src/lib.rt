@@ -1,6 +1,6 @@
 //! The program `hyphenate-text` without its `main`: its arguments, messages and statuses.
 //!
-//! It puts marks into plain texts where their words may be broken, and leaves all else as it is.
+//! It puts marks into plain texts where their words may be broken, and leaves all else as it is. Or it takes soft hyphens out.
 #![tactic(auto)]
 
 ghost use Rattle.std.specs.Prelude.{◌≡◌, true, Ok, Some, is_some};
@@ -9,7 +9,7 @@ ghost use Rattle.command_line.specs.Endings.{EndsBy, Tells};
 ghost use Rattle.command_line.specs.Statuses.{BeforeOutput};
 ghost use Rattle.hyphenation_breaks.specs.Borrowed.{texts_now};
 ghost use Rattle.text_command.specs.Arguments.{parsed_args};
-ghost use Rattle.text_command.specs.Private.Requests.{parsed_request};
+ghost use Rattle.text_command.specs.Private.Requests.{parsed_task};
 ghost use Rattle.text_command.specs.Written.{EndsParsed, EndsUnlessAsked, asked_text};
 
 mod request;
@@ -17,11 +17,12 @@ mod run;
 
 use command_line::options::ReadError;
 use command_line::{Failure, Messages, NamedFiles, ProgramSteps, ProgramTexts, VERSION};
-use request::Request;
+use request::Task;
 use run::run;
 use std::alloc::Global;
 use std::io::{Read, Write};
 pub use text_results::files::{Recorded, ReplaceFiles};
+use text_results::removal::remove;
 
 /// A call of the program: its arguments, and the folders in which dictionaries are searched that no path names.
 #[derive(Clone, Copy)]
@@ -39,6 +40,7 @@ pub const NAME: &str = "hyphenate-text";
 pub const USAGE: &str = "\
 usage: hyphenate-text [OPTION..] DICTIONARY [FILE..]
        hyphenate-text [OPTION..] --lang CODE [FILE..]
+       hyphenate-text --remove [OPTION..] [FILE..]
        hyphenate-text -h | --help
        hyphenate-text --version
 Writes plain texts with soft hyphens where a dictionary breaks their words.
@@ -49,6 +51,8 @@ Writes plain texts with soft hyphens where a dictionary breaks their words.
   --mark MARK        in place of the soft hyphen
   --min-word N       shorter words are left alone; N counts characters
   --skip-capitals    words that begin with a capital are left alone
+  --remove           soft hyphens are taken out, and none are put in; then all
+                     operands are FILEs
   -o, --output FILE  the results go into this file, which is replaced
   -i, --in-place     each FILE is replaced by its result
 Of an extended dictionary the breaks that change no letter are used. Addresses,
@@ -66,13 +70,13 @@ struct Text<'w, F> {
 }
 
 impl<'w, F: NamedFiles, S: ReplaceFiles, I: Read, O: Write> ProgramSteps<S, I, O> for Text<'w, F> {
-    type Request = Request<'w>;
+    type Request = Task<'w>;
 
     type Told = ();
 
     ghost args = { λ program. program.call.args.now };
 
-    ghost is_request = { λ program request. parsed_args program.call.args.now ≡ Ok (parsed_request request) };
+    ghost is_request = { λ program task. parsed_args program.call.args.now ≡ Ok (parsed_task task) };
 
     ghost ends = { λ program end old_files new_files before after old new. EndsParsed (parsed_args program.call.args.now)
         (F.bytes program.files.now) (texts_now program.call.folders.now) I.remaining before after
@@ -84,21 +88,24 @@ impl<'w, F: NamedFiles, S: ReplaceFiles, I: Read, O: Write> ProgramSteps<S, I, O
         self.call.args
     }
 
-    fn request(&self, alloc: Global) -> Result<Request<'w>, ReadError<'_>> {
-        Request::from_args(alloc, self.call.args)
+    fn request(&self, alloc: Global) -> Result<Task<'w>, ReadError<'_>> {
+        Task::from_args(alloc, self.call.args)
     }
 
     #[tactic(auto, using(crate::proofs::Runs::by_status))]
     fn run(
         &self,
         alloc: Global,
-        request: Request<'w>,
+        task: Task<'w>,
         store: &mut S,
         input: &mut I,
         output: &mut O,
     ) -> Result<(), Failure> {
         let folders = self.call.folders;
-        run(self.files, store, alloc, &request, folders, input, output)
+        match task {
+            Task::Mark(request) => run(self.files, store, alloc, &request, folders, input, output),
+            Task::Remove(removal) => remove(self.files, store, alloc, &removal, input, output),
+        }
     }
 }
 

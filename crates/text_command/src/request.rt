@@ -1,16 +1,18 @@
 //! Parses the arguments of the program.
 
-ghost use Rattle.std.specs.Prelude.{◌≡◌, IfErr, IfOk, Ok};
+ghost use Rattle.std.specs.Prelude.{◌≡◌, IfErr, IfOk, Ok, option_map};
 ghost use Rattle.hyphenation_breaks.specs.Borrowed.{texts_now};
 ghost use Rattle.command_line.specs.Options.{named_dictionary};
 ghost use Rattle.command_line.specs.Reading.{as_read, given_options, IsReadError};
 ghost use Rattle.text_command.specs.Arguments.{options_of};
-ghost use Rattle.text_command.specs.Arguments.{args_with, args_of, args_as_read, parsed_args};
-ghost use Rattle.text_command.specs.Private.Requests.{parsed_options, parsed_request, AreAsWanted};
+ghost use Rattle.text_command.specs.Arguments.{args_with, args_of, args_as_read, task_by, task_as_read, parsed_args};
+ghost use Rattle.text_command.specs.Private.Requests.{parsed_options, parsed_request, parsed_task, AreAsWanted};
+ghost use Rattle.text_results.specs.Reading.{parsed_removal};
 
 use crate::USAGE;
 use command_line::options::{Arguments, BadArgument, ReadError, read};
 use std::alloc::Global;
+use text_results::removal::{Removal, Source, removal_of};
 use text_results::targets::{Target, names_for, target_of};
 
 /// The soft hyphen.
@@ -29,7 +31,16 @@ pub struct Options<'w> {
     pub target: Target<'w>,
 }
 
-/// The arguments as parsed.
+/// The task that arguments ask for.
+#[derive(Drop)]
+pub enum Task<'w> {
+    /// Marks are put in.
+    Mark(Request<'w>),
+    /// Soft hyphens are taken out.
+    Remove(Removal<'w>),
+}
+
+/// The arguments of marks, as parsed.
 #[derive(Drop)]
 pub struct Request<'w> {
     /// The options.
@@ -93,7 +104,7 @@ fn with_texts<'w>(
     }
 }
 
-// Returns the request of arguments that are read.
+// Returns the marks that arguments ask for.
 fn of_arguments<'w>(alloc: Global, arguments: &Arguments<'w>) -> Result<Request<'w>, ReadError<'w>>
     ensures parsed { IfOk result (λ request. args_as_read (as_read arguments.now) ≡ Ok (parsed_request request)) }
     ensures refused { IfErr result (IsReadError (args_as_read (as_read arguments.now))) }
@@ -104,14 +115,40 @@ fn of_arguments<'w>(alloc: Global, arguments: &Arguments<'w>) -> Result<Request<
     }
 }
 
-impl<'w> Request<'w> {
-    /// Parses arguments `[OPTION..] [DICTIONARY] [FILE..]`. The error is the first that is refused, or says that memory was
-    /// refused.
-    pub fn from_args(alloc: Global, args: &'w [&'w str]) -> Result<Request<'w>, ReadError<'w>>
-        ensures parsed { IfOk result (λ request. parsed_args args.now ≡ Ok (parsed_request request)) }
+// Returns the task of arguments that ask for this removal, or for none.
+fn task_by<'w>(
+    alloc: Global,
+    removal: Option<Removal<'w>>,
+    arguments: &Arguments<'w>,
+) -> Result<Task<'w>, ReadError<'w>>
+    ensures parsed { IfOk result (λ task.
+        task_by (option_map parsed_removal removal.entry) (as_read arguments.now) ≡ Ok (parsed_task task)) }
+    ensures refused { IfErr result
+        (IsReadError (task_by (option_map parsed_removal removal.entry) (as_read arguments.now))) }
+{
+    match removal {
+        Some(removal) => Ok(Task::Remove(removal)),
+        None => Ok(Task::Mark(of_arguments(alloc, arguments)?)),
+    }
+}
+
+// Returns the task of arguments that are read.
+fn task_of<'w>(alloc: Global, arguments: &Arguments<'w>) -> Result<Task<'w>, ReadError<'w>>
+    ensures parsed { IfOk result (λ task. task_as_read (as_read arguments.now) ≡ Ok (parsed_task task)) }
+    ensures refused { IfErr result (IsReadError (task_as_read (as_read arguments.now))) }
+{
+    let removal = removal_of(alloc, Source::Text, arguments)?;
+    task_by(alloc, removal, arguments)
+}
+
+impl<'w> Task<'w> {
+    /// Parses arguments `[OPTION..] [DICTIONARY] [FILE..]`, or `--remove [OPTION..] [FILE..]`. The error is the first that is
+    /// refused, or says that memory was refused.
+    pub fn from_args(alloc: Global, args: &'w [&'w str]) -> Result<Task<'w>, ReadError<'w>>
+        ensures parsed { IfOk result (λ task. parsed_args args.now ≡ Ok (parsed_task task)) }
         ensures refused { IfErr result (IsReadError (parsed_args args.now)) }
     {
         let arguments = read(alloc, USAGE, args)?;
-        of_arguments(alloc, &arguments)
+        task_of(alloc, &arguments)
     }
 }

@@ -4,3 +4,4 @@ pub mod Texts
 pub mod Written
 pub mod Reading
 pub mod Files
+pub mod Removals

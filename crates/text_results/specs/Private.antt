@@ -1,2 +1,3 @@
 -- Definitions for private functions and proofs. No contract of a public call cites them, so they are not for signing.
 pub mod Runs
+pub mod Removing

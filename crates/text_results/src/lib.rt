@@ -5,6 +5,7 @@
 #![tactic(auto)]
 
 pub mod files;
+pub mod removal;
 pub mod results;
 pub mod targets;
 pub mod texts;
