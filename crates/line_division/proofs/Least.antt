@@ -11,7 +11,8 @@ use Rattle.line_division.specs.Cost.{nothing, together, CostsNoMore}
 use Rattle.line_division.specs.Lines.{stretch_at, line_width, raggedness, hyphens_to, line_over, line_cost}
 use Rattle.line_division.specs.Division.{Divides, EachFits, CostsLeast, FitsIfAny, KeepsLadderIfAny, cost_of}
 use Rattle.line_division.specs.Private.Best.{runs, run_of, IsLeast, IsSmall, IsMade, IsKnown, AreBest}
-use Rattle.line_division.specs.Private.Table.{none_kept, kept_for, HasRun, row_at, kept_at, choice_at, IsKept}
+use Rattle.line_division.specs.Private.Plain.{IsPlain}
+use Rattle.line_division.specs.Private.Table.{first_at, kept_for, HasRun, row_at, kept_at, choice_at, IsKept}
 use Rattle.line_division.proofs.Runs.{runs_some, run_within, run_same, keeps_none_over, none_over_keeps, over_least}
 use Rattle.line_division.proofs.Rows.{kept_first, kept_alike}
 
@@ -91,10 +92,11 @@ nothing_least one =
 
 -- Where no line is left to begin.
 pub best_at_end : (stretches : List Stretch) (columns last_columns : ℕ) (ladder : Option ℕ) (choices : Choices) (known to : ℕ) → length choices.firsts.items ≡ length stretches + 1
+    → (length choices.faults.items ≡ length stretches + 1) ⊎ IsPlain stretches columns ladder
     → (1 < runs ladder → length choices.begins.items ≡ length stretches + 1)
-    → slice_index_or choices.firsts.items (length stretches) none_kept ≡ record { cost = nothing; end = to; last_run = runs ladder - 1 }
+    → first_at choices (length stretches) ≡ record { cost = nothing; end = to; last_run = runs ladder - 1 }
     → AreBest stretches columns last_columns ladder choices (length stretches) known
-best_at_end stretches columns last_columns ladder choices known to many begun none =
+best_at_end stretches columns last_columns ladder choices known to many faulty begun none =
     let final : Kept = record { cost = nothing; end = to; last_run = runs ladder - 1 } in
     let same : (r e : ℕ) → IsKnown ladder (length stretches) known r e → e ≤ length stretches → length stretches ≡ e = λ r e is high. elim is.1 [ inl after ↦ absurd (omega (arith, after, high)) | inr here ↦ here.0 ] in
     let rest = drop (slice_index_or choices.begins.items (length stretches) 0) choices.others.items in
@@ -102,6 +104,7 @@ best_at_end stretches columns last_columns ladder choices known to many begun no
     ap (λ k. kept_for (k ∷ rest) r) none ∙ kept_first final rest r (omega (arith, few)) in
     record {
       many = many;
+      faulty = faulty;
       begun = begun;
       kept = λ r e is high. subst (λ p. HasRun (row_at choices p) r) (same r e is high) (inl (omega (arith, is.0, ap (λ k. k.last_run) none)));
       short = λ r e is high. subst (λ p. (kept_at choices r p).last_run < runs ladder) (same r e is high) (subst (λ k. k.last_run < runs ladder) (sym (read r is.0)) (omega (arith, runs_some ladder)));
@@ -125,6 +128,7 @@ best_earlier stretches columns last_columns ladder choices low best =
     ) in
     record {
       many = best.many;
+      faulty = best.faulty;
       begun = best.begun;
       kept = λ r e k. best.kept r e (known r e k);
       short = λ r e k. best.short r e (known r e k);
@@ -277,6 +281,7 @@ best_later stretches columns last_columns ladder choices low later le best =
     ) in
     record {
       many = best.many;
+      faulty = best.faulty;
       begun = best.begun;
       kept = λ r e k. best.kept r e (known r e k);
       short = λ r e k. best.short r e (known r e k);
@@ -313,7 +318,7 @@ still_made stretches columns last_columns ladder choices new known start run pla
 -- Some more runs at a place have their best line.
 pub best_before : (stretches : List Stretch) (columns last_columns : ℕ) (ladder : Option ℕ) (choices new : Choices) (known upto start : ℕ) (choice : Choice) → start < length stretches → known ≤ upto → upto < runs ladder
     → AreBest stretches columns last_columns ladder choices start known
-    → length new.firsts.items ≡ length choices.firsts.items → length new.begins.items ≡ length choices.begins.items
+    → length new.firsts.items ≡ length choices.firsts.items → length new.faults.items ≡ length choices.faults.items → length new.begins.items ≡ length choices.begins.items
     → ((r e : ℕ) → IsKnown ladder start known r e → e ≤ length stretches → kept_at new r e ≡ kept_at choices r e)
     → ((r e : ℕ) → IsKnown ladder start known r e → e ≤ length stretches → HasRun (row_at new e) r)
     → ((r : ℕ) → known ≤ r → r ≤ upto → kept_at new r start ≡ record { cost = choice.cost; end = choice.end; last_run = upto })
@@ -321,13 +326,14 @@ pub best_before : (stretches : List Stretch) (columns last_columns : ℕ) (ladde
     → IsLeast stretches columns last_columns ladder known start choice.cost
     → ((r : ℕ) → known ≤ r → r ≤ upto → IsMade stretches columns last_columns ladder choices r start choice) → IsSmall choice.cost (length stretches - start)
     → AreBest stretches columns last_columns ladder new start (upto + 1)
-best_before stretches columns last_columns ladder choices new known upto start choice lt order within best many begun there there_has here here_has least made small =
+best_before stretches columns last_columns ladder choices new known upto start choice lt order within best many faults begun there there_has here here_has least made small =
     let cases : (r e : ℕ) → IsKnown ladder start (upto + 1) r e → ((start ≡ e) × ((known ≤ r) × (r ≤ upto))) ⊎ IsKnown ladder start known r e = λ r e k. elim k.1 [
       | inl after ↦ inr (k.0, inl after)
       | inr same ↦ elim (cases_lt r known) [ inl less ↦ inr (k.0, inr (same.0, less)) | inr more ↦ inl (same.0, (more, omega (arith, same.1))) ]
     ] in
     record {
       many = many ∙ best.many;
+      faulty = elim best.faulty [ inl long ↦ inl (faults ∙ long) | inr plain ↦ inr plain ];
       begun = λ some. begun ∙ best.begun some;
       kept = λ r e k high. elim (cases r e k) [
         | inl same ↦ subst (λ p. HasRun (row_at new p) r) same.0 (here_has r same.1.0 same.1.1)

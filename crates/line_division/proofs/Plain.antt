@@ -63,7 +63,7 @@ none_keeps stretches before [] = tt
 none_keeps stretches before (end ∷ row) = (tt, none_keeps stretches (hyphens_to stretches before end) row)
 
 -- So a cost that no division falls below has nothing but what is spent.
-plain_least : (stretches : List Stretch) (columns last_columns : ℕ) (ladder : Option ℕ) (run start : ℕ) (least : Cost) → start ≤ length stretches → IsPlain stretches columns ladder
+pub plain_least : (stretches : List Stretch) (columns last_columns : ℕ) (ladder : Option ℕ) (run start : ℕ) (least : Cost) → start ≤ length stretches → IsPlain stretches columns ladder
     → IsLeast stretches columns last_columns ladder run start least → IsSpentAlone least
 plain_least stretches columns last_columns ladder run start least within plain is_least =
     let more = length stretches - start in

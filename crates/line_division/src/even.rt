@@ -12,7 +12,7 @@
 //! best after longer runs, too, is sought and kept once for all of them. So at most places there are few. Each run has
 //! its own floor.
 
-ghost use Rattle.std.specs.Prelude.{◌≡◌, ℕ, ◌+◌, ◌-◌, ◌*◌, ◌^◌, ◌<◌, ◌≤◌, ◌⊎◌, true, IfOk, MatchBool, length};
+ghost use Rattle.std.specs.Prelude.{◌≡◌, ℕ, ◌+◌, ◌-◌, ◌*◌, ◌^◌, ◌<◌, ◌≤◌, ◌⊎◌, true, false, IfOk, MatchBool, length};
 ghost use Rattle.line_division.specs.Lines.{line_width, wanted_columns, line_over};
 ghost use Rattle.line_division.specs.Division.{MayStand, Divides, CostsLeast, FitsIfAny, KeepsLadderIfAny};
 ghost use Rattle.line_division.specs.Cost.{CostsNoMore};
@@ -30,7 +30,9 @@ use crate::ladder::{hyphens_to, keeps_ladder};
 use crate::problem::{Begin, MeasuredParagraph, Problem, each_fits, widest_of};
 use crate::reach::{Reach, last_reach, longest_line, reach_before};
 use crate::stretch::{Stretch, widened};
-use crate::table::{Choice, Choices, Kept, begin_others, choice_at, kept_at};
+use crate::table::{
+    Choice, Choices, Faults, First, Kept, begin_others, choice_at, keep_first, kept_at,
+};
 use std::alloc::{AllocError, Global};
 
 // Returns the columns that a line should have at least.
@@ -377,11 +379,12 @@ fn put_first(problem: Problem, choices: &mut Choices, start: usize, best: Choice
     };
     let last_run = last_run(begin, choices, best);
     begin_others(choices, runs(problem.ladder), start);
-    choices.firsts[start] = Kept {
+    let kept = Kept {
         cost: best.cost,
         end: best.end as u32,
         last_run,
     };
+    keep_first(choices, start, kept);
     usize::from(last_run) + 1
 }
 
@@ -483,20 +486,30 @@ fn begin_count(ladder: Option<u8>, places: usize) -> usize
     if 1 < runs(ladder) { places } else { 0 }
 }
 
+// Returns for how many of some places it is kept which faults lines have.
+#[inline(always)]
+fn fault_count(plain: bool, places: usize) -> usize
+    ensures { plain ≡ false → result ≡ places }
+{
+    if plain { 0 } else { places }
+}
+
 // Returns a table for lines in which only that at the end is kept.
 #[inline(always)]
 fn no_lines(alloc: Global, problem: Problem) -> Result<Choices, AllocError>
     ensures { IfOk result (λ choices. AreBestFrom problem.entry choices (length problem.entry.stretches.now)) }
 {
     let many = problem.stretches.len() + 1;
-    let none = Kept {
-        cost: Cost::NONE,
+    let none = First {
+        spent: 0,
         end: problem.stretches.len() as u32,
         last_run: longest_run(problem.ladder),
     };
     let begins = begin_count(problem.ladder, many);
+    let faults = fault_count(problem.plain, many);
     Ok(Choices {
         firsts: vec![in alloc; none; many]?,
+        faults: vec![in alloc; Faults::NONE; faults]?,
         others: Vec::new(alloc),
         begins: vec![in alloc; 0; begins]?,
     })

@@ -9,6 +9,7 @@ use Rattle.line_division.specs.declared.table.Choices.{Choices}
 use Rattle.line_division.specs.Cost.{nothing, together, CostsNoMore}
 use Rattle.line_division.specs.Lines.{hyphens_to, line_over, line_cost}
 use Rattle.line_division.specs.Division.{MayStand, Divides, cost_of}
+use Rattle.line_division.specs.Private.Plain.{IsPlain}
 use Rattle.line_division.specs.Private.Table.{HasRun, row_at, kept_at, choice_at}
 
 -- How many runs of hyphens are distinguished. A run that is longer costs the same as the longest of them.
@@ -48,6 +49,7 @@ IsKnown ladder low known run place = (run < runs ladder) × ((low < place) ⊎ (
 pub record AreBest (stretches : List Stretch) (columns last_columns : ℕ) (ladder : Option ℕ) (choices : Choices)
     (low known : ℕ) : Type 0 where
   pub many : length choices.firsts.items ≡ length stretches + 1
+  pub faulty : (length choices.faults.items ≡ length stretches + 1) ⊎ IsPlain stretches columns ladder
   pub begun : 1 < runs ladder → length choices.begins.items ≡ length stretches + 1
   pub kept : (r e : ℕ) → IsKnown ladder low known r e → e ≤ length stretches → HasRun (row_at choices e) r
   pub short : (r e : ℕ) → IsKnown ladder low known r e → e ≤ length stretches

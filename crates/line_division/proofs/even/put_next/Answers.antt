@@ -14,9 +14,9 @@ returns-clause-best c =
     let old = c.args.choices.now in
     let start = c.args.begin.start in
     let last = c.last_run-last_run in
-    let new : Choices = record { firsts = old.firsts; others = c.push.new.self; begins = old.begins } in
+    let new : Choices = record { firsts = old.firsts; faults = old.faults; others = c.push.new.self; begins = old.begins } in
     let both = next_kept stretches columns last_columns ladder old new c.args.begin.run last.result start c.args.best c.args.begin.before last.ensures.from last.ensures.known c.requires.best c.requires.shorter
-    refl c.in_ok-push.ensures.items refl c.requires.line.least last.ensures.made c.requires.line.small in
+    refl refl c.in_ok-push.ensures.items refl c.requires.line.least last.ensures.made c.requires.line.small in
     subst (λ n. AreBest stretches columns last_columns ladder new start (n + 1)) (sym c.from.ensures) both.0
 
 pub returns-clause-shorter : goal.returns-clause-shorter
@@ -28,7 +28,7 @@ returns-clause-shorter c =
     let old = c.args.choices.now in
     let start = c.args.begin.start in
     let last = c.last_run-last_run in
-    let new : Choices = record { firsts = old.firsts; others = c.push.new.self; begins = old.begins } in
+    let new : Choices = record { firsts = old.firsts; faults = old.faults; others = c.push.new.self; begins = old.begins } in
     let both = next_kept stretches columns last_columns ladder old new c.args.begin.run last.result start c.args.best c.args.begin.before last.ensures.from last.ensures.known c.requires.best c.requires.shorter
-    refl c.in_ok-push.ensures.items refl c.requires.line.least last.ensures.made c.requires.line.small in
+    refl refl c.in_ok-push.ensures.items refl c.requires.line.least last.ensures.made c.requires.line.small in
     subst (λ n. IsOpen new (n + 1) start) (sym c.from.ensures) both.1
