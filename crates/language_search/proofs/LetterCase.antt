@@ -8,7 +8,8 @@ use Rattle.std.specs.List.{filter, flat_map}
 use Rattle.hyphenation_breaks.specs.Ascii.{hyphen}
 use Rattle.hyphenation_breaks.specs.Language.{is_code}
 use Rattle.language_search.specs.Laws.{PathsHaveNoCase}
-use Rattle.language_search.specs.Paths.{paths_of_code}
+use Rattle.language_search.specs.Paths.{paths_by_code}
+use Rattle.language_search.specs.declared.paths.Sought.{Sought}
 use Rattle.language_search.specs.Tags.{underscore, searched_byte, searched, fronts}
 
 searched_same : (f : ℕ → ℕ) → f underscore ≡ underscore → ((b : ℕ) → f b ≡ underscore → b ≡ underscore)
@@ -37,11 +38,11 @@ upper_same b = searched_same to_ascii_uppercase refl upper_back lowercase-upperc
 lower_same : (b : ℕ) → searched_byte (to_ascii_lowercase b) ≡ searched_byte b
 lower_same b = searched_same to_ascii_lowercase refl lower_back lowercase-lowercase b (b == underscore) refl
 
-abbrev paths_of_searched : List (List ℕ) → List ℕ → List (List ℕ)
-paths_of_searched folders tag = flat_map (paths_of_code folders) (filter is_code (fronts tag))
+abbrev paths_of_searched : Sought → List (List ℕ) → List ℕ → List (List ℕ)
+paths_of_searched sought folders tag = flat_map (paths_by_code sought folders) (filter is_code (fronts tag))
 
 pub no_case : PathsHaveNoCase
-no_case folders tag = (
-  ap (paths_of_searched folders) (all_searched_same to_ascii_uppercase upper_same tag),
-  ap (paths_of_searched folders) (all_searched_same to_ascii_lowercase lower_same tag),
+no_case sought folders tag = (
+  ap (paths_of_searched sought folders) (all_searched_same to_ascii_uppercase upper_same tag),
+  ap (paths_of_searched sought folders) (all_searched_same to_ascii_lowercase lower_same tag),
 )

@@ -7,9 +7,11 @@ use Rattle.std.proofs.lemmas.Bool.{and_parts}
 use Rattle.hyphenation_breaks.specs.Ascii.{dot, slash}
 use Rattle.hyphenation_breaks.specs.Language.{is_code_byte, is_code, IsCode}
 use Rattle.language_search.proofs.Codes.{bytes_of_code}
-use Rattle.language_search.specs.Laws.{IsPlainName, IsRightIn, PathsStayInFolders}
+use Rattle.language_search.specs.Laws.{IsEndingOf, IsPlainName, IsRightIn, PathsStayInFolders}
 use Rattle.language_search.specs.Names.{usual_variant, name_if_any, names_of}
-use Rattle.language_search.specs.Paths.{paths_in, paths_of_name, paths_of_code}
+use Rattle.language_search.specs.Paths.{paths_in, paths_of_name, paths_by_code}
+use Rattle.language_search.specs.declared.paths.Sought.{Sought}
+use Rattle.language_search.specs.declared.paths.Sought.TheVariants.{Dictionary, Exceptions}
 use Rattle.language_search.specs.Tags.{searched, fronts, codes_of}
 
 -- If a fact holds of all that each element gives, it holds of all that they give together.
@@ -58,9 +60,9 @@ names_are_plain code h =
     All-cons IsPlainName code (name_if_any (usual_variant code)) (plain_code code h)
     (if_any_is_plain (usual_variant code) (variant_is_plain code))
 
-right_in : (folders : List (List ℕ)) (name folder ending : List ℕ) → IsPlainName name → Contains folders folder
-    → (ending ≡ codes ".txt") ⊎ (ending ≡ codes ".extended.txt") → IsRightIn folders (folder ++ (slash ∷ (name ++ ending)))
-right_in folders name folder ending plain listed ends = record {
+right_in : (sought : Sought) (folders : List (List ℕ)) (name folder ending : List ℕ) → IsPlainName name → Contains folders folder
+    → IsEndingOf sought ending → IsRightIn sought folders (folder ++ (slash ∷ (name ++ ending)))
+right_in sought folders name folder ending plain listed ends = record {
   folder = folder;
   name = name;
   ending = ending;
@@ -70,23 +72,29 @@ right_in folders name folder ending plain listed ends = record {
   path_is = refl;
 }
 
-paths_in_stay : (folders : List (List ℕ)) (name : List ℕ) → IsPlainName name → (folder : List ℕ) → Contains folders folder
-    → All (IsRightIn folders) (paths_in name folder)
-paths_in_stay folders name plain folder listed =
+paths_in_stay : (sought : Sought) (folders : List (List ℕ)) (name : List ℕ) → IsPlainName name → (folder : List ℕ) → Contains folders folder
+    → All (IsRightIn sought folders) (paths_in sought name folder)
+paths_in_stay Dictionary folders name plain folder listed =
     let standard : List ℕ = folder ++ (slash ∷ (name ++ codes ".txt")) in
     let extended : List ℕ = folder ++ (slash ∷ (name ++ codes ".extended.txt")) in
-    All-cons (IsRightIn folders) standard (extended ∷ []) (right_in folders name folder (codes ".txt") plain listed (inl refl))
-    (All-cons (IsRightIn folders) extended [] (right_in folders name folder (codes ".extended.txt") plain listed (inr refl)) (All-nil (IsRightIn folders)))
+    All-cons (IsRightIn Dictionary folders) standard (extended ∷ [])
+    (right_in Dictionary folders name folder (codes ".txt") plain listed (inl refl))
+    (All-cons (IsRightIn Dictionary folders) extended [] (right_in Dictionary folders name folder (codes ".extended.txt") plain listed (inr refl))
+    (All-nil (IsRightIn Dictionary folders)))
+paths_in_stay Exceptions folders name plain folder listed =
+    All-cons (IsRightIn Exceptions folders) (folder ++ (slash ∷ (name ++ codes ".exceptions"))) []
+    (right_in Exceptions folders name folder (codes ".exceptions") plain listed refl) (All-nil (IsRightIn Exceptions folders))
 
-paths_of_name_stay : (folders : List (List ℕ)) (name : List ℕ) → IsPlainName name → All (IsRightIn folders) (paths_of_name folders name)
-paths_of_name_stay folders name plain =
-    each_gives (IsRightIn folders) (Contains folders) (paths_in name) (paths_in_stay folders name plain) folders (All-contains_itself folders)
+paths_of_name_stay : (sought : Sought) (folders : List (List ℕ)) (name : List ℕ) → IsPlainName name
+    → All (IsRightIn sought folders) (paths_of_name sought folders name)
+paths_of_name_stay sought folders name plain =
+    each_gives (IsRightIn sought folders) (Contains folders) (paths_in sought name) (paths_in_stay sought folders name plain) folders (All-contains_itself folders)
 
-paths_of_code_stay : (folders : List (List ℕ)) (code : List ℕ) → IsCode code → All (IsRightIn folders) (paths_of_code folders code)
-paths_of_code_stay folders code h =
-    each_gives (IsRightIn folders) IsPlainName (paths_of_name folders) (paths_of_name_stay folders) (names_of code) (names_are_plain code h)
+paths_by_code_stay : (sought : Sought) (folders : List (List ℕ)) (code : List ℕ) → IsCode code → All (IsRightIn sought folders) (paths_by_code sought folders code)
+paths_by_code_stay sought folders code h =
+    each_gives (IsRightIn sought folders) IsPlainName (paths_of_name sought folders) (paths_of_name_stay sought folders) (names_of code) (names_are_plain code h)
 
 pub paths_stay : PathsStayInFolders
-paths_stay folders tag =
-    each_gives (IsRightIn folders) IsCode (paths_of_code folders) (paths_of_code_stay folders) (codes_of tag)
+paths_stay sought folders tag =
+    each_gives (IsRightIn sought folders) IsCode (paths_by_code sought folders) (paths_by_code_stay sought folders) (codes_of tag)
     (filter_passes is_code (fronts (searched tag)))

@@ -3,7 +3,7 @@
 ghost use Rattle.language_search.specs.Laws.{PathsStayInFolders, PathsHaveNoCase};
 
 /// No path leaves the folders. Each one is a folder of the list, `/`, the code of a language, and `.txt` or
-/// `.extended.txt`. A code has no `/` and no `.`.
+/// `.extended.txt`, or `.exceptions`. A code has no `/` and no `.`.
 ///
 /// It is a law of all tags and folders, and the call does nothing.
 pub fn paths_stay_in_folders()

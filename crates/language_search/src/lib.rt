@@ -1,8 +1,9 @@
-//! The search for the dictionary of a language: in which folders, by which names, and in which order.
+//! The search for the dictionary of a language and its list of exceptions: in which folders, by which names, and in which
+//! order.
 //!
 //! It opens nothing. [`folders_of`] gives the folders, and [`paths_of`] the paths at which to look, in their order; the
 //! first one at which there is a file has the dictionary. So each program and each binding finds the same one.
-//! [`codes_of`] and [`paths_of_code`] give the same paths code by code.
+//! [`codes_of`] and [`paths_of_code`] give the same paths code by code. [`exception_paths_of`] gives those of the list.
 //!
 //! ```text
 //! let folders = folders_of(alloc, "", "", "/users/ada")?;
@@ -23,5 +24,5 @@ mod paths;
 mod tags;
 
 pub use folders::folders_of;
-pub use paths::{paths_of, paths_of_code};
+pub use paths::{Sought, exception_paths_of, exception_paths_of_code, paths_of, paths_of_code};
 pub use tags::codes_of;

@@ -1,14 +1,25 @@
-//! The paths at which the dictionary of a language is looked for.
+//! The paths at which the dictionary of a language is looked for, and its list of exceptions.
 
 ghost use Rattle.std.specs.Prelude.{◌≡◌, ◌∷◌, ◌++◌, [], IfOk, OnOk, map};
 ghost use Rattle.std.specs.String.{string_bytes};
 ghost use Rattle.hyphenation_breaks.specs.Borrowed.{texts_now};
-ghost use Rattle.language_search.specs.Paths.{paths_in, paths_of_name, paths_of_code, paths_of};
+ghost use Rattle.language_search.specs.Paths.{exception_paths_of, exception_paths_of_code, paths_by_code, paths_by_tag};
+ghost use Rattle.language_search.specs.declared.paths.Sought.TheVariants.{Dictionary, Exceptions};
+ghost use Rattle.language_search.specs.Paths.{paths_in, paths_of, paths_of_code, paths_of_name};
 
 use crate::names::usual_variant;
 use crate::tags::codes_of;
 use hyphenation_breaks::language::Language;
 use std::alloc::{AllocError, Global};
+
+/// The sort of file that is looked for.
+#[derive(Clone, Copy, Debug)]
+pub enum Sought {
+    /// A dictionary text.
+    Dictionary,
+    /// A list of exceptions.
+    Exceptions,
+}
 
 // Adds a path.
 fn push(paths: &mut Vec<String>, path: String) -> Result<(), AllocError>
@@ -18,33 +29,64 @@ fn push(paths: &mut Vec<String>, path: String) -> Result<(), AllocError>
     Ok(())
 }
 
-// Adds the paths of a name in a folder.
-fn push_in_folder(
+// Adds the paths of a name's dictionaries in a folder.
+fn push_dictionaries(
     alloc: Global,
     folder: &str,
     name: &str,
     paths: &mut Vec<String>,
 ) -> Result<(), AllocError>
     ensures { OnOk result (map string_bytes paths.new.items
-        ≡ map string_bytes paths.old.items ++ paths_in name.now folder.now) }
+        ≡ map string_bytes paths.old.items ++ paths_in Dictionary name.now folder.now) }
 {
     push(paths, format!(in alloc; "{folder}/{name}.txt")?)?;
     push(paths, format!(in alloc; "{folder}/{name}.extended.txt")?)?;
     Ok(())
 }
 
+// Adds the path of a name's list of exceptions in a folder.
+fn push_list(
+    alloc: Global,
+    folder: &str,
+    name: &str,
+    paths: &mut Vec<String>,
+) -> Result<(), AllocError>
+    ensures { OnOk result (map string_bytes paths.new.items
+        ≡ map string_bytes paths.old.items ++ paths_in Exceptions name.now folder.now) }
+{
+    push(paths, format!(in alloc; "{folder}/{name}.exceptions")?)
+}
+
+// Adds the paths of a name in a folder.
+fn push_in_folder(
+    alloc: Global,
+    sought: Sought,
+    folder: &str,
+    name: &str,
+    paths: &mut Vec<String>,
+) -> Result<(), AllocError>
+    ensures { OnOk result (map string_bytes paths.new.items
+        ≡ map string_bytes paths.old.items ++ paths_in sought name.now folder.now) }
+{
+    match sought {
+        Sought::Dictionary => push_dictionaries(alloc, folder, name, paths),
+        Sought::Exceptions => push_list(alloc, folder, name, paths),
+    }
+}
+
 // Adds the paths of a name in each folder.
 fn push_name(
     alloc: Global,
+    sought: Sought,
     folders: &[&str],
     name: &str,
     paths: &mut Vec<String>,
 ) -> Result<(), AllocError>
     ensures { OnOk result (map string_bytes paths.new.items
-        ≡ map string_bytes paths.old.items ++ paths_of_name (texts_now folders.now) name.now) }
+        ≡ map string_bytes paths.old.items ++ paths_of_name sought (texts_now folders.now) name.now) }
 {
     for folder in folders {
-        push_in_folder(alloc, folder, name, paths)?;
+        push_in_folder(alloc, sought, folder, name, paths)?;
     }
     Ok(())
 }
@@ -52,18 +94,50 @@ fn push_name(
 // Adds the paths of each name of a code.
 fn push_code(
     alloc: Global,
+    sought: Sought,
     folders: &[&str],
     code: &str,
     paths: &mut Vec<String>,
 ) -> Result<(), AllocError>
     ensures { OnOk result (map string_bytes paths.new.items
-        ≡ map string_bytes paths.old.items ++ paths_of_code (texts_now folders.now) code.now) }
+        ≡ map string_bytes paths.old.items ++ paths_by_code sought (texts_now folders.now) code.now) }
 {
-    push_name(alloc, folders, code, paths)?;
+    push_name(alloc, sought, folders, code, paths)?;
     if let Some(name) = usual_variant(code) {
-        push_name(alloc, folders, name, paths)?;
+        push_name(alloc, sought, folders, name, paths)?;
     }
     Ok(())
+}
+
+// Returns the paths of a code.
+fn paths_by_code(
+    alloc: Global,
+    sought: Sought,
+    folders: &[&str],
+    language: &Language,
+) -> Result<Vec<String>, AllocError>
+    ensures { IfOk result (λ paths. map string_bytes paths.items ≡ paths_by_code sought (texts_now folders.now) language.now) }
+{
+    let mut paths = Vec::new(alloc);
+    push_code(alloc, sought, folders, language.code(), &mut paths)?;
+    Ok(paths)
+}
+
+// Returns the paths of a tag.
+fn paths_by_tag(
+    alloc: Global,
+    sought: Sought,
+    folders: &[&str],
+    tag: &str,
+) -> Result<Vec<String>, AllocError>
+    ensures { IfOk result (λ paths. map string_bytes paths.items ≡ paths_by_tag sought (texts_now folders.now) tag.now) }
+{
+    let languages = codes_of(alloc, tag)?;
+    let mut paths = Vec::new(alloc);
+    for language in &languages {
+        push_code(alloc, sought, folders, language.code(), &mut paths)?;
+    }
+    Ok(paths)
 }
 
 /// Returns the paths at which the dictionary of a language is looked for only by its own code. They are those of each
@@ -80,9 +154,7 @@ pub fn paths_of_code(
 ) -> Result<Vec<String>, AllocError>
     ensures { IfOk result (λ paths. map string_bytes paths.items ≡ paths_of_code (texts_now folders.now) language.now) }
 {
-    let mut paths = Vec::new(alloc);
-    push_code(alloc, folders, language.code(), &mut paths)?;
-    Ok(paths)
+    paths_by_code(alloc, Sought::Dictionary, folders, language)
 }
 
 /// Returns the paths at which the dictionary of a language is looked for, in their order. The first one at which there is
@@ -107,10 +179,41 @@ pub fn paths_of_code(
 pub fn paths_of(alloc: Global, folders: &[&str], tag: &str) -> Result<Vec<String>, AllocError>
     ensures { IfOk result (λ paths. map string_bytes paths.items ≡ paths_of (texts_now folders.now) tag.now) }
 {
-    let languages = codes_of(alloc, tag)?;
-    let mut paths = Vec::new(alloc);
-    for language in &languages {
-        push_code(alloc, folders, language.code(), &mut paths)?;
-    }
-    Ok(paths)
+    paths_by_tag(alloc, Sought::Dictionary, folders, tag)
+}
+
+/// Returns the paths at which the list of exceptions of a language is looked for only by its own code. They are those of
+/// each of its names in each folder, with the ending `.exceptions`. The error says that memory was refused.
+///
+/// ```text
+/// exception_paths_of_code(alloc, &["a"], &Language::from_code("sr").unwrap())?
+/// // a/sr.exceptions, a/sr-cyrl.exceptions
+/// ```
+pub fn exception_paths_of_code(
+    alloc: Global,
+    folders: &[&str],
+    language: &Language,
+) -> Result<Vec<String>, AllocError>
+    ensures { IfOk result (λ paths. map string_bytes paths.items
+        ≡ exception_paths_of_code (texts_now folders.now) language.now) }
+{
+    paths_by_code(alloc, Sought::Exceptions, folders, language)
+}
+
+/// Returns the paths at which the list of exceptions of a language is looked for, in their order. The first one at which
+/// there is a file has it.
+///
+/// They are those of [`paths_of`], with the ending `.exceptions`. The error says that memory was refused.
+///
+/// ```text
+/// exception_paths_of(alloc, &["a"], "fr_CA")?        // a/fr-ca.exceptions, a/fr.exceptions
+/// ```
+pub fn exception_paths_of(
+    alloc: Global,
+    folders: &[&str],
+    tag: &str,
+) -> Result<Vec<String>, AllocError>
+    ensures { IfOk result (λ paths. map string_bytes paths.items ≡ exception_paths_of (texts_now folders.now) tag.now) }
+{
+    paths_by_tag(alloc, Sought::Exceptions, folders, tag)
 }

@@ -5,3 +5,4 @@ pub mod Grouping
 pub mod Between
 pub mod Skipping
 pub mod Noting
+pub mod Listings

@@ -4,4 +4,5 @@ pub mod Converting
 pub mod Notes
 pub mod Heads
 pub mod TexFiles
+pub mod ExceptionLists
 pub mod Private

@@ -13,10 +13,11 @@
 //! [`convert::convert`] makes the dictionary, and its contract says which one. The modules, from the bottom up:
 //! [`group`] has files, their groups and the words of groups; `tex` reads files into words, and [`laws`] say which words
 //! these are; `spelling` reads one word, and `words` all of them; [`head_minima`] reads the head of a TeX file, and
-//! `word_notes` makes remarks.
+//! `word_notes` makes remarks. [`exception_list`] adds the exceptions that a user lists to a dictionary.
 #![tactic(auto)]
 
 pub mod convert;
+pub mod exception_list;
 pub mod group;
 pub mod head_minima;
 pub mod laws;

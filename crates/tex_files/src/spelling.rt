@@ -28,7 +28,7 @@ use pattern_results::texts::text_from_utf8;
 use std::alloc::{AllocError, Global};
 
 // Whether a text has a backslash or a brace.
-fn has_command(text: &[u8]) -> bool
+pub(crate) fn has_command(text: &[u8]) -> bool
     ensures { result ≡ list_any is_command text.now }
 {
     text.iter().any(|b| matches!(*b, b'\\' | b'{' | b'}'))

@@ -29,9 +29,9 @@ fn is_brace(b: u8) -> bool
 
 // A piece of a file, and the number of its line, counted from 1.
 #[derive(Drop)]
-struct FilePiece {
-    line: usize,
-    text: Vec<u8>,
+pub(crate) struct FilePiece {
+    pub(crate) line: usize,
+    pub(crate) text: Vec<u8>,
 }
 
 // A reader of bytes into pieces: the line, whether its comment has begun, the pieces that ended, and the one that goes
@@ -107,7 +107,7 @@ impl Lexer {
 }
 
 // Splits a file into its pieces.
-fn pieces_of(alloc: Global, bytes: &[u8]) -> Result<Vec<FilePiece>, AllocError>
+pub(crate) fn pieces_of(alloc: Global, bytes: &[u8]) -> Result<Vec<FilePiece>, AllocError>
     ensures { IfOk result (λ found. map piece_view found.items ≡ pieces_of bytes.now) }
 {
     let mut lexer = Lexer::new(alloc);
@@ -129,7 +129,7 @@ pub(crate) struct Scan {
 }
 
 // Whether a piece is that text.
-fn is_text(piece: &[u8], text: &str) -> bool
+pub(crate) fn is_text(piece: &[u8], text: &str) -> bool
     ensures { result ≡ is_same piece.now text.now }
 {
     piece == text.as_bytes()

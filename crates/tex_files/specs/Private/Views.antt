@@ -1,7 +1,9 @@
 -- The values of private structs in the words of the definitions, and the errors of reading a word.
 use Rattle.std.specs.Prelude.{map, Option, Some, ◌≡◌}
+use Rattle.tex_files.specs.ExceptionLists as lists
 use Rattle.tex_files.specs.Groups as groups
 use Rattle.tex_files.specs.Groups.{Lexed, GroupScan, GroupWord}
+use Rattle.tex_files.specs.declared.exception_list.ListScan.{ListScan}
 use Rattle.tex_files.specs.declared.tex.Lexer.{Lexer}
 use Rattle.tex_files.specs.declared.tex.FilePiece.{FilePiece}
 use Rattle.tex_files.specs.declared.tex.Scan.{Scan}
@@ -36,6 +38,10 @@ scan_view scan = record {
   at_end = scan.at_end;
   fault = scan.fault;
 }
+
+-- A scan of a list in the words of the definitions.
+abbrev pub list_view : ListScan → lists.ListScan
+list_view scan = record { words = map piece_view scan.words.items; place = scan.place; fault = scan.fault }
 
 -- An error of a word: out of memory, or the test that it fails.
 abbrev pub IsWordError : WordError → Option FileCause → Type 0

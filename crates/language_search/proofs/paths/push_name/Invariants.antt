@@ -5,4 +5,4 @@ use Rattle.language_search.specs.Paths.{paths_of_name}
 use Rattle.language_search.proofs.paths.push_name.Given as goal
 
 abbrev pub invariant-loop-folder : goal.invariant-loop-folder
-invariant-loop-folder l = map string_bytes l.paths.items ≡ map string_bytes l.fn.paths.items ++ paths_of_name (texts_now (take l.folder-index l.folders)) l.name
+invariant-loop-folder l = map string_bytes l.paths.items ≡ map string_bytes l.fn.paths.items ++ paths_of_name l.sought (texts_now (take l.folder-index l.folders)) l.name

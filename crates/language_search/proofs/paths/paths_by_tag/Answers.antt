@@ -1,6 +1,6 @@
 use Rattle.std.proofs.Common.{arith}
 use Rattle.std.proofs.lemmas.Grind.{common_steps}
-use Rattle.language_search.proofs.paths.paths_of.Goals as goal
+use Rattle.language_search.proofs.paths.paths_by_tag.Goals as goal
 
 pub bounds-language-items-language-index : goal.bounds-language-items-language-index
 bounds-language-items-language-index c = grind (arith, common_steps)
