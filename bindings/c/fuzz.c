@@ -92,6 +92,8 @@ int LLVMFuzzerTestOneInput(const uint8_t *data, size_t size) {
   need(hyphenation_share(&h, &o) == HYPHENATION_DONE);
   status = hyphenation_edit(&o, word, rest);
   need(status == HYPHENATION_REFUSED || is_known(status));
+  status = hyphenation_add_exceptions(&o, word, rest, &line, &cause);
+  need(status == HYPHENATION_REFUSED || status == HYPHENATION_DONE || status == HYPHENATION_OUT_OF_MEMORY);
   /* The canonical text is accepted, and is its own canonical text. */
   if (hyphenation_write(&h, page, ROOM, &count) == HYPHENATION_DONE) {
     need(hyphenation_load(kind, page, count, &o, &line, &cause) == HYPHENATION_DONE);

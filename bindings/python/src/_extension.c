@@ -21,9 +21,9 @@
 #endif
 
 #define CALLS(EACH)                                                                                                        \
-  EACH(kind_of) EACH(load) EACH(load_dic) EACH(load_patterns) EACH(free) EACH(share) EACH(edit)                            \
+  EACH(kind_of) EACH(load) EACH(load_dic) EACH(load_patterns) EACH(free) EACH(share) EACH(edit) EACH(add_exceptions)       \
   EACH(language) EACH(minima) EACH(breaks) EACH(breaks_of_words) EACH(values) EACH(changes) EACH(exception) EACH(text)     \
-  EACH(fill) EACH(write) EACH(paths) EACH(cause_message)
+  EACH(fill) EACH(write) EACH(paths) EACH(exception_paths) EACH(cause_message)
 static struct {
 #define DECLARE(name) __typeof__(&hyphenation_##name) name;
   CALLS(DECLARE)
@@ -479,14 +479,19 @@ static uint32_t ask_paths(Question *it, uint8_t *buffer, size_t capacity, size_t
                      it->more_length[1], buffer, capacity, count);
 }
 
+static uint32_t ask_exception_paths(Question *it, uint8_t *buffer, size_t capacity, size_t *count) {
+  return calls.exception_paths(it->text, it->length, it->mark, it->mark_length, it->more[0], it->more_length[0],
+                               it->more[1], it->more_length[1], buffer, capacity, count);
+}
+
 /* Whether the module has the library; else an exception is set. */
 static bool has_library(const State *state) {
   if (!state->raises) PyErr_SetString(PyExc_RuntimeError, "the library is not open yet");
   return state->raises != NULL;
 }
 
-static PyObject *paths(PyObject *module, PyObject *arguments) {
-  Question it = {.ask = ask_paths};
+/* The paths that a question for a tag and the values of three variables is answered by. */
+static PyObject *paths_by(PyObject *module, PyObject *arguments, Question it) {
   Py_ssize_t lengths[4];
   if (!has_library(state_of(module)) || !PyArg_ParseTuple(arguments, "y#y#y#y#", &it.text, &lengths[0], &it.mark, &lengths[1],
                                                           &it.more[0], &lengths[2], &it.more[1], &lengths[3]))
@@ -496,6 +501,14 @@ static PyObject *paths(PyObject *module, PyObject *arguments) {
   it.more_length[0] = (size_t)lengths[2];
   it.more_length[1] = (size_t)lengths[3];
   return written(module, &it, 4096, false, true);
+}
+
+static PyObject *paths(PyObject *module, PyObject *arguments) {
+  return paths_by(module, arguments, (Question){.ask = ask_paths});
+}
+
+static PyObject *exception_paths(PyObject *module, PyObject *arguments) {
+  return paths_by(module, arguments, (Question){.ask = ask_exception_paths});
 }
 
 /* ---- Loading, and what is left. */
@@ -580,6 +593,16 @@ static PyObject *edit(PyObject *self, PyObject *arguments) {
   Py_RETURN_NONE;
 }
 
+static PyObject *add_exceptions(PyObject *self, PyObject *arguments) {
+  const uint8_t *content;
+  Py_ssize_t length;
+  size_t line = 0;
+  uint32_t cause = 0;
+  if (!PyArg_ParseTuple(arguments, "y#", &content, &length)) return NULL;
+  uint32_t status = calls.add_exceptions(OF(self), content, (size_t)length, &line, &cause);
+  return loaded(status, 0, line, cause);
+}
+
 static PyObject *minima(PyObject *self, PyObject *Py_UNUSED(none)) {
   size_t left = 0, right = 0;
   uint32_t status = calls.minima(OF(self), &left, &right);
@@ -621,6 +644,7 @@ static PyMethodDef methods[] = {
     {"share", share, METH_NOARGS, NULL},
     {"close", close_handle, METH_NOARGS, NULL},
     {"edit", edit, METH_VARARGS, NULL},
+    {"add_exceptions", add_exceptions, METH_VARARGS, NULL},
     {"language", language, METH_NOARGS, NULL},
     {"minima", minima, METH_NOARGS, NULL},
     {"places", places, METH_O, NULL},
@@ -673,6 +697,7 @@ static PyMethodDef functions[] = {
     {"start", start, METH_VARARGS, NULL},
     {"kind_of", kind_of, METH_VARARGS, NULL},
     {"paths", paths, METH_VARARGS, NULL},
+    {"exception_paths", exception_paths, METH_VARARGS, NULL},
     {"cause_message", cause_message, METH_VARARGS, NULL},
     {NULL, NULL, 0, NULL},
 };

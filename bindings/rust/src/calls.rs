@@ -124,6 +124,13 @@ extern "C" {
     fn hyphenation_free(handle: *mut Raw);
     fn hyphenation_share(handle: *mut Raw, other: *mut Raw) -> u32;
     fn hyphenation_edit(handle: *mut Raw, edit: *const u8, length: usize) -> u32;
+    fn hyphenation_add_exceptions(
+        handle: *mut Raw,
+        text: *const u8,
+        length: usize,
+        line: *mut usize,
+        cause: *mut u32,
+    ) -> u32;
     fn hyphenation_language(handle: *mut Raw, code: *mut u8, capacity: usize, count: *mut usize) -> u32;
     fn hyphenation_minima(handle: *mut Raw, left: *mut usize, right: *mut usize) -> u32;
     fn hyphenation_values(
@@ -221,6 +228,19 @@ extern "C" {
         capacity: usize,
         count: *mut usize,
     ) -> u32;
+    fn hyphenation_exception_paths(
+        tag: *const u8,
+        tag_length: usize,
+        path: *const u8,
+        path_length: usize,
+        data_home: *const u8,
+        data_home_length: usize,
+        home: *const u8,
+        home_length: usize,
+        buffer: *mut u8,
+        capacity: usize,
+        count: *mut usize,
+    ) -> u32;
 }
 
 /// Why a call is not done.
@@ -228,8 +248,8 @@ extern "C" {
 pub enum Failure {
     /// Memory was refused.
     Memory,
-    /// The text, the file or the edit is faulty: the number of the file, the line, counted from 1, and the number of its
-    /// cause. An edit has none of them.
+    /// The text, the file, the list or the edit is faulty: the number of the file, the line, counted from 1, and the number
+    /// of its cause. An edit has none of them.
     Refused { file: usize, line: usize, cause: u32 },
     /// A minimum is neither given nor in the head of the file.
     NoMinima,
@@ -412,11 +432,24 @@ fn text_of(bytes: Vec<u8>) -> String {
     String::from_utf8(bytes).expect("the library writes UTF-8")
 }
 
-/// The paths at which the dictionary of a language is looked for, each with a NUL behind it.
-pub fn paths(tag: &str, path: &str, data_home: &str, home: &str) -> Result<String, Failure> {
+/// What is looked for in the folders of the search.
+#[derive(Clone, Copy)]
+pub enum Sought {
+    /// A dictionary text.
+    Dictionary,
+    /// A list of exceptions.
+    Exceptions,
+}
+
+/// The paths at which the dictionary of a language is looked for, or its list of exceptions, each with a NUL behind it.
+pub fn paths(sought: Sought, tag: &str, path: &str, data_home: &str, home: &str) -> Result<String, Failure> {
+    let call = match sought {
+        Sought::Dictionary => hyphenation_paths,
+        Sought::Exceptions => hyphenation_exception_paths,
+    };
     // SAFETY: the four texts are slices, and the buffer and the count are local.
     let bytes = filled(1 << 12, |buffer, room, count| unsafe {
-        hyphenation_paths(
+        call(
             tag.as_ptr(),
             tag.len(),
             path.as_ptr(),
@@ -446,6 +479,17 @@ impl Raw {
     pub fn edit(&mut self, edit: &str) -> Result<(), Failure> {
         // SAFETY: the handle is as the last call left it, and is lent only to this call; the edit is a slice.
         checked(unsafe { hyphenation_edit(self, edit.as_ptr(), edit.len()) }, RawFault::default())
+    }
+
+    /// Adds the exceptions of a list.
+    pub fn add_exceptions(&mut self, text: &[u8]) -> Result<(), Failure> {
+        let mut fault = RawFault::default();
+        // SAFETY: the handle is as the last call left it, and is lent only to this call; the text is a slice, and the line and
+        // the cause are local.
+        let status = unsafe {
+            hyphenation_add_exceptions(self, text.as_ptr(), text.len(), &mut fault.line, &mut fault.cause)
+        };
+        checked(status, fault)
     }
 
     /// The code of the language.

@@ -1,6 +1,6 @@
 //! Dictionaries of both kinds: what they have in common, written once.
 
-use crate::calls::{self, Failure, Raw, PLAIN, TEX};
+use crate::calls::{self, Failure, Raw, Sought, PLAIN, TEX};
 use crate::extended::Subregion;
 use crate::known::Known;
 use crate::language::Language;
@@ -62,15 +62,19 @@ impl<E: Listed> Inner<E> {
         }
     }
 
-    // The first file on the paths of the language that has a dictionary of this kind and language.
+    // The first file on the paths of the language that has a dictionary of this kind and language, with the exceptions of the
+    // user's list.
     pub(crate) fn of_folders(kind: u32, language: Language) -> Result<Inner<E>> {
-        for path in search::paths_of(language.code()).iter().filter(|path| path.is_file()) {
+        for path in search::paths_of(Sought::Dictionary, language.code()).iter().filter(|path| path.is_file()) {
             let text = fs::read(path)?;
             if calls::kind_of(&text) != kind {
                 continue;
             }
-            let inner = Inner::of_text(kind, &text)?;
+            let mut inner = Inner::of_text(kind, &text)?;
             if inner.language == language {
+                if let Some(list) = search::exceptions_path(language.code()) {
+                    inner.add_exceptions(&fs::read(list)?)?;
+                }
                 return Ok(inner);
             }
         }
@@ -155,6 +159,14 @@ impl<E: Listed> Inner<E> {
         true
     }
 
+    /// Adds the exceptions of a list.
+    pub(crate) fn add_exceptions(&mut self, text: &[u8]) -> Result<()> {
+        self.shared.change(|raw| raw.add_exceptions(text)).map_err(Error::in_list)?;
+        // No break refers to these any more.
+        self.known = OnceLock::new();
+        Ok(())
+    }
+
     /// Lists breaks for a word, and returns those that were listed.
     pub(crate) fn list(&mut self, word: String, breaks: Vec<E>) -> Option<Vec<E>> {
         let tokens: Vec<String> = std::iter::once(escaped(&word)).chain(breaks.iter().map(E::to_token)).collect();
@@ -217,6 +229,20 @@ macro_rules! dictionary {
                 exceptions: &[u8],
             ) -> $crate::load::Result<Self> {
                 $crate::dictionary::Inner::of_patterns($kind, lang, minima, patterns, exceptions).map($name)
+            }
+
+            /// Adds the exceptions of a list: one word a line, with hyphens where it may break, as `Stau-becken`.
+            ///
+            /// A word without a hyphen is never broken. A comment begins with `#` or `%`. A group `\hyphenation{..}` of TeX's
+            /// has words between white space. Words are read in small letters. They take the place of what was listed for
+            /// them. Clones stay as they are.
+            ///
+            /// # Errors
+            ///
+            /// [`Error::Deserialization`](crate::load::Error::Deserialization) with the first line that is refused, and
+            /// [`Error::IO`](crate::load::Error::IO) where memory is refused. With either nothing is changed.
+            pub fn add_exceptions(&mut self, list: &[u8]) -> $crate::load::Result<()> {
+                self.0.add_exceptions(list)
             }
 
             /// The language whose words it breaks.

@@ -9,10 +9,11 @@ use std::{error, fmt, io, result};
 /// A result of loading.
 pub type Result<T> = result::Result<T, Error>;
 
-/// The first fault of a dictionary text, or of the files of patterns of which a dictionary is to be made.
+/// The first fault of a dictionary text, of the files of patterns of which a dictionary is to be made, or of a list of
+/// exceptions.
 #[derive(Clone, Copy, Debug, PartialEq, Eq)]
 pub struct Fault {
-    // 1 for a file of exceptions
+    // 1 for a file or a list of exceptions
     file: usize,
     // from 1; 0 for files without minima
     line: usize,
@@ -30,7 +31,7 @@ impl Fault {
         self.cause
     }
 
-    /// Whether the line is one of the file of exceptions.
+    /// Whether the line is one of the file or the list of exceptions.
     pub fn is_in_exceptions(&self) -> bool {
         self.file == 1
     }
@@ -111,6 +112,16 @@ impl From<Failure> for Error {
     }
 }
 
+impl Error {
+    // The error of a list of exceptions.
+    pub(crate) fn in_list(failure: Failure) -> Error {
+        match failure {
+            Failure::Refused { line, cause, .. } => Failure::Refused { file: 1, line, cause }.into(),
+            other => other.into(),
+        }
+    }
+}
+
 /// Loading a kind of dictionary.
 pub trait Load: Sized {
     /// The dictionary of a language, from the text in a file.
@@ -142,7 +153,8 @@ pub trait Load: Sized {
     /// The dictionary of a language that the machine has. None is embedded in the program.
     ///
     /// It is the first of this kind and language on the paths at which
-    /// [`dictionary_path`](crate::dictionary_path) looks for the language. A type that does not say where its dictionaries
+    /// [`dictionary_path`](crate::dictionary_path) looks for the language, with the exceptions of the list at
+    /// [`exceptions_path`](crate::exceptions_path), if there is one. A type that does not say where its dictionaries
     /// are has none.
     ///
     /// # Errors

@@ -1,6 +1,6 @@
-//! The search for the dictionary of a language.
+//! The search for the dictionary of a language, and for its list of exceptions.
 
-use crate::calls;
+use crate::calls::{self, Sought};
 use crate::dictionary::done;
 use std::env;
 use std::path::{Path, PathBuf};
@@ -10,10 +10,10 @@ fn value(name: &str) -> String {
     env::var(name).unwrap_or_default()
 }
 
-/// The paths at which the dictionary of a language is looked for, in their order.
-pub(crate) fn paths_of(tag: &str) -> Vec<PathBuf> {
+/// The paths at which the dictionary of a language is looked for, or its list of exceptions, in their order.
+pub(crate) fn paths_of(sought: Sought, tag: &str) -> Vec<PathBuf> {
     let [path, data_home, home] = ["HYPHENATION_PATH", "XDG_DATA_HOME", "HOME"].map(value);
-    let paths = done(calls::paths(tag, &path, &data_home, &home));
+    let paths = done(calls::paths(sought, tag, &path, &data_home, &home));
     paths.split_terminator('\0').map(|path| Path::new(path).to_owned()).collect()
 }
 
@@ -32,5 +32,21 @@ pub(crate) fn paths_of(tag: &str) -> Vec<PathBuf> {
 ///
 /// Where memory is refused.
 pub fn dictionary_path(language: &str) -> Option<PathBuf> {
-    paths_of(language).into_iter().find(|path| path.is_file())
+    paths_of(Sought::Dictionary, language).into_iter().find(|path| path.is_file())
+}
+
+/// Returns the path of the list of exceptions of a language, or `None` if there is none.
+///
+/// It is a file of words of the user's own, such as `de.exceptions`, which `add_exceptions` takes. It is searched in the
+/// folders of [`dictionary_path`], by the same names; the first one is taken.
+///
+/// ```
+/// assert_eq!(hyphenation::exceptions_path("../x"), None);
+/// ```
+///
+/// # Panics
+///
+/// Where memory is refused.
+pub fn exceptions_path(language: &str) -> Option<PathBuf> {
+    paths_of(Sought::Exceptions, language).into_iter().find(|path| path.is_file())
 }

@@ -1,18 +1,24 @@
 //! Edits of the exceptions of a dictionary that is loaded.
 
-ghost use Rattle.std.specs.Prelude.{◌≡◌, IfOk, IsTrue, OnErr, not};
+ghost use Rattle.std.specs.Prelude.{◌≡◌, IfErr, IfOk, IsTrue, None, OnErr, OnOk, not};
 ghost use Rattle.std.specs.Arc.{arc_value};
 ghost use Rattle.any_dictionary.specs.Dictionaries.{edited, kind_by};
 ghost use Rattle.hyphenation_reader.specs.Edits.{is_good_edit};
+ghost use Rattle.pattern_results.specs.Errors.{IsFileError};
+ghost use Rattle.tex_files.specs.ExceptionLists.{list_fault};
 ghost use Rattle.c_calls.specs.Contents.{dictionary_of};
+ghost use Rattle.c_calls.specs.ExceptionLists.{AddsTo, with_list};
 ghost use Rattle.c_calls.specs.Statuses.{EditsDictionary};
 
 use crate::content::Loaded;
+use crate::patterns::pattern_cause_number;
 use crate::statuses::{DONE, NOT_UTF8, OUT_OF_MEMORY, REFUSED};
 use any_dictionary::AnyDictionary;
 use hyphenation_load::{Error, Load};
+use pattern_results::errors::FileError;
 use std::alloc::{AllocError, Global};
 use std::sync::Arc;
+use tex_files::exception_list::add_exceptions;
 
 // A copy of a dictionary, by its text. The only error is that memory was refused.
 fn copy_of(dictionary: &AnyDictionary, alloc: Global) -> Result<AnyDictionary, AllocError>
@@ -60,5 +66,69 @@ pub fn edit(loaded: &mut Loaded, alloc: Global, edit: &[u8]) -> u32
         Ok(true) => DONE,
         Ok(false) => REFUSED,
         Err(_) => OUT_OF_MEMORY,
+    }
+}
+
+// A dictionary of either kind with the exceptions of a list.
+fn with_list(
+    alloc: Global,
+    dictionary: AnyDictionary,
+    text: &[u8],
+) -> Result<AnyDictionary, FileError>
+    ensures no_fault { OnOk result (list_fault text.now ≡ None) }
+    ensures listed { IfOk result (λ d. d ≡ with_list dictionary text.now) }
+    ensures refused { IfErr result (λ error. IsFileError error (list_fault text.now)) }
+{
+    match dictionary {
+        AnyDictionary::Standard(standard) => Ok(AnyDictionary::Standard(add_exceptions(
+            alloc, standard, text,
+        )?)),
+        AnyDictionary::Extended(extended) => Ok(AnyDictionary::Extended(add_exceptions(
+            alloc, extended, text,
+        )?)),
+    }
+}
+
+// A copy of a dictionary with the exceptions of a list.
+fn copy_with_list(
+    dictionary: &AnyDictionary,
+    alloc: Global,
+    text: &[u8],
+) -> Result<Arc<AnyDictionary>, FileError>
+    ensures no_fault { OnOk result (list_fault text.now ≡ None) }
+    ensures listed { IfOk result (λ copy. arc_value copy ≡ with_list dictionary.now text.now) }
+    ensures refused { IfErr result (λ error. IsFileError error (list_fault text.now)) }
+{
+    let copy = copy_of(dictionary, alloc)?;
+    let copy = with_list(alloc, copy, text)?;
+    match Arc::new(alloc, copy) {
+        Ok(own) => Ok(own),
+        Err(_) => Err(FileError::Memory),
+    }
+}
+
+/// Adds the exceptions of a list to a dictionary, and returns the status. With each status but `DONE` the dictionary is
+/// unchanged. A copy with the exceptions takes its place, so that it has all of them or none.
+pub fn add_list(
+    loaded: &mut Loaded,
+    alloc: Global,
+    text: &[u8],
+    line: &mut usize,
+    cause: &mut u32,
+) -> u32
+    ensures { AddsTo (dictionary_of loaded.old) (dictionary_of loaded.new) text.now (line.old, cause.old)
+        (line.new, cause.new) result }
+{
+    match copy_with_list(&*loaded.dictionary, alloc, text) {
+        Ok(own) => {
+            loaded.dictionary = own;
+            DONE
+        }
+        Err(FileError::OnLine(at, why)) => {
+            *line = at;
+            *cause = pattern_cause_number(why);
+            REFUSED
+        }
+        Err(FileError::Memory) => OUT_OF_MEMORY,
     }
 }

@@ -10,9 +10,10 @@
 
 ghost use Rattle.std.specs.Prelude.{◌≡◌};
 ghost use Rattle.c_calls.specs.Contents.{holds};
+ghost use Rattle.c_calls.specs.ExceptionLists.{AddsExceptions};
 ghost use Rattle.c_calls.specs.Lists.{WritesLists};
 ghost use Rattle.c_calls.specs.Numbered.{WritesListed, WritesScores};
-ghost use Rattle.c_calls.specs.Paths.{WritesPaths};
+ghost use Rattle.c_calls.specs.Paths.{WritesExceptionPaths, WritesPaths};
 ghost use Rattle.c_calls.specs.Patterns.{LoadsDic};
 ghost use Rattle.c_calls.specs.Statuses.{kind_numbered, Loads, Shares, Edits, WritesLanguage, WritesMinima};
 ghost use Rattle.c_calls.specs.Statuses.{kind_named, WritesBreaks, WritesValues, Changes, into, loading};
@@ -39,6 +40,7 @@ use changes::BreakChange;
 use content::Content;
 use handle::Handle;
 use hyphenation_reader::reader::Refusal;
+use language_search::Sought;
 use lists::WordList;
 use numbered::NumberedChange;
 use patterns::Failure;
@@ -236,6 +238,33 @@ pub fn edit(alloc: Global, handle: &mut Handle, edit: &[u8]) -> u32
     let status = match &mut *content {
         Content::Dictionary(loaded) => edits::edit(loaded, alloc, edit),
         Content::Levels(_) => NO_DICTIONARY,
+    };
+    *handle = Handle::of(content);
+    status
+}
+
+/// Adds the exceptions of a list: one word a line, with hyphens where it may break, and groups `\hyphenation{..}`.
+///
+/// Other handles with the same dictionary are unchanged: this handle holds a copy with the exceptions afterwards. For a
+/// refused list (`REFUSED`) the line of its first fault, counted from 1, and the number of its cause, from 21 on, are
+/// written. With each status but `DONE` the dictionary is unchanged.
+pub fn add_exceptions(
+    alloc: Global,
+    handle: &mut Handle,
+    text: &[u8],
+    line: &mut usize,
+    cause: &mut u32,
+) -> u32
+    ensures adds { AddsExceptions text.now
+        (loading (holds handle.old) (holds handle.new) (line.old, cause.old) (line.new, cause.new)) result }
+{
+    let Some(mut content) = handle.take(alloc) else {
+        return NO_DICTIONARY;
+    };
+    let status = if let Content::Dictionary(loaded) = &mut *content {
+        edits::add_list(loaded, alloc, text, line, cause)
+    } else {
+        NO_DICTIONARY
     };
     *handle = Handle::of(content);
     status
@@ -463,5 +492,42 @@ pub fn write_paths(
     ensures paths { WritesPaths tag.now (path.now, data_home.now, home.now) buffer.old buffer.new count.old count.new
         result }
 {
-    paths::write_paths(alloc, tag, path, data_home, home, buffer, count)
+    paths::write_paths(
+        alloc,
+        Sought::Dictionary,
+        tag,
+        path,
+        data_home,
+        home,
+        buffer,
+        count,
+    )
+}
+
+/// Writes the paths at which a list of exceptions is looked for to a buffer, in their order, each with a byte 0 behind
+/// it. The first one at which there is a file has it.
+///
+/// The texts are those of [`write_paths`]. The paths have the ending `.exceptions`.
+pub fn write_exception_paths(
+    alloc: Global,
+    tag: &[u8],
+    path: &[u8],
+    data_home: &[u8],
+    home: &[u8],
+    buffer: &mut [u8],
+    count: &mut usize,
+) -> u32
+    ensures paths { WritesExceptionPaths tag.now (path.now, data_home.now, home.now) buffer.old buffer.new count.old
+        count.new result }
+{
+    paths::write_paths(
+        alloc,
+        Sought::Exceptions,
+        tag,
+        path,
+        data_home,
+        home,
+        buffer,
+        count,
+    )
 }

@@ -6,9 +6,10 @@
 
 ghost use Rattle.std.specs.Prelude.{◌≡◌, ◌<◌, None, length};
 ghost use Rattle.c_calls.specs.Contents.{holds};
+ghost use Rattle.c_calls.specs.ExceptionLists.{AddsExceptions};
 ghost use Rattle.c_calls.specs.Lists.{WritesLists};
 ghost use Rattle.c_calls.specs.Numbered.{WritesListed, WritesScores};
-ghost use Rattle.c_calls.specs.Paths.{WritesPaths};
+ghost use Rattle.c_calls.specs.Paths.{WritesExceptionPaths, WritesPaths};
 ghost use Rattle.c_calls.specs.Patterns.{LoadsDic};
 ghost use Rattle.c_calls.specs.Statuses.{kind_numbered, Loads, Shares, Edits, WritesLanguage, WritesMinima};
 ghost use Rattle.c_calls.specs.Statuses.{kind_named, WritesBreaks, WritesValues, Changes, into, loading};
@@ -119,6 +120,21 @@ pub extern "C" fn hyphenation_edit(alloc: Global, handle: &mut Handle, edit: &[u
     ensures edits { Edits (holds handle.old) (holds handle.new) edit.now result }
 {
     c_calls::edit(alloc, handle, edit)
+}
+
+/// Adds the exceptions of a list: one word a line, with hyphens where it may break, and groups `\hyphenation{..}`.
+#[unsafe(no_mangle)]
+pub extern "C" fn hyphenation_add_exceptions(
+    alloc: Global,
+    handle: &mut Handle,
+    text: &[u8],
+    line: &mut usize,
+    cause: &mut u32,
+) -> u32
+    ensures adds { AddsExceptions text.now
+        (loading (holds handle.old) (holds handle.new) (line.old, cause.old) (line.new, cause.new)) result }
+{
+    c_calls::add_exceptions(alloc, handle, text, line, cause)
 }
 
 /// Writes the code of the dictionary's language to the front of a buffer: at most 32 bytes.
@@ -319,6 +335,23 @@ pub extern "C" fn hyphenation_paths(
         result }
 {
     c_calls::write_paths(alloc, tag, path, data_home, home, buffer, count)
+}
+
+/// Writes the paths at which the list of exceptions of a language is looked for to a buffer, each with a byte 0 behind it.
+#[unsafe(no_mangle)]
+pub extern "C" fn hyphenation_exception_paths(
+    alloc: Global,
+    tag: &[u8],
+    path: &[u8],
+    data_home: &[u8],
+    home: &[u8],
+    buffer: &mut [u8],
+    count: &mut usize,
+) -> u32
+    ensures paths { WritesExceptionPaths tag.now (path.now, data_home.now, home.now) buffer.old buffer.new count.old
+        count.new result }
+{
+    c_calls::write_exception_paths(alloc, tag, path, data_home, home, buffer, count)
 }
 
 /// Loads a `.dic`, and writes what it says of itself. The dictionary takes the place of the one that the handle held.

@@ -53,6 +53,7 @@ _load_patterns = _declare(_LONG, "load_patterns", POINTER(_Patterns), _HANDLE, P
 _free = _declare(_SHORT, "free", _HANDLE, result=None)
 _share = _declare(_SHORT, "share", _HANDLE, _HANDLE)
 _edit = _declare(_SHORT, "edit", _HANDLE, *_TEXT)
+_add_exceptions = _declare(_SHORT, "add_exceptions", _HANDLE, *_TEXT, POINTER(c_size_t), POINTER(c_uint32))
 _language = _declare(_SHORT, "language", _HANDLE, *_BUFFER)
 _minima = _declare(_SHORT, "minima", _HANDLE, POINTER(c_size_t), POINTER(c_size_t))
 # These two are called for each word. Their arguments have types of C already, so none is converted.
@@ -67,6 +68,7 @@ _text = _declare(_LONG, "text", _HANDLE, *_TEXT, *_TEXT, *_BUFFER)
 _fill = _declare(_LONG, "fill", _HANDLE, *_TEXT, c_size_t, *_BUFFER)
 _write = _declare(_LONG, "write", _HANDLE, *_BUFFER)
 _paths = _declare(_SHORT, "paths", *_TEXT, *_TEXT, *_TEXT, *_TEXT, *_BUFFER)
+_exception_paths = _declare(_SHORT, "exception_paths", *_TEXT, *_TEXT, *_TEXT, *_TEXT, *_BUFFER)
 _cause_message = _declare(_SHORT, "cause_message", c_uint32, result=c_char_p)
 
 # Lengths of short texts, as the calls for each word take them.
@@ -108,6 +110,12 @@ def paths(language: bytes, path: bytes, data_home: bytes, home: bytes) -> bytes:
     """Returns the paths at which the dictionary of a language is looked for, each with a NUL behind it."""
     arguments = [argument for text in (language, path, data_home, home) for argument in (text, len(text))]
     return _written(4096, _paths, *arguments)
+
+
+def exception_paths(language: bytes, path: bytes, data_home: bytes, home: bytes) -> bytes:
+    """Returns the paths at which the list of exceptions of a language is looked for, each with a NUL behind it."""
+    arguments = [argument for text in (language, path, data_home, home) for argument in (text, len(text))]
+    return _written(4096, _exception_paths, *arguments)
 
 
 class _Rooms:
@@ -173,6 +181,11 @@ class Handle:
 
     def edit(self, edit: bytes) -> None:
         _check(_edit(self._at, edit, len(edit)))
+
+    def add_exceptions(self, text: bytes) -> Loaded:
+        line, cause = c_size_t(), c_uint32()
+        status = _add_exceptions(self._at, text, len(text), byref(line), byref(cause))
+        return status, 0, line.value, cause.value
 
     def language(self) -> str:
         return _written(32, _language, self._at).decode()

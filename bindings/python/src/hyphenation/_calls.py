@@ -18,9 +18,9 @@ if _WANTED not in ("", "ctypes", "extension"):
 NAME = _WANTED or "extension"
 
 if TYPE_CHECKING:
-    from ._by_ctypes import Handle, cause_message, kind_of, paths
+    from ._by_ctypes import Handle, cause_message, exception_paths, kind_of, paths
 elif NAME == "ctypes":
-    from ._by_ctypes import Handle, cause_message, kind_of, paths
+    from ._by_ctypes import Handle, cause_message, exception_paths, kind_of, paths
 else:
     try:
         from . import _extension, _results
@@ -28,9 +28,9 @@ else:
         if _WANTED:
             raise
         NAME = "ctypes"
-        from ._by_ctypes import Handle, cause_message, kind_of, paths
+        from ._by_ctypes import Handle, cause_message, exception_paths, kind_of, paths
     else:
         _extension.start(_results.library_path(), _results.fail)
-        from ._extension import Handle, cause_message, kind_of, paths
+        from ._extension import Handle, cause_message, exception_paths, kind_of, paths
 
-__all__ = ("NAME", "Handle", "cause_message", "kind_of", "paths")
+__all__ = ("NAME", "Handle", "cause_message", "exception_paths", "kind_of", "paths")

@@ -1,7 +1,7 @@
 """What the calls of the library return: statuses, causes, breaks, and the exceptions that take the place of statuses."""
 
 import os
-from typing import Callable, Dict, List, NamedTuple, NoReturn, Tuple
+from typing import Callable, Dict, List, NamedTuple, NoReturn, Optional, Tuple
 
 DONE, NO_ROOM, OUT_OF_MEMORY, NO_DICTIONARY, NOT_UTF8, REFUSED, OTHER_KIND, NO_LANGUAGE = range(8)
 BAD_ENDS, NO_MINIMA, NO_EXCEPTION = 8, 9, 10
@@ -12,10 +12,11 @@ Loaded = Tuple[int, int, int, int]
 
 
 class TextRefused(ValueError):
-    """A dictionary text or a file of patterns is faulty.
+    """A dictionary text, a file of patterns or a list of exceptions is faulty.
 
     `line` is the first faulty line, counted from 1, and `cause` the message of the first test that it fails. `file` is 1
-    where the line is one of the exceptions that `Dictionary.from_patterns` got, and else 0.
+    where the line is one of the exceptions that `Dictionary.from_patterns` got, and else 0. `path` is the path of the list
+    of exceptions that `Dictionary.for_language` found, if the line is there, and else None.
 
     >>> from hyphenation import Dictionary
     >>> Dictionary(b"hyphenation 1 standard\\nlanguage en\\nx")
@@ -23,13 +24,14 @@ class TextRefused(ValueError):
     hyphenation.TextRefused: line 3: not a minima line
     """
 
-    def __init__(self, line: int, cause: str, file: int = 0) -> None:
-        """Takes the line, the message of the cause, and the number of the file."""
-        super().__init__("{}line {}: {}".format("exceptions, " if file else "", line, cause))
-        self.line, self.cause, self.file = line, cause, file
+    def __init__(self, line: int, cause: str, file: int = 0, path: Optional[str] = None) -> None:
+        """Takes the line, the message of the cause, the number of the file, and the path of a list of exceptions."""
+        where = path + ": " if path else "exceptions, " if file else ""
+        super().__init__("{}line {}: {}".format(where, line, cause))
+        self.line, self.cause, self.file, self.path = line, cause, file, path
 
-    def __reduce__(self) -> Tuple[Callable[..., "TextRefused"], Tuple[int, str, int]]:
-        return type(self), (self.line, self.cause, self.file)
+    def __reduce__(self) -> Tuple[Callable[..., "TextRefused"], Tuple[int, str, int, Optional[str]]]:
+        return type(self), (self.line, self.cause, self.file, self.path)
 
 
 class EditRefused(ValueError):

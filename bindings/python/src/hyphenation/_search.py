@@ -1,4 +1,4 @@
-"""The search for the dictionary of a language."""
+"""The search for the dictionary of a language, and for its list of exceptions."""
 
 import importlib.util
 import os
@@ -26,6 +26,12 @@ def paths(language: str, *values: bytes) -> List[str]:
     return list(map(os.fsdecode, found.split(b"\0")[:-1]))
 
 
+def exception_paths(language: str, *values: bytes) -> List[str]:
+    """Returns the paths at which the list of exceptions of a language is looked for, in their order, by the same values."""
+    found = _calls.exception_paths(encoded(language), *values)
+    return list(map(os.fsdecode, found.split(b"\0")[:-1]))
+
+
 def packaged() -> Optional[str]:
     """Returns the folder of the package of dictionaries, or None if it is not installed as a folder."""
     try:
@@ -40,20 +46,23 @@ def _code(path: str) -> str:
     return os.path.basename(path).split(".")[0]
 
 
-def _with_folder(searched: List[str], folder: str) -> Iterator[str]:
-    """Yields paths, and behind those of each code the paths of that code in one folder more."""
+def _with_folder(searched: List[str], folder: str, *endings: str) -> Iterator[str]:
+    """Yields paths, and behind those of each code the paths of that code with these endings in one folder more."""
     for at, path in enumerate(searched):
         yield path
         if at + 1 == len(searched) or _code(searched[at + 1]) != _code(path):
-            for ending in (".txt", ".extended.txt"):
+            for ending in endings:
                 yield os.path.join(folder, _code(path) + ending)
+
+
+def _values() -> Iterator[bytes]:
+    return map(value, ("HYPHENATION_PATH", "XDG_DATA_HOME", "HOME"))
 
 
 def searched(language: str) -> List[str]:
     """Returns the paths at which the dictionary of a language is looked for, in their order."""
-    found = paths(language, *map(value, ("HYPHENATION_PATH", "XDG_DATA_HOME", "HOME")))
-    folder = packaged()
-    return list(_with_folder(found, folder)) if folder else found
+    found, folder = paths(language, *_values()), packaged()
+    return list(_with_folder(found, folder, ".txt", ".extended.txt")) if folder else found
 
 
 def dictionary_path(language: str) -> Optional[str]:
@@ -71,3 +80,17 @@ def dictionary_path(language: str) -> Optional[str]:
     True
     """
     return next((path for path in searched(language) if os.path.isfile(path)), None)
+
+
+def exceptions_path(language: str) -> Optional[str]:
+    """Finds the list of exceptions of a language: words of the user's own, as `Dictionary.add_exceptions` takes them.
+
+    It is a file such as de.exceptions, and is searched in the folders and by the names of `dictionary_path`; the first one
+    is taken. The result is its path, or None if there is none. The errors are those of `dictionary_path`.
+
+    >>> exceptions_path("../x") is None
+    True
+    """
+    found, folder = exception_paths(language, *_values()), packaged()
+    searched = _with_folder(found, folder, ".exceptions") if folder else iter(found)
+    return next(filter(os.path.isfile, searched), None)
