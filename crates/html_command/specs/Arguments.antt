@@ -7,6 +7,8 @@ use Rattle.command_line.specs.declared.options.Expected.TheVariants.{CodeAlone, 
 use Rattle.hyphenation_breaks.specs.Borrowed.{texts_now}
 use Rattle.hyphenation_breaks.specs.Language.{is_code}
 use Rattle.hyphenation_html.specs.Laws.{soft_hyphen}
+use Rattle.text_results.specs.Removals.{ParsedRemoval, removal_of}
+use Rattle.text_results.specs.declared.removal.Source.TheVariants.{Page}
 use Rattle.text_results.specs.Targets.{Target, target_of, names_for}
 use Rattle.html_command.specs.declared.TheConstants.{USAGE}
 
@@ -23,7 +25,7 @@ pub record ParsedOptions : Type 0 where
   pub skip_capitals : Bool
   pub target : Target
 
--- Arguments: the options, and the names of the pages.
+-- The arguments of marks: the options, and the names of the pages.
 pub record ParsedArgs : Type 0 where
   pub options : ParsedOptions
   pub inputs : List (List ℕ)
@@ -96,6 +98,20 @@ args_of options names =
 abbrev pub args_as_read : ReadArguments → Result ParsedArgs RefusedArgument
 args_as_read read = after_step (λ options. args_of options read.operands) (options_of read.given)
 
--- All arguments as they are parsed, or the first that is refused.
-abbrev pub parsed_args : List (Bor (List ℕ)) → Result ParsedArgs RefusedArgument
-parsed_args args = after_step args_as_read (read_arguments (options_in USAGE.now) (texts_now args))
+-- The task of arguments: marks are put in, or soft hyphens are taken out.
+pub data Task : Type 0 where
+  Marks : ParsedArgs → Task
+  Removes : ParsedRemoval → Task
+
+-- The task of arguments that ask for this removal, or for none.
+abbrev pub task_by : Option ParsedRemoval → ReadArguments → Result Task RefusedArgument
+task_by (Some removal) read = Ok (Removes removal)
+task_by None read = after_step (λ args. Ok (Marks args)) (args_as_read read)
+
+-- The task of arguments that are read.
+abbrev pub task_as_read : ReadArguments → Result Task RefusedArgument
+task_as_read read = after_step (λ removal. task_by removal read) (removal_of Page read)
+
+-- The task of all arguments, or the first that is refused.
+abbrev pub parsed_args : List (Bor (List ℕ)) → Result Task RefusedArgument
+parsed_args args = after_step task_as_read (read_arguments (options_in USAGE.now) (texts_now args))

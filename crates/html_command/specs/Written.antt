@@ -16,10 +16,11 @@ use Rattle.hyphenation_html.specs.Places.{marked_page, IsDone}
 use Rattle.hyphenation_html.specs.declared.languages.LanguageDictionary.{LanguageDictionary}
 use Rattle.hyphenation_html.specs.declared.settings.Settings.{Settings}
 use Rattle.text_results.specs.Files.{WrittenFiles}
+use Rattle.text_results.specs.Removals.{EndsRemoval}
 use Rattle.text_results.specs.Texts.{IsFailureAmong}
 use Rattle.text_results.specs.Written.{EndsFailed, EndsRefused, WritesResults}
 use Rattle.html_command.specs.declared.TheConstants.{NAME, USAGE}
-use Rattle.html_command.specs.Arguments.{ParsedArgs, ParsedOptions, parsed_args}
+use Rattle.html_command.specs.Arguments.{ParsedArgs, ParsedOptions, Task, Marks, Removes, parsed_args}
 use Rattle.html_command.specs.Notes.{MarkedPage, note_on, notes_of, notes_text, texts_of}
 use Rattle.html_command.specs.Dictionaries.{code_of, AreDictionariesFor, HasCodesOf, IsRefusedFor, tags_for}
 
@@ -90,24 +91,27 @@ EndsNoted args bytes_of usual left contents old new written old_files new_files 
     written old_files new_files
 
 -- How the program ends for its arguments: one is refused, or the results of its pages are written or fail.
-abbrev pub EndsFor : {W S : Type 0} → Result ParsedArgs RefusedArgument → KnownFiles → List (List ℕ) → Option (List ℕ)
+abbrev pub EndsFor : {W S : Type 0} → Result Task RefusedArgument → KnownFiles → List (List ℕ) → Option (List ℕ)
     → (W → Option (List ℕ)) → W → W → (S → Option WrittenFiles) → S → S → End → Type 0
 EndsFor (Err refused) bytes_of usual left contents old new written old_files new_files end =
     EndsRefused refused old_files new_files end
-EndsFor (Ok args) bytes_of usual left contents old new written old_files new_files (Done notes) =
+EndsFor (Ok (Removes removal)) bytes_of usual left contents old new written old_files new_files end =
+    EndsRemoval removal bytes_of left contents old new written old_files new_files end
+EndsFor (Ok (Marks args)) bytes_of usual left contents old new written old_files new_files (Done notes) =
     EndsNoted args bytes_of usual left contents old new written old_files new_files notes
-EndsFor (Ok args) bytes_of usual left contents old new written old_files new_files (Fails failure) =
+EndsFor (Ok (Marks args)) bytes_of usual left contents old new written old_files new_files (Fails failure) =
     EndsFailed (AreTextsOfResults args bytes_of usual left) (IsFailureBefore args bytes_of usual left) args.options.target
     args.inputs old new written old_files new_files failure
-EndsFor (Ok args) bytes_of usual left contents old new written old_files new_files (Refuses refused) = ⊥
+EndsFor (Ok (Marks args)) bytes_of usual left contents old new written old_files new_files (Refuses refused) = ⊥
 
 -- Standard input is none of the pages of arguments, or one of the arguments is refused.
-abbrev pub names_files_alone : Result ParsedArgs RefusedArgument → Bool
-names_files_alone (Ok args) = not (list_any is_standard_input args.inputs)
+abbrev pub names_files_alone : Result Task RefusedArgument → Bool
+names_files_alone (Ok (Removes removal)) = not (list_any is_standard_input removal.inputs)
+names_files_alone (Ok (Marks args)) = not (list_any is_standard_input args.inputs)
 names_files_alone (Err refused) = true
 
 -- The program ends so for its arguments, as they are parsed. Standard input is as it was if it is none of the pages.
-abbrev pub EndsParsed : {W S I : Type 0} → Result ParsedArgs RefusedArgument → KnownFiles → List (List ℕ) → (I → Option (List ℕ)) → I → I
+abbrev pub EndsParsed : {W S I : Type 0} → Result Task RefusedArgument → KnownFiles → List (List ℕ) → (I → Option (List ℕ)) → I → I
     → (W → Option (List ℕ)) → W → W → (S → Option WrittenFiles) → S → S → End → Type 0
 EndsParsed parsed bytes_of usual remaining before after contents old new written old_files new_files end =
     EndsFor parsed bytes_of usual (remaining before) contents old new written old_files new_files end

@@ -1,6 +1,7 @@
 //! The program `hyphenate-html` without its `main`: its arguments, messages and statuses.
 //!
-//! It puts a mark into pages where the words of their text may be broken, and leaves all else as it is.
+//! It puts a mark into pages where the words of their text may be broken, and leaves all else as it is. Or it takes soft
+//! hyphens out.
 #![tactic(auto)]
 
 ghost use Rattle.std.specs.Prelude.{◌≡◌, true, Ok, Some, is_some};
@@ -9,8 +10,7 @@ ghost use Rattle.command_line.specs.Endings.{EndsBy, Tells};
 ghost use Rattle.command_line.specs.Statuses.{BeforeOutput};
 ghost use Rattle.hyphenation_breaks.specs.Borrowed.{texts_now};
 ghost use Rattle.html_command.specs.Arguments.{parsed_args};
-ghost use Rattle.html_command.specs.Notes.{notes_text};
-ghost use Rattle.html_command.specs.Private.Requests.{parsed_request};
+ghost use Rattle.html_command.specs.Private.Requests.{noted_text, parsed_task};
 ghost use Rattle.html_command.specs.Written.{EndsParsed, EndsUnlessAsked, asked_text};
 
 mod dictionaries;
@@ -21,11 +21,12 @@ mod run;
 use command_line::options::ReadError;
 use command_line::{Failure, Messages, NamedFiles, Notes, ProgramSteps, ProgramTexts, VERSION};
 use notes::{PageNote, write_notes};
-use request::Request;
+use request::{Request, Task};
 use run::run;
 use std::alloc::Global;
 use std::io::{Read, Write};
 pub use text_results::files::{Recorded, ReplaceFiles};
+use text_results::removal::remove;
 
 /// A call of the program: its arguments, and the folders in which dictionaries are searched that no path names.
 #[derive(Clone, Copy)]
@@ -42,6 +43,7 @@ pub const NAME: &str = "hyphenate-html";
 /// The usage, for `--help`. The arguments are read by the options that it has.
 pub const USAGE: &str = "\
 usage: hyphenate-html [OPTION..] [FILE..]
+       hyphenate-html --remove [OPTION..] [FILE..]
        hyphenate-html -h | --help
        hyphenate-html --version
 Writes HTML or XHTML pages with soft hyphens in the words of their text.
@@ -55,6 +57,8 @@ Writes HTML or XHTML pages with soft hyphens in the words of their text.
                           those of the class donthyphenate
   --min-word N            shorter words are left alone; N counts characters
   --skip-capitals         words that begin with a capital are left alone
+  --remove                soft hyphens of the text are taken out, as character
+                          references too, and none are put in
   -o, --output FILE       the results go into this file, which is replaced
   -i, --in-place          each FILE is replaced by its result
 Of an extended dictionary the breaks that change no letter are used.
@@ -63,20 +67,28 @@ Of an extended dictionary the breaks that change no letter are used.
 /// The message if memory was refused.
 pub const NO_MEMORY: &str = "hyphenate-html: no memory\n";
 
-// The notes on the pages of a request.
+// The notes of a task that is done: those on pages that got marks. There are none where soft hyphens were taken out.
 #[derive(Drop)]
-struct Noted<'w> {
-    request: Request<'w>,
-    notes: Vec<PageNote>,
+enum Noted<'w> {
+    Marked {
+        request: Request<'w>,
+        notes: Vec<PageNote>,
+    },
+    Removed,
 }
 
 impl<'w> Notes for Noted<'w> {
-    ghost use Rattle.html_command.specs.declared.TheConstants.{NAME};
+    ghost use Rattle.html_command.specs.Private.Requests.{noted_text};
 
-    ghost text = { λ noted. notes_text NAME.now (texts_now noted.request.inputs.items) noted.notes.items };
+    ghost text = { noted_text };
 
     fn tell<E: Write>(&self, alloc: Global, errors: &mut Messages<E>) {
-        write_notes(alloc, NAME, &self.request.inputs, &self.notes, errors);
+        match self {
+            Noted::Marked { request, notes } => {
+                write_notes(alloc, NAME, &request.inputs, notes, errors);
+            }
+            Noted::Removed => {}
+        }
     }
 }
 
@@ -88,13 +100,13 @@ struct Html<'w, F> {
 }
 
 impl<'w, F: NamedFiles, S: ReplaceFiles, I: Read, O: Write> ProgramSteps<S, I, O> for Html<'w, F> {
-    type Request = Request<'w>;
+    type Request = Task<'w>;
 
     type Told = Noted<'w>;
 
     ghost args = { λ program. program.call.args.now };
 
-    ghost is_request = { λ program request. parsed_args program.call.args.now ≡ Ok (parsed_request request) };
+    ghost is_request = { λ program task. parsed_args program.call.args.now ≡ Ok (parsed_task task) };
 
     ghost ends = { λ program end old_files new_files before after old new. EndsParsed (parsed_args program.call.args.now)
         (F.bytes program.files.now) (texts_now program.call.folders.now) I.remaining before after
@@ -106,22 +118,32 @@ impl<'w, F: NamedFiles, S: ReplaceFiles, I: Read, O: Write> ProgramSteps<S, I, O
         self.call.args
     }
 
-    fn request(&self, alloc: Global) -> Result<Request<'w>, ReadError<'_>> {
-        Request::from_args(alloc, self.call.args)
+    fn request(&self, alloc: Global) -> Result<Task<'w>, ReadError<'_>> {
+        Task::from_args(alloc, self.call.args)
     }
 
     fn run(
         &self,
         alloc: Global,
-        request: Request<'w>,
+        task: Task<'w>,
         store: &mut S,
         input: &mut I,
         output: &mut O,
     ) -> Result<Noted<'w>, Failure> {
         let folders = self.call.folders;
-        match run(self.files, store, alloc, &request, folders, input, output) {
-            Ok(notes) => Ok(Noted { request, notes }),
-            Err(failure) => Err(failure),
+        match task {
+            Task::Mark(request) => {
+                match run(self.files, store, alloc, &request, folders, input, output) {
+                    Ok(notes) => Ok(Noted::Marked { request, notes }),
+                    Err(failure) => Err(failure),
+                }
+            }
+            Task::Remove(removal) => {
+                match remove(self.files, store, alloc, &removal, input, output) {
+                    Ok(()) => Ok(Noted::Removed),
+                    Err(refused) => Err(refused),
+                }
+            }
         }
     }
 }

@@ -4,14 +4,17 @@ ghost use Rattle.std.specs.Prelude.{◌≡◌, ◌==◌, IfErr, IfOk, Ok, Err, m
 ghost use Rattle.hyphenation_breaks.specs.Borrowed.{texts_now};
 ghost use Rattle.command_line.specs.Reading.{as_read, as_refused, given_options, IsReadError};
 ghost use Rattle.html_command.specs.Arguments.{code_and_path, dictionaries_of, dictionaries_given};
-ghost use Rattle.html_command.specs.Arguments.{language_given, options_with, options_of, args_of, args_as_read, parsed_args};
-ghost use Rattle.html_command.specs.Private.Requests.{parsed_dictionary, parsed_options, parsed_request, AreAsWanted};
+ghost use Rattle.html_command.specs.Arguments.{language_given, options_with, options_of, args_of, args_as_read};
+ghost use Rattle.html_command.specs.Arguments.{task_by, task_as_read, parsed_args};
+ghost use Rattle.html_command.specs.Private.Requests.{parsed_dictionary, parsed_options, parsed_request, parsed_task, AreAsWanted};
+ghost use Rattle.text_results.specs.Reading.{parsed_removal};
 
 use crate::USAGE;
 use command_line::options::{Arguments, BadArgument, Expected, ReadError, read};
 use hyphenation_breaks::language::Language;
 use hyphenation_html::Settings;
 use std::alloc::Global;
+use text_results::removal::{Removal, Source, removal_of};
 use text_results::targets::{Target, names_for, target_of};
 
 /// A dictionary that the arguments give.
@@ -38,7 +41,16 @@ pub struct Options<'w> {
     pub target: Target<'w>,
 }
 
-/// The arguments as parsed.
+/// The task that arguments ask for.
+#[derive(Drop)]
+pub enum Task<'w> {
+    /// Marks are put in.
+    Mark(Request<'w>),
+    /// Soft hyphens are taken out.
+    Remove(Removal<'w>),
+}
+
+/// The arguments of marks, as parsed.
 #[derive(Drop)]
 pub struct Request<'w> {
     /// The options.
@@ -173,7 +185,7 @@ fn with_names<'w>(
     Ok(Request { options, inputs })
 }
 
-// Returns the request of arguments that are read.
+// Returns the marks that arguments ask for.
 fn of_arguments<'w>(alloc: Global, arguments: &Arguments<'w>) -> Result<Request<'w>, ReadError<'w>>
     ensures parsed { IfOk result (λ request. args_as_read (as_read arguments.now) ≡ Ok (parsed_request request)) }
     ensures refused { IfErr result (IsReadError (args_as_read (as_read arguments.now))) }
@@ -182,13 +194,40 @@ fn of_arguments<'w>(alloc: Global, arguments: &Arguments<'w>) -> Result<Request<
     with_names(alloc, options, &arguments.operands)
 }
 
-impl<'w> Request<'w> {
+// Returns the task of arguments that ask for this removal, or for none.
+fn task_of_page<'w>(
+    alloc: Global,
+    removal: Option<Removal<'w>>,
+    arguments: &Arguments<'w>,
+) -> Result<Task<'w>, ReadError<'w>>
+    ensures parsed { IfOk result (λ task.
+        task_by (option_map parsed_removal removal.entry) (as_read arguments.now) ≡ Ok (parsed_task task)) }
+    ensures refused { IfErr result
+        (IsReadError (task_by (option_map parsed_removal removal.entry) (as_read arguments.now))) }
+{
+    if let Some(removal) = removal {
+        return Ok(Task::Remove(removal));
+    }
+    let request = of_arguments(alloc, arguments)?;
+    Ok(Task::Mark(request))
+}
+
+// Returns the task of arguments that are read.
+fn task_of_pages<'w>(alloc: Global, arguments: &Arguments<'w>) -> Result<Task<'w>, ReadError<'w>>
+    ensures parsed { IfOk result (λ task. task_as_read (as_read arguments.now) ≡ Ok (parsed_task task)) }
+    ensures refused { IfErr result (IsReadError (task_as_read (as_read arguments.now))) }
+{
+    let removal = removal_of(alloc, Source::Page, arguments)?;
+    task_of_page(alloc, removal, arguments)
+}
+
+impl<'w> Task<'w> {
     /// Parses arguments `[OPTION..] [FILE..]`. The error is the first that is refused, or says that memory was refused.
-    pub fn from_args(alloc: Global, args: &'w [&'w str]) -> Result<Request<'w>, ReadError<'w>>
-        ensures parsed { IfOk result (λ request. parsed_args args.now ≡ Ok (parsed_request request)) }
+    pub fn from_args(alloc: Global, args: &'w [&'w str]) -> Result<Task<'w>, ReadError<'w>>
+        ensures parsed { IfOk result (λ task. parsed_args args.now ≡ Ok (parsed_task task)) }
         ensures refused { IfErr result (IsReadError (parsed_args args.now)) }
     {
         let arguments = read(alloc, USAGE, args)?;
-        of_arguments(alloc, &arguments)
+        task_of_pages(alloc, &arguments)
     }
 }

@@ -43,8 +43,9 @@ fn push_piece(alloc: Global, rest: &mut String, piece: &Piece<'_>) -> Result<(),
 
 /// Returns an HTML or XHTML page without the soft hyphens of its text.
 ///
-/// So `&shy;` is taken out, and a number of U+00AD, as `&#173;` and `&#x00AD;`, with or without its semicolon. Tags,
-/// comments, scripts and styles stay as they are, and so do all other references. The error says that memory was refused.
+/// So `&shy;` is taken out, and a number of U+00AD, as `&#173;` and `&#x00AD;`. The semicolon may be missing where no letter
+/// or digit follows. Tags, comments, scripts and styles stay as they are, and so do all other references. The error says
+/// that memory was refused.
 ///
 /// ```text
 /// remove_from_page(alloc, "<p title='a&shy;b'>fir&shy;kin")?     // <p title='a&shy;b'>firkin

@@ -1,14 +1,20 @@
 -- How a request in code corresponds to parsed arguments.
-use Rattle.std.specs.Prelude.{◌≡◌, ℕ, List, map, option_copied, Result, Ok, Err}
+use Rattle.std.specs.Prelude.{◌≡◌, ℕ, List, [], map, option_copied, Result, Ok, Err}
 use Rattle.hyphenation_breaks.specs.Borrowed.{texts_now}
 use Rattle.command_line.specs.Options.{RefusedArgument}
 use Rattle.command_line.specs.Reading.{as_refused}
 use Rattle.command_line.specs.declared.options.BadArgument.{BadArgument}
-use Rattle.text_results.specs.Reading.{as_target}
-use Rattle.html_command.specs.Arguments.{ParsedArgs, ParsedOptions}
+use Rattle.text_results.specs.Reading.{as_target, parsed_removal}
+use Rattle.html_command.specs.Arguments.{ParsedArgs, ParsedOptions, Task, Marks, Removes}
+use Rattle.html_command.specs.Notes.{notes_text}
+use Rattle.html_command.specs.declared.Noted.{Noted}
+use Rattle.html_command.specs.declared.Noted.TheVariants.{Marked, Removed}
+use Rattle.html_command.specs.declared.TheConstants.{NAME}
 use Rattle.html_command.specs.declared.request.GivenDictionary.{GivenDictionary}
 use Rattle.html_command.specs.declared.request.Options.{Options}
 use Rattle.html_command.specs.declared.request.Request.{Request}
+use Rattle.html_command.specs.declared.request.Task.{Task as TaskInCode}
+use Rattle.html_command.specs.declared.request.Task.TheVariants.{Mark, Remove}
 
 -- The code and the path of a dictionary that is given.
 abbrev pub parsed_dictionary : GivenDictionary → List ℕ × List ℕ
@@ -30,6 +36,16 @@ parsed_options options = record {
 -- The parsed arguments of a request.
 abbrev pub parsed_request : Request → ParsedArgs
 parsed_request request = record { options = parsed_options request.options; inputs = texts_now request.inputs.items }
+
+-- The parsed task.
+abbrev pub parsed_task : TaskInCode → Task
+parsed_task (Mark request) = Marks (parsed_request request)
+parsed_task (Remove removal) = Removes (parsed_removal removal)
+
+-- The text of the notes of a task that is done.
+abbrev pub noted_text : Noted → List ℕ
+noted_text (Marked request notes) = notes_text NAME.now (texts_now request.inputs.items) notes.items
+noted_text Removed = []
 
 -- Options are as wanted, or the wanted refusal.
 abbrev pub AreAsWanted : Result Options BadArgument → Result ParsedOptions RefusedArgument → Type 0
