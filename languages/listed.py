@@ -86,14 +86,18 @@ def row_there(same, searched):
     return next(((row, paths) for row in same for paths in [paths_of(row, searched)] if paths), None)
 
 
-def variable(name):
-    """The value of an environment variable; empty if it is not there, or not UTF-8: the programs ignore it then."""
-    value = os.environ.get(name, "")
+def is_utf8(name):
+    """Whether an environment variable is UTF-8, or not there."""
     try:
-        os.fsencode(value).decode()
+        os.fsencode(os.environ.get(name, "")).decode()
     except UnicodeDecodeError:
-        return ""
-    return value
+        return False
+    return True
+
+
+def variable(name):
+    """The value of an environment variable; empty if it is not there, or not UTF-8."""
+    return os.environ.get(name, "") if is_utf8(name) else ""
 
 
 def folders_of_user():

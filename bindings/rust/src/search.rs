@@ -5,9 +5,12 @@ use crate::dictionary::done;
 use std::env;
 use std::path::{Path, PathBuf};
 
-// The value of a variable of the environment; empty if it is missing or not UTF-8.
+// The value of a variable of the environment; empty if it is missing, or not UTF-8. `HYPHENATION_PATH` is refused then.
 fn value(name: &str) -> String {
-    env::var(name).unwrap_or_default()
+    match env::var(name) {
+        Err(env::VarError::NotUnicode(_)) if name == "HYPHENATION_PATH" => panic!("{name}: not UTF-8"),
+        value => value.unwrap_or_default(),
+    }
 }
 
 /// The paths at which the dictionary of a language is looked for, or its list of exceptions, in their order.
@@ -30,7 +33,7 @@ pub(crate) fn paths_of(sought: Sought, tag: &str) -> Vec<PathBuf> {
 ///
 /// # Panics
 ///
-/// Where memory is refused.
+/// Where memory is refused, or `HYPHENATION_PATH` is not UTF-8.
 pub fn dictionary_path(language: &str) -> Option<PathBuf> {
     paths_of(Sought::Dictionary, language).into_iter().find(|path| path.is_file())
 }

@@ -39,13 +39,8 @@ abbrev pub called_by_first : List (List ℕ) → Option (Program × List (List �
 called_by_first [] = None
 called_by_first (name ∷ args) = with_args (program_of name) args
 
--- The program of the name by which a file was called, with its arguments. Where that is the name of no program, the first
--- argument names it.
-abbrev pub called_as : Option Program → List (List ℕ) → Option (Program × List (List ℕ))
-called_as None args = called_by_first args
-called_as (Some called) args = Some (called, args)
-
--- The program that a command line calls, with its arguments. The first word is the path of the file that was called.
-abbrev pub called : List (List ℕ) → Option (Program × List (List ℕ))
-called [] = None
-called (path ∷ args) = called_as (program_of (file_name path)) args
+-- The program that a command line calls, with its arguments: that of the name by which the file was called. Where that is the
+-- name of no program, the first argument names it.
+abbrev pub called : Option Program → List (List ℕ) → Option (Program × List (List ℕ))
+called None args = called_by_first args
+called (Some program) args = Some (program, args)

@@ -21,8 +21,9 @@ pub use failure::{Failure, InputRefusal, report};
 use hyphenation_load::is_out_of_memory;
 pub use messages::{Messages, done};
 pub use named_files::{Listed, NamedFiles};
+use programs::{Program, program_at};
 use std::alloc::Global;
-use std::env::Env;
+use std::env::{Env, FillError};
 use std::fmt::Display;
 use std::io::{ErrorKind, Write};
 use std::{env, io};
@@ -31,16 +32,45 @@ pub use steps::{Notes, ProgramSteps, ProgramTexts, answer};
 /// The version of all programs. The file `VERSION` has the same, and `tests/figures` compares them.
 pub const VERSION: &str = "0.1.0";
 
-/// Calls a function with the words of the command line, and returns what that returns.
+/// Returns the program by whose name the file was called, by the path that is the first word of the command line.
 ///
-/// The first word is the path by which the program was called. The error says that a word is not UTF-8, or, of the kind
-/// `OutOfMemory`, that memory was refused.
-pub fn with_words<R: Env + Alloc, T, F: FnOnce(&[&str]) -> T>(rt: &R, call: F) -> io::Result<T>
+/// `None` if there is no such path, or it is no program's. The path may be any bytes, at most 4,096.
+pub fn program_of_call<R: Env>(rt: &R) -> Option<Program> {
+    let mut path = [0; 4096];
+    let bytes = rt.arg(0, &mut path).ok()?;
+    program_at(path.get(..bytes)?)
+}
+
+// The command line without its first word.
+#[derive(Clone, Copy)]
+struct AfterFirst<'r, R> {
+    rt: &'r R,
+}
+
+impl<R: Env> Env for AfterFirst<'_, R> {
+    fn arg(&self, i: usize, buf: &mut [u8]) -> Result<usize, FillError> {
+        self.rt.arg(i.saturating_add(1), buf)
+    }
+
+    fn var(&self, name: &str, buf: &mut [u8]) -> Result<usize, FillError> {
+        self.rt.var(name, buf)
+    }
+
+    fn var_at(&self, i: usize, buf: &mut [u8]) -> Result<usize, FillError> {
+        self.rt.var_at(i, buf)
+    }
+}
+
+/// Calls a function with the arguments of the command line, and returns what that returns.
+///
+/// They are the words after the path by which the program was called. The error says that one of them is not UTF-8, or,
+/// of the kind `OutOfMemory`, that memory was refused.
+pub fn with_args<R: Env + AllocGlobal, T, F: FnOnce(&[&str]) -> T>(rt: &R, call: F) -> io::Result<T>
     requires { F.IsAlwaysCallable call }
 {
-    let words: Vec<String<R::A>, R::A> = env::args(rt)?.collect(rt.alloc())?;
-    let words: Vec<&str, R::A> = words.iter().map(|word| word.as_str()).collect(rt.alloc())?;
-    Ok(call(&words))
+    let args: Vec<String> = env::args(&(AfterFirst { rt }, rt.alloc()))?.collect(rt.alloc())?;
+    let args: Vec<&str> = args.iter().map(|arg| arg.as_str()).collect(rt.alloc())?;
+    Ok(call(&args))
 }
 
 /// Writes why the arguments could not be had, and returns the status to end with.

@@ -1,6 +1,6 @@
 //! The programs that one file holds, and which of them a command line calls.
 
-ghost use Rattle.std.specs.Prelude.{◌≡◌, option_map};
+ghost use Rattle.std.specs.Prelude.{◌≡◌, Some, option_map};
 ghost use Rattle.hyphenation_breaks.specs.Borrowed.{texts_now};
 ghost use Rattle.command_line.specs.Programs.{called, called_by_first, file_name, program_of};
 
@@ -21,6 +21,24 @@ pub enum Program {
     Lines,
     /// `hyphenate-text`
     Text,
+}
+
+impl Program {
+    /// Returns the name of the program, such as `hyphenate-lines`.
+    #[tactic(auto, unfolding(crate::specs::Programs::program_of))]
+    pub fn name(self) -> &'static str
+        ensures { program_of result.now ≡ Some self }
+    {
+        match self {
+            Program::Hyphenate => "hyphenate",
+            Program::Canonical => "hyphenate-canonical",
+            Program::Convert => "hyphenate-convert",
+            Program::Explain => "hyphenate-explain",
+            Program::Html => "hyphenate-html",
+            Program::Lines => "hyphenate-lines",
+            Program::Text => "hyphenate-text",
+        }
+    }
 }
 
 // Returns the name of the file at a path.
@@ -74,19 +92,18 @@ pub fn program_at(path: &[u8]) -> Option<Program>
 
 /// Returns the program that a command line calls, with its arguments. `None` if it calls none.
 ///
-/// The first word is the path of the file that was called, and the last part of it the name of the program. Where that
-/// is no program's name, the next word names it.
+/// `program` is the one by whose name the file was called, as [`program_at`] returns it. Where there is none, the first
+/// argument names the program.
 ///
 /// ```text
-/// called(&["/usr/bin/hyphenate-lines", "de"])             // Some((Program::Lines, ["de"]))
-/// called(&["./programs", "hyphenate-lines", "de"])        // the same
-/// called(&["./programs", "de"])                           // None
+/// called(program_at(b"/usr/bin/hyphenate-lines"), &["de"])            // Some((Program::Lines, ["de"]))
+/// called(program_at(b"./programs"), &["hyphenate-lines", "de"])       // the same
+/// called(program_at(b"./programs"), &["de"])                          // None
 /// ```
-pub fn called<'w>(words: &'w [&'w str]) -> Option<(Program, &'w [&'w str])>
-    ensures { option_map (λ found. (found.0, texts_now found.1.now)) result ≡ called (texts_now words.now) }
+pub fn called<'w>(program: Option<Program>, args: &'w [&'w str]) -> Option<(Program, &'w [&'w str])>
+    ensures { option_map (λ found. (found.0, texts_now found.1.now)) result ≡ called program (texts_now args.now) }
 {
-    let (path, args) = words.split_first()?;
-    match program_at(path.as_bytes()) {
+    match program {
         Some(program) => Some((program, args)),
         None => called_by_first(args),
     }

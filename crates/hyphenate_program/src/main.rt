@@ -3,9 +3,9 @@
 //! `main` hands the arguments to `answer` of that program's crate, which does the rest. Tests call that.
 #![tactic(auto)]
 
-use command_line::folders::default_folders;
-use command_line::programs::{Program, called, program_at};
-use command_line::{Messages, report_bad_args, with_words};
+use command_line::folders::{FoldersError, default_folders};
+use command_line::programs::{Program, called};
+use command_line::{Messages, program_of_call, report_bad_args, with_args};
 use language_search::folders_of;
 use std::alloc::AllocError;
 use std::env::Env;
@@ -49,16 +49,9 @@ fn no_memory_of(program: Program) -> &'static str {
     }
 }
 
-// Returns the program by whose name the file was called, where the command line can't be had as a list of texts.
-fn program_of_file(rt: &HostRuntime) -> Option<Program> {
-    let mut path = [0; 4096];
-    let bytes = rt.arg(0, &mut path).ok()?;
-    program_at(path.get(..bytes)?)
-}
-
-// Writes why the command line can't be had, and returns the status.
-fn report_no_words(rt: &HostRuntime, error: &io::Error) -> u8 {
-    let (usage, no_memory) = match program_of_file(rt) {
+// Writes why the arguments can't be had as texts, and returns the status.
+fn report_no_args(rt: &HostRuntime, error: &io::Error) -> u8 {
+    let (usage, no_memory) = match program_of_call(rt) {
         Some(program) => (usage_of(program), no_memory_of(program)),
         None => (USAGE, NO_MEMORY),
     };
@@ -107,40 +100,69 @@ fn given_folders(rt: &HostRuntime, word: &str) -> Result<Option<Vec<String>>, Al
     }
 }
 
-// Does what a command line asks for, with these folders of dictionaries.
-fn run_in(rt: &HostRuntime, words: &[&str], folders: &[String]) -> Result<u8, AllocError> {
+// Does the work of a program with these folders of dictionaries.
+fn run_in(
+    rt: &HostRuntime,
+    program: Program,
+    args: &[&str],
+    folders: &[String],
+) -> Result<u8, AllocError> {
     let folders: Vec<&str> = folders
         .iter()
         .map(|folder| folder.as_str())
         .collect(rt.alloc())?;
-    match called(words) {
-        Some((program, args)) => Ok(run(rt, program, args, &folders)),
-        None => {
-            let _ = rt.stderr().write_all(USAGE.as_bytes());
-            Ok(2)
-        }
+    Ok(run(rt, program, args, &folders))
+}
+
+// Writes that the variable of the folders is not UTF-8, and returns the status.
+fn report_bad_variable(rt: &HostRuntime, program: Program) -> u8 {
+    let message = format_args!("{}: HYPHENATION_PATH: not UTF-8\n", program.name());
+    Messages::new(rt.stderr()).write(rt.alloc(), &message);
+    2
+}
+
+// Does the work of a program with the folders of dictionaries that the environment names, if it searches there.
+fn run_program(rt: &HostRuntime, program: Program, args: &[&str]) -> Result<u8, AllocError> {
+    match program {
+        Program::Hyphenate | Program::Convert => Ok(run(rt, program, args, &[])),
+        _ => match default_folders(rt) {
+            Ok(folders) => run_in(rt, program, args, &folders),
+            Err(FoldersError::NotUtf8) => Ok(report_bad_variable(rt, program)),
+            Err(FoldersError::Memory) => Err(AllocError),
+        },
     }
 }
 
-// Does what a command line asks for. A trial run has no environment, so the folders may come before the program's name.
-fn run_words(rt: &HostRuntime, words: &[&str]) -> Result<u8, AllocError> {
-    if words.len() > 1 && called(&*words).is_none() {
-        if let Some(folders) = given_folders(rt, words[1])? {
-            return run_in(rt, &words[1..], &folders);
+// Does what arguments ask for that name no program first. A trial run has no environment, so the folders may come before
+// the program's name.
+fn run_tried(rt: &HostRuntime, args: &[&str]) -> Result<u8, AllocError> {
+    if let Some((first, others)) = args.split_first() {
+        if let Some(folders) = given_folders(rt, first)? {
+            if let Some((program, args)) = called(None, others) {
+                return run_in(rt, program, args, &folders);
+            }
         }
     }
-    let folders = default_folders(rt)?;
-    run_in(rt, words, &folders)
+    let _ = rt.stderr().write_all(USAGE.as_bytes());
+    Ok(2)
+}
+
+// Does what a command line asks for.
+fn run_args(rt: &HostRuntime, args: &[&str]) -> Result<u8, AllocError> {
+    match called(program_of_call(rt), args) {
+        Some((program, args)) => run_program(rt, program, args),
+        None => run_tried(rt, args),
+    }
 }
 
 fn main(rt: HostRuntime) -> ExitCode {
     // A closed standard input has no file, and the next one that is opened would be read in its place. This folder takes
     // that place: it can't be read.
     let _held = fs::open(&rt, "/");
-    let status = match with_words(&rt, |words| run_words(&rt, words)) {
+    let status = match with_args(&rt, |args| run_args(&rt, args)) {
         Ok(Ok(status)) => status,
-        Ok(Err(e)) => report_no_words(&rt, &io::Error::from(e)),
-        Err(e) => report_no_words(&rt, &e),
+        Ok(Err(e)) => report_no_args(&rt, &io::Error::from(e)),
+        Err(e) => report_no_args(&rt, &e),
     };
     ExitCode::from(status)
 }

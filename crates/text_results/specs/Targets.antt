@@ -1,6 +1,7 @@
 -- Where the results of texts go, and the names of the texts, by the arguments of a program.
-use Rattle.std.specs.Prelude.{ℕ, Bool, if◌then◌else◌, List, [], ◌∷◌, codes, Option, Some, None, Result, Ok, Err}
+use Rattle.std.specs.Prelude.{ℕ, Bool, ◌||◌, if◌then◌else◌, List, [], ◌∷◌, codes, Option, Some, None, Result, Ok, Err}
 use Rattle.std.specs.List.{list_any}
+use Rattle.std.specs.Str.{bytes_eq}
 use Rattle.command_line.specs.Inputs.{is_standard_input}
 use Rattle.command_line.specs.Options.{GivenOption, RefusedArgument, refused, is_given, last_value}
 use Rattle.command_line.specs.declared.options.Expected.TheVariants.{NoMore, Operand}
@@ -11,10 +12,18 @@ pub data Target : Type 0 where
   ToFile : List ℕ → Target
   InPlace : Target
 
+-- The path of an output is a name of standard output: `-`, or the path that the system has for it.
+abbrev pub is_standard_output : List ℕ → Bool
+is_standard_output path = bytes_eq path (codes "-") || bytes_eq path (codes "/dev/stdout")
+
+-- Where the results go that an output of this path gets.
+abbrev pub target_at : List ℕ → Target
+target_at path = if is_standard_output path then ToOutput else ToFile path
+
 -- Where results go, if there is the path of an output, or not, and each text is replaced, or not. Both are refused.
 abbrev pub target_by : Option (List ℕ) → Bool → Result Target RefusedArgument
 target_by (Some path) in_place =
-    if in_place then Err (refused (codes "--in-place") None NoMore) else Ok (ToFile path)
+    if in_place then Err (refused (codes "--in-place") None NoMore) else Ok (target_at path)
 target_by None in_place = if in_place then Ok InPlace else Ok ToOutput
 
 -- Where results go, by the options that are given.

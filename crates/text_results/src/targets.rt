@@ -6,7 +6,7 @@ ghost use Rattle.hyphenation_breaks.specs.Borrowed.{texts_now};
 ghost use Rattle.command_line.specs.Inputs.{is_standard_input};
 ghost use Rattle.command_line.specs.Reading.{given_options, IsReadError};
 ghost use Rattle.text_results.specs.Reading.{as_target, IsTarget};
-ghost use Rattle.text_results.specs.Targets.{target_of, inputs_of, replaced_of, names_for};
+ghost use Rattle.text_results.specs.Targets.{target_at, target_of, inputs_of, replaced_of, names_for};
 
 use command_line::options::{Arguments, BadArgument, Expected, ReadError};
 use std::alloc::{AllocError, Global};
@@ -22,12 +22,22 @@ pub enum Target<'w> {
     InPlace,
 }
 
+// Returns the place to which the results go that an output of this path gets.
+fn target_at(path: &str) -> Target<'_>
+    ensures { as_target result ≡ target_at path.now }
+{
+    if path == "-" || path == "/dev/stdout" {
+        return Target::Output;
+    }
+    Target::File(path)
+}
+
 /// Returns the place to which results go, by the options `--output` and `--in-place` that are given.
 ///
-/// The error says that both are given.
+/// The paths `-` and `/dev/stdout` name the output itself. The error says that both options are given.
 ///
 /// ```text
-/// target_of(&arguments)?      // of `--output new.html`: Target::File("new.html")
+/// target_of(&arguments)?      // of `--output new.html`: Target::File("new.html"); of `--output -`: Target::Output
 /// ```
 pub fn target_of<'w>(arguments: &Arguments<'w>) -> Result<Target<'w>, BadArgument<'w>>
     ensures { IsTarget result (target_of (given_options arguments.now)) }
@@ -42,7 +52,7 @@ pub fn target_of<'w>(arguments: &Arguments<'w>) -> Result<Target<'w>, BadArgumen
                     expected: Expected::NoMore,
                 });
             }
-            Ok(Target::File(path))
+            Ok(target_at(path))
         }
         None => {
             if in_place {

@@ -12,10 +12,13 @@ PACKAGE = "hyphenation_dictionaries"
 
 
 def value(name: str) -> bytes:
-    """Returns the value of a variable of the environment; an empty one if it is missing or not UTF-8."""
+    """Returns the value of a variable of the environment; an empty one if it is missing, or not UTF-8. HYPHENATION_PATH is
+    refused then, with a ValueError."""
     try:
         return os.environ.get(name, "").encode()
     except UnicodeEncodeError:
+        if name == "HYPHENATION_PATH":
+            raise ValueError("HYPHENATION_PATH: not UTF-8") from None
         return b""
 
 
@@ -74,7 +77,8 @@ def dictionary_path(language: str) -> Optional[str]:
     without its last part, as de and de-1996. A standard dictionary comes before an extended one.
 
     `language` is a tag, such as "de", "de_CH" or "sr-Latn". The result is the path of a file, or None if there is no
-    dictionary. A tag that is not UTF-8 is a UnicodeEncodeError. MemoryError is raised if memory is refused.
+    dictionary. A tag that is not UTF-8 is a UnicodeEncodeError, and a HYPHENATION_PATH that is not is a ValueError. MemoryError
+    is raised if memory is refused.
 
     >>> dictionary_path("../x") is None
     True
