@@ -16,3 +16,5 @@ pub mod SecondRun
 pub mod Contents
 pub mod SecondPages
 pub mod KeptForms
+pub mod MarkdownSteps
+pub mod MarkedMarkdown

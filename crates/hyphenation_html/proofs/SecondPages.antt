@@ -229,7 +229,7 @@ plain-marks text (p ∷ ps) w =
     (plain-append (take p text) soft_hyphen (plain-take p text w) (refl, (refl, tt)))
     (plain-drop p (with_marks soft_hyphen text ps) (plain-marks text ps w))
 
-same_number : (b : ℕ) → b == b ≡ true
+pub same_number : (b : ℕ) → b == b ≡ true
 same_number b = grind (arith, nat_tests)
 
 marks_begin_alike : (text places : List ℕ) → begins_alike text (with_marks soft_hyphen text places) ≡ true

@@ -5,5 +5,6 @@ pub mod Languages
 pub mod LeftAlone
 pub mod Places
 pub mod Texts
+pub mod Markdown
 pub mod Laws
 pub mod Private

@@ -1,0 +1,4 @@
+pub mod Bytes
+pub mod States
+pub mod Pieces
+pub mod Laws
