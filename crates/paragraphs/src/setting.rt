@@ -190,6 +190,9 @@ pub(crate) fn bare_stretch(part: &Part) -> Stretch
 }
 
 // Returns the columns of a part by its texts, or `None` where one of them is too long.
+//
+// It is never inlined. Few parts need it, and the loop over all parts takes fewer instructions without it.
+#[inline(never)]
 #[tactic(auto, using(crate::proofs::ShortParts::short_part))]
 fn stretch_of_texts(alloc: Global, part: &Part) -> Result<Option<Stretch>, AllocError>
     ensures { IfOk result (λ made. MatchOption made (is_short_part part.now ≡ false)
