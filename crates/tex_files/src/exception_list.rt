@@ -227,7 +227,7 @@ fn list_words<C: Payload, B: Listing>(
 ///
 /// ```text
 /// let english = add_exceptions(alloc, dictionary, b"# mine\nHyphen-ation\nnoble\n")?;
-/// hyphenate_text(alloc, &english, "A noble hyphenation", "-")?      // A noble hyphen-ation
+/// hyphenated_text(alloc, &english, "A noble hyphenation", "-")?      // A noble hyphen-ation
 /// ```
 pub fn add_exceptions<C: Payload, B: Listing>(
     alloc: Global,
