@@ -1,8 +1,9 @@
 -- Tokens of ASCII letters, and tokens without bytes.
-use Rattle.std.proofs.Common.{◌≡◌, ℕ, ◌<◌, ◌==◌, ◌&&◌, Bool, true, false, List, [], ◌∷◌, ◌++◌, map, length, refl, sym, ap, ◌∙◌, arith, append_assoc, append-nil, if◌then◌else◌}
+use Rattle.std.proofs.Common.{◌≡◌, ℕ, ◌<◌, ◌==◌, ◌&&◌, Bool, true, false, zero, suc, List, [], ◌∷◌, ◌++◌, map, length, refl, sym, ap, ◌∙◌, arith, append_assoc, append-nil, if◌then◌else◌}
 use Rattle.std.specs.Char.{is_ascii_alphabetic}
 use Rattle.std.specs.List.{flat_map, list_all}
-use Rattle.std.specs.Str.{IsCharBoundary, chars}
+use Rattle.std.specs.Str.{IsAscii, IsCharBoundary, chars}
+use Rattle.std.proofs.lemmas.Bool.Decides.{nat_tests}
 use Rattle.std.proofs.lemmas.Bool.{and_parts, and_right, or_from, ne_eqb, false≢true}
 use Rattle.unicode_segmentation.specs.Segments.{segments, cut}
 use Rattle.text_words.specs.Words.{text_words, LettersAreOneWord}
@@ -51,6 +52,15 @@ word_appended breaks mark text word old passed after pending token places end jo
           ap (λ x. after ++ x) (slice_none text end) ∙ append-nil after ∙ second ∙ ap (λ x. passed ++ x) (plainly_marked breaks mark word word places joins refl fit places_are)
           ∙ ap (λ x. x ++ own) first ∙ append_assoc old pending own ∙ ap (λ x. old ++ (pending ++ x)) (ap (marked_word breaks mark) are ∙ sym one);
     }
+
+-- Letters are ASCII.
+letter_is_ascii : (x : ℕ) → is_ascii_alphabetic x ≡ true → x < 128
+letter_is_ascii x h = grind (arith, nat_tests)
+
+pub letters_are_ascii : (xs : List ℕ) → list_all is_ascii_alphabetic xs ≡ true → IsAscii xs
+letters_are_ascii [] all i = omega arith
+letters_are_ascii (x ∷ xs) all zero = letter_is_ascii x (and_parts (is_ascii_alphabetic x) (list_all is_ascii_alphabetic xs) all).0
+letters_are_ascii (x ∷ xs) all (suc i) = letters_are_ascii xs (and_parts (is_ascii_alphabetic x) (list_all is_ascii_alphabetic xs) all).1 i
 
 -- ---- no bytes
 

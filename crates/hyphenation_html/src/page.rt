@@ -187,7 +187,7 @@ fn all_fit(languages: &[LanguageDictionary], settings: &Settings<'_>)
 ///
 /// Each word is broken by the dictionary of the language that `lang` names for it, in XML `xml:lang` or else `lang`. Where
 /// the page names none it is broken by that of `language`. A code serves each language that begins with it and a hyphen, and the
-/// longest of these codes counts. A text whose language has no dictionary is left as it is.
+/// longest of these codes counts. A text whose language has no dictionary is left as it is. A word is broken as its NFC is.
 ///
 /// All that is not text stays as it is, byte for byte: tags, comments, scripts, character references. So do the texts
 /// of elements as `pre` and `code` ([`LEFT_ALONE_NAMES`](crate::LEFT_ALONE_NAMES)), with `translate="no"`, or with the

@@ -35,7 +35,8 @@ fn text_with_marks(
 ///
 /// A part of the text between ASCII white space is left whole if it has a soft hyphen, or is a name: an address, a
 /// path, an identifier, or the name of a file. So are words with a letter beside a digit, and words that the settings
-/// leave alone; their class is not asked. Without the marks the result is the text, byte for byte. With soft hyphens as
+/// leave alone; their class is not asked. Each word is broken as its NFC is, and no mark is put between a letter and an accent
+/// that NFC joins. Without the marks the result is the text, byte for byte. With soft hyphens as
 /// marks a second run changes nothing.
 ///
 /// An error says that memory was refused.

@@ -8,14 +8,20 @@ ghost use Rattle.std.specs.String.{string_bytes};
 ghost use Rattle.hyphenation_breaks.specs.Break.{plain_break};
 ghost use Rattle.hyphenation_segments.specs.Fits.{Fits};
 ghost use Rattle.text_words.specs.Words.{is_mixed};
-ghost use Rattle.hyphenation_html.specs.Languages.{breaks_under};
+ghost use Rattle.composed_words.specs.Composed.{composed, is_composed};
+ghost use Rattle.hyphenation_html.specs.Languages.{breaks_under, composed_breaks_under};
 ghost use Rattle.hyphenation_html.specs.Words.{is_left_whole};
 ghost use Rattle.hyphenation_html.specs.Private.Marked.{so_far, marked_text_by, Puts};
 
 use crate::settings::Settings;
 use crate::words::{is_left_whole, is_passed_over};
 use any_dictionary::AnyDictionary;
+use composed_words::laws::{
+    ascii_is_composed, carried_places_ascend, composed_words_break_as_they_are,
+};
+use composed_words::{carried_places, composed, passes};
 use html_pieces::bytes::is_white_space;
+use hyphenation_hyphenator::hyphenator::laws::plain_breaks_fit_where_ascending;
 use hyphenation_segments::iter::laws::marked_segments_join;
 use hyphenation_segments::iter::push_marked_text;
 use std::alloc::{AllocError, Global};
@@ -42,10 +48,10 @@ impl Output {
         })
     }
 
-    // Puts the breaks of a word into the list, none where it is passed over or has a letter beside a digit. Returns whether
-    // there is one. Words of letters need not be looked through for digits.
+    // Puts the breaks of a word in NFC into the list, none where it is passed over or has a letter beside a digit. Returns
+    // whether there is one. Words of letters need not be looked through for digits.
     #[inline(always)]
-    fn find_breaks(
+    fn find_composed_breaks(
         &mut self,
         dictionary: &AnyDictionary,
         settings: &Settings<'_>,
@@ -53,9 +59,10 @@ impl Output {
         letters: bool,
     ) -> Result<bool, AllocError>
         requires letters { letters ≡ true → is_mixed word.now ≡ false }
-        ensures breaks { OnOk result (self.new.breaks.items ≡ breaks_under settings.now dictionary.now word.now) }
+        ensures breaks { OnOk result (self.new.breaks.items ≡ composed_breaks_under settings.now dictionary.now word.now) }
         ensures fit { IfOk result (λ found. IsTrue found → Fits word.now (map plain_break self.new.breaks.items)) }
-        ensures none { IfOk result (λ found. IsTrue (not found) → breaks_under settings.now dictionary.now word.now ≡ []) }
+        ensures none { IfOk result (λ found.
+            IsTrue (not found) → composed_breaks_under settings.now dictionary.now word.now ≡ []) }
         ensures text { self.new.text ≡ self.old.text }
     {
         if is_passed_over(settings, word) {
@@ -72,6 +79,88 @@ impl Output {
         }
         Ok(true)
     }
+
+    // Puts the breaks of a word that is not in NFC into the list: those of its NFC, carried back. Returns whether there is one.
+    fn carry_breaks(
+        &mut self,
+        dictionary: &AnyDictionary,
+        settings: &Settings<'_>,
+        word: &str,
+        nfc: &str,
+    ) -> Result<bool, AllocError>
+        requires nfc { nfc.now ≡ composed word.now }
+        requires other { is_composed word.now ≡ false }
+        ensures breaks { OnOk result (self.new.breaks.items ≡ breaks_under settings.now dictionary.now word.now) }
+        ensures fit { IfOk result (λ found. IsTrue found → Fits word.now (map plain_break self.new.breaks.items)) }
+        ensures none { IfOk result (λ found. IsTrue (not found) → breaks_under settings.now dictionary.now word.now ≡ []) }
+        ensures text { self.new.text ≡ self.old.text }
+    {
+        carried_places_ascend();
+        plain_breaks_fit_where_ascending();
+        self.find_composed_breaks(dictionary, settings, nfc, false)?;
+        let carried = carried_places(self.alloc, word, nfc, &self.breaks)?;
+        self.breaks = carried;
+        if self.breaks.is_empty() {
+            return Ok(false);
+        }
+        Ok(true)
+    }
+
+    // Puts the breaks of a word that does not pass the quick check into the list. Returns whether there is one.
+    #[inline(never)]
+    fn compose_and_find(
+        &mut self,
+        dictionary: &AnyDictionary,
+        settings: &Settings<'_>,
+        word: &str,
+    ) -> Result<bool, AllocError>
+        ensures breaks { OnOk result (self.new.breaks.items ≡ breaks_under settings.now dictionary.now word.now) }
+        ensures fit { IfOk result (λ found. IsTrue found → Fits word.now (map plain_break self.new.breaks.items)) }
+        ensures none { IfOk result (λ found. IsTrue (not found) → breaks_under settings.now dictionary.now word.now ≡ []) }
+        ensures text { self.new.text ≡ self.old.text }
+    {
+        composed_words_break_as_they_are();
+        match composed(self.alloc, word)? {
+            None => self.find_composed_breaks(dictionary, settings, word, false),
+            Some(nfc) => self.carry_breaks(dictionary, settings, word, nfc.as_str()),
+        }
+    }
+
+    // Puts the breaks of a word into the list, which are those of its NFC. Returns whether there is one. Words of letters need
+    // not be composed.
+    #[inline(always)]
+    fn find_breaks(
+        &mut self,
+        dictionary: &AnyDictionary,
+        settings: &Settings<'_>,
+        word: &str,
+        letters: bool,
+    ) -> Result<bool, AllocError>
+        requires letters { letters ≡ true → is_mixed word.now ≡ false }
+        requires in_nfc { letters ≡ true → is_composed word.now ≡ true }
+        ensures breaks { OnOk result (self.new.breaks.items ≡ breaks_under settings.now dictionary.now word.now) }
+        ensures fit { IfOk result (λ found. IsTrue found → Fits word.now (map plain_break self.new.breaks.items)) }
+        ensures none { IfOk result (λ found. IsTrue (not found) → breaks_under settings.now dictionary.now word.now ≡ []) }
+        ensures text { self.new.text ≡ self.old.text }
+    {
+        composed_words_break_as_they_are();
+        if is_surely_composed(letters, word) {
+            return self.find_composed_breaks(dictionary, settings, word, letters);
+        }
+        self.compose_and_find(dictionary, settings, word)
+    }
+}
+
+// Whether a word is known to be in NFC, or passes the quick check.
+#[inline(always)]
+fn is_surely_composed(is_known: bool, word: &str) -> bool
+    requires { is_known ≡ true → is_composed word.now ≡ true }
+    ensures { IsTrue result → is_composed word.now ≡ true }
+{
+    if is_known {
+        return true;
+    }
+    passes(word)
 }
 
 // Tests whether a token is left whole, unless that was asked before and it was not.
@@ -115,6 +204,7 @@ fn push_letters(
     ensures { IfOk result (Puts false settings.now dictionary.now
         token.entry.text.now kept token.entry.start token.entry.end output.old output.new) }
 {
+    ascii_is_composed();
     letters_are_one_word();
     letters_are_no_name();
     marked_segments_join();

@@ -13,6 +13,7 @@ use Rattle.command_line.specs.Steps.{EndsIn}
 use Rattle.command_line.specs.declared.TheConstants.{VERSION}
 use Rattle.command_line.specs.declared.failure.Failure.{Failure}
 use Rattle.command_line.specs.declared.failure.Failure.TheVariants as failed
+use Rattle.composed_words.specs.Composed.{through_composed}
 use Rattle.text_words.specs.Words.{unless_mixed}
 use Rattle.hyphenation_html.specs.Texts.{hyphenated_by}
 use Rattle.hyphenation_html.specs.Words.{within_limits}
@@ -30,10 +31,11 @@ asked_text args = help_or_version NAME.now VERSION.now USAGE.now args
 -- ---- results
 
 -- The result of a text, by options and a dictionary: the text with the mark at the breaks of its words that change no
--- letters.
+-- letters. Each word is broken as its NFC is.
 abbrev pub result_of : ParsedOptions → AnyDictionary → List ℕ → List ℕ
 result_of options dictionary text =
-    hyphenated_by (within_limits options.min_word options.skip_capitals (unless_mixed (places_by dictionary))) options.mark text
+    hyphenated_by
+    (through_composed (within_limits options.min_word options.skip_capitals (unless_mixed (places_by dictionary)))) options.mark text
 
 -- Results of arguments: those of the texts that they name, in their order, by the dictionary that they name.
 pub record AreResults (args : ParsedArgs) (bytes_of : KnownFiles) (folders : List (List ℕ)) (left : Option (List ℕ)) (results : List (List ℕ)) : Type 0 where

@@ -1,4 +1,6 @@
 use Rattle.std.proofs.Common.{◌++◌, ◌∙◌, map, ap, sym, subst, not, slice_range, length, arith, ◌<◌}
+use Rattle.std.specs.Char.{is_ascii_alphabetic}
+use Rattle.std.specs.List.{list_all}
 use Rattle.std.specs.String.{string_bytes}
 use Rattle.std.proofs.lemmas.List.Edits.{length-between}
 use Rattle.hyphenation_breaks.specs.Break.{plain_break}
@@ -6,9 +8,14 @@ use Rattle.hyphenation_segments.specs.Fits.{Fits}
 use Rattle.hyphenation_segments.specs.Laws.{with_marks}
 use Rattle.hyphenation_html.specs.Languages.{breaks_under}
 use Rattle.hyphenation_html.specs.Private.Marked.{marked_token, Leaves}
-use Rattle.hyphenation_html.proofs.LetterTokens.{letters_marked, word_appended}
+use Rattle.hyphenation_html.proofs.LetterTokens.{letters_are_ascii, letters_marked, word_appended}
 use Rattle.hyphenation_html.proofs.PassedWords.{leaves_all}
 use Rattle.hyphenation_html.proofs.text.push_letters.Goals as goal
+
+pub find_breaks-requires-clause-in_nfc : goal.find_breaks-requires-clause-in_nfc
+find_breaks-requires-clause-in_nfc c =
+    λ known. c.ascii_is_composed.ensures c.range-word.result.now
+    (letters_are_ascii c.range-word.result.now (ap (list_all is_ascii_alphabetic) c.range-word.ensures.value ∙ c.args.token.alphabetic c.requires.letters))
 
 pub returns-then-not-branch : goal.returns-then-not-branch
 returns-then-not-branch c =

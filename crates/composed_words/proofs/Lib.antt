@@ -1,0 +1,5 @@
+mod Compositions
+mod LawsOfPlaces
+mod Places
+mod PlacesOfSegments
+mod Ranges

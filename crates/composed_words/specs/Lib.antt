@@ -1,0 +1,3 @@
+pub mod Composed
+pub mod Laws
+pub mod Private

@@ -1,0 +1,2 @@
+-- Definitions for private functions and proofs. No contract of a public call cites them, so they are not for signing.
+pub mod Segments
