@@ -32,7 +32,7 @@ pub hyphenated_so : (options : Options) (bytes_of : KnownFiles) (usual : List (L
     → cut ≡ page → shown ≡ dictionaries → again ≡ dictionaries → HasCodesOf (parsed_options options) (map code_of dictionaries)
     → AreDictionariesFor bytes_of (parsed_options options) usual (tags_for (parsed_options options) cut) dictionaries
     → text ≡ marked_page options.settings shown options.language.now cut → IsPageWithMarks options.settings.mark.now cut text
-    → (options.settings.mark.now ≡ soft_hyphen → IsDone options.settings shown options.language.now cut text) → note ≡ note_on again options.language.now cut
+    → (options.settings.mark.now ≡ soft_hyphen → IsDone options.settings shown options.language.now cut text) → note ≡ note_on again options.language.now options.settings cut
     → IsHyphenatedPage (parsed_options options) bytes_of usual page (record { text = text; note = note })
 hyphenated_so options bytes_of usual page cut text why dictionaries shown again same are alike codes files marked kept twice noted = record {
   settings = options.settings;
@@ -44,7 +44,7 @@ hyphenated_so options bytes_of usual page cut text why dictionaries shown again 
   kept = subst (λ (p : List ℕ). IsPageWithMarks options.settings.mark.now p text) same kept;
   twice = λ soft. subst (λ (p : List ℕ). IsDone options.settings dictionaries options.language.now p text) same
       (subst (λ (ds : List LanguageDictionary). IsDone options.settings ds options.language.now cut text) are (twice soft));
-  noted = noted ∙ ap (λ ds. note_on ds options.language.now cut) alike ∙ ap (note_on dictionaries options.language.now) same;
+  noted = noted ∙ ap (λ ds. note_on ds options.language.now options.settings cut) alike ∙ ap (note_on dictionaries options.language.now options.settings) same;
 }
 
 -- ---- results, one more

@@ -14,7 +14,8 @@ use Rattle.html_command.specs.declared.TheConstants.{USAGE}
 
 -- The options: the codes of languages with the paths of their dictionaries; the folder in which others are searched, if one
 -- is given; the language of text for which the page names none; the mark; the class of elements that are left alone; the
--- least number of characters of a word; whether words with a first capital are left alone; where results go.
+-- least number of characters of a word; whether words with a first capital are left alone; whether
+-- no notes are written; where results go.
 pub record ParsedOptions : Type 0 where
   pub given : List (List ℕ × List ℕ)
   pub folder : Option (List ℕ)
@@ -23,6 +24,7 @@ pub record ParsedOptions : Type 0 where
   pub class : List ℕ
   pub min_word : ℕ
   pub skip_capitals : Bool
+  pub quiet : Bool
   pub target : Target
 
 -- The arguments of marks: the options, and the names of the pages.
@@ -74,6 +76,7 @@ options_with dictionaries given =
       class = unwrap_or (last_value (codes "--class") given) (codes "donthyphenate");
       min_word = min_word;
       skip_capitals = is_given (codes "--skip-capitals") given;
+      quiet = is_given (codes "--quiet") given;
       target = target;
     }))
     (target_of given))

@@ -1,11 +1,15 @@
--- The notes on pages that were not changed.
-use Rattle.std.specs.Prelude.{ℕ, ◌+◌, List, [], ◌∷◌, ◌++◌, codes, map, if◌then◌else◌, slice_index_or, Option, Some, None}
+-- The notes on pages that were not changed, or not read to their ends.
+use Rattle.std.specs.Prelude.{ℕ, ◌+◌, Bool, List, [], ◌∷◌, ◌++◌, codes, map, if◌then◌else◌, slice_index_or, Option, Some, None}
+use Rattle.std.specs.Fmt.{decimal}
 use Rattle.std.specs.List.{flat_map}
+use Rattle.std.specs.Option.{option_map}
 use Rattle.command_line.specs.Inputs.{is_standard_input}
 use Rattle.html_pieces.specs.Languages.{languages_of}
+use Rattle.hyphenation_html.specs.Unread.{unread_line}
 use Rattle.hyphenation_html.specs.declared.languages.LanguageDictionary.{LanguageDictionary}
+use Rattle.hyphenation_html.specs.declared.settings.Settings.{Settings}
 use Rattle.html_command.specs.declared.notes.Note.{Note}
-use Rattle.html_command.specs.declared.notes.Note.TheVariants.{NoDictionary, NoLanguage}
+use Rattle.html_command.specs.declared.notes.Note.TheVariants.{NoDictionary, NoLanguage, LeftAlone}
 use Rattle.html_command.specs.declared.notes.PageNote.{PageNote}
 
 -- The result of a page: its text, and the note on it, if there is one.
@@ -19,10 +23,10 @@ why_none [] [] = NoLanguage
 why_none [] (named ∷ more) = NoDictionary
 why_none (byte ∷ bytes) languages = NoDictionary
 
--- The note on a page with these dictionaries: none if there is a dictionary.
-abbrev pub note_on : List LanguageDictionary → List ℕ → List ℕ → Option Note
-note_on [] language page = Some (why_none language (languages_of page))
-note_on (one ∷ more) language page = None
+-- The note on a page with these dictionaries and settings: why there is none, or from which line on the page is left alone.
+abbrev pub note_on : List LanguageDictionary → List ℕ → Settings → List ℕ → Option Note
+note_on [] language settings page = Some (why_none language (languages_of page))
+note_on (one ∷ more) language settings page = option_map (λ line. LeftAlone line) (unread_line settings language page)
 
 -- The note on the page of a number, if there is one.
 abbrev pub note_at : ℕ → Option Note → List PageNote
@@ -46,6 +50,8 @@ texts_of pages = map (λ marked. marked.text) pages
 abbrev pub words_of : Note → List ℕ
 words_of NoDictionary = codes "no dictionary for a language that the page names, so nothing is changed"
 words_of NoLanguage = codes "the page names no language, so nothing is changed; --lang names it"
+words_of (LeftAlone line) =
+    codes "line " ++ (decimal line ++ codes ": left alone from here on, since parsers may read it in different ways")
 
 -- The line of a note on the page of a name. Standard input is not named.
 abbrev pub line_on : List ℕ → List ℕ → List ℕ → List ℕ
@@ -60,3 +66,7 @@ note_line program names note = line_on program (slice_index_or names note.page [
 -- All notes, each in its line.
 abbrev pub notes_text : List ℕ → List (List ℕ) → List PageNote → List ℕ
 notes_text program names notes = flat_map (note_line program names) notes
+
+-- The notes that are told: all, each in its line, or none where the arguments ask for none.
+abbrev pub notes_told : List ℕ → Bool → List (List ℕ) → List PageNote → List ℕ
+notes_told program quiet names notes = if quiet then [] else notes_text program names notes

@@ -21,7 +21,7 @@ use Rattle.text_results.specs.Texts.{IsFailureAmong}
 use Rattle.text_results.specs.Written.{EndsFailed, EndsRefused, WritesResults}
 use Rattle.html_command.specs.declared.TheConstants.{NAME, USAGE}
 use Rattle.html_command.specs.Arguments.{ParsedArgs, ParsedOptions, Task, Marks, Removes, parsed_args}
-use Rattle.html_command.specs.Notes.{MarkedPage, note_on, notes_of, notes_text, texts_of}
+use Rattle.html_command.specs.Notes.{MarkedPage, note_on, notes_of, notes_told, texts_of}
 use Rattle.html_command.specs.Dictionaries.{code_of, AreDictionariesFor, HasCodesOf, IsRefusedFor, tags_for}
 
 -- The text that the arguments ask for by `--help` or `--version`, if they do.
@@ -39,7 +39,7 @@ HasSettingsOf options settings = (settings.mark.now ≡ options.mark) × (settin
 -- with those of the arguments. First come those of the paths that the arguments give. Then come those of the folders, for
 -- the language of the arguments and for those that the page names. Without the marks it is the page, byte for byte. With
 -- soft hyphens it is done: read again as a page, it names the same languages and stays as it is. The note says why there is
--- no dictionary.
+-- no dictionary, or from which line on the page is left alone.
 pub record IsHyphenatedPage (options : ParsedOptions) (bytes_of : KnownFiles) (usual : List (List ℕ)) (page : List ℕ) (result : MarkedPage) : Type 0 where
   pub settings : Settings
   pub dictionaries : List LanguageDictionary
@@ -49,7 +49,7 @@ pub record IsHyphenatedPage (options : ParsedOptions) (bytes_of : KnownFiles) (u
   pub marked : result.text ≡ marked_page settings dictionaries options.language page
   pub kept : IsPageWithMarks options.mark page result.text
   pub twice : options.mark ≡ soft_hyphen → IsDone settings dictionaries options.language page result.text
-  pub noted : result.note ≡ note_on dictionaries options.language page
+  pub noted : result.note ≡ note_on dictionaries options.language settings page
 
 -- Each of some pages has its result.
 abbrev pub AreHyphenated : ParsedOptions → KnownFiles → List (List ℕ) → List (List ℕ) → List MarkedPage → Type 0
@@ -81,12 +81,13 @@ IsFailureBefore args bytes_of usual left _ = ⊥
 
 -- ---- how the program ends
 
--- The program is done: the texts of its results were written, and these are exactly the notes on its pages, each in its line.
+-- The program is done: the texts of its results were written, and these are exactly the notes on its pages, each in its line,
+-- or none with `--quiet`.
 abbrev pub EndsNoted : {W S : Type 0} → ParsedArgs → KnownFiles → List (List ℕ) → Option (List ℕ)
     → (W → Option (List ℕ)) → W → W → (S → Option WrittenFiles) → S → S → List ℕ → Type 0
 EndsNoted args bytes_of usual left contents old new written old_files new_files notes =
     (results : List MarkedPage) × AreResults args bytes_of usual left results
-    × (notes ≡ notes_text NAME.now args.inputs (notes_of results))
+    × (notes ≡ notes_told NAME.now args.options.quiet args.inputs (notes_of results))
     × WritesResults (λ texts. texts ≡ texts_of results) args.options.target args.inputs contents old new
     written old_files new_files
 

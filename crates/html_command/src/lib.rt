@@ -61,6 +61,7 @@ Writes HTML or XHTML pages with soft hyphens in the words of their text.
                           references too, and none are put in
   -o, --output FILE       the results go into this file, which is replaced
   -i, --in-place          each FILE is replaced by its result
+  --quiet                 no notes on pages that are left as they are
 Of an extended dictionary the breaks that change no letter are used.
 ";
 
@@ -85,7 +86,9 @@ impl<'w> Notes for Noted<'w> {
     fn tell<E: Write>(&self, alloc: Global, errors: &mut Messages<E>) {
         match self {
             Noted::Marked { request, notes } => {
-                write_notes(alloc, NAME, &request.inputs, notes, errors);
+                if !request.options.quiet {
+                    write_notes(alloc, NAME, &request.inputs, notes, errors);
+                }
             }
             Noted::Removed => {}
         }
@@ -165,7 +168,8 @@ impl<'w, F: NamedFiles, S: ReplaceFiles, I: Read, O: Write> ProgramSteps<S, I, O
 /// | 6 | memory was refused |
 ///
 /// With any status but 0 exactly its message is written to `errors`, except if the text of `--help` or `--version` can't
-/// be written. With status 0 `errors` gets a note on each page for which there was no dictionary. The output is as it was
+/// be written. With status 0 `errors` gets a note on each page for which there was no dictionary, or that
+/// is not read to its end. The output is as it was
 /// unless the status is 0, or the output can't be written. Standard input is read only if it is one of the pages.
 ///
 /// ```text

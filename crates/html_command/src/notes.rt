@@ -1,4 +1,4 @@
-//! Notes on pages that were not changed, since no dictionary served them.
+//! Notes on pages that were not changed, since no dictionary served them, or not read to their ends.
 
 ghost use Rattle.std.specs.Prelude.{◌≡◌, ◌++◌, slice_index_or, [], map, IfOk, OnOk};
 ghost use Rattle.std.specs.String.{string_bytes};
@@ -8,17 +8,20 @@ ghost use Rattle.html_command.specs.Notes.{line_on, note_at, note_line, note_on,
 
 use command_line::Messages;
 use command_line::inputs::is_standard_input;
-use hyphenation_html::{HtmlPage, LanguageDictionary};
+use hyphenation_html::{HtmlPage, LanguageDictionary, Settings, unread_line};
 use std::alloc::{AllocError, Global};
+use std::fmt;
 use std::io::Write;
 
-/// Why no dictionary serves a page.
+/// A note on a page: why no dictionary serves it, or how far it is read.
 #[derive(Clone, Copy)]
 pub enum Note {
     /// It names a language, or the arguments do, and there is no dictionary for it.
     NoDictionary,
     /// It names no language, and the arguments name none for it.
     NoLanguage,
+    /// From this line on, counted from 1, it is left alone, since parsers may read it in different ways.
+    LeftAlone(u64),
 }
 
 /// A note on the page of this number, counted from 0.
@@ -39,18 +42,22 @@ fn why_none(language: &str, languages: &[String]) -> Note
     }
 }
 
-/// Returns the note on a page with these dictionaries, where the arguments name this language for it. `None` if there is a
-/// dictionary. The error says that memory was refused.
+/// Returns the note on a page with these dictionaries and settings, where the arguments name this language for it. `None` if
+/// there is a dictionary, and the page is read to its end. The error says that memory was refused.
 pub fn note_on(
     alloc: Global,
     dictionaries: &[LanguageDictionary],
     language: &str,
+    settings: &Settings<'_>,
     page: &HtmlPage<'_>,
 ) -> Result<Option<Note>, AllocError>
-    ensures { IfOk result (λ note. note ≡ note_on dictionaries.now language.now page.now) }
+    ensures { IfOk result (λ note. note ≡ note_on dictionaries.now language.now settings.now page.now) }
 {
     if !dictionaries.is_empty() {
-        return Ok(None);
+        return match unread_line(alloc, language, settings, page)? {
+            Some(line) => Ok(Some(Note::LeftAlone(line))),
+            None => Ok(None),
+        };
     }
     let languages = page.languages(alloc)?;
     Ok(Some(why_none(language, &languages)))
@@ -70,14 +77,26 @@ pub fn push_note(
     Ok(())
 }
 
-// Returns the words of a note.
-fn words_of(note: Note) -> &'static str
-    ensures { result.now ≡ words_of note }
-{
-    match note {
-        Note::NoDictionary =>
-            "no dictionary for a language that the page names, so nothing is changed",
-        Note::NoLanguage => { "the page names no language, so nothing is changed; --lang names it" }
+/// Writes a note without the page that it is on.
+impl fmt::Display for Note {
+    ghost use Rattle.std.specs.Prelude.{Some};
+    ghost use Rattle.html_command.specs.Notes.{words_of};
+
+    ghost output = { λ note. Some (words_of note) };
+
+    fn fmt<W: fmt::Write>(&self, f: &mut fmt::Formatter<W>) -> fmt::Result {
+        match self {
+            Note::NoDictionary => f.write_str(
+                "no dictionary for a language that the page names, so nothing is changed",
+            ),
+            Note::NoLanguage => {
+                f.write_str("the page names no language, so nothing is changed; --lang names it")
+            }
+            Note::LeftAlone(line) => write!(
+                f,
+                "line {line}: left alone from here on, since parsers may read it in different ways"
+            ),
+        }
     }
 }
 
@@ -93,15 +112,15 @@ fn write_line<E: Write>(
     alloc: Global,
     program: &str,
     name: &str,
-    words: &str,
+    note: Note,
     errors: &mut Messages<E>,
 )
-    ensures { TellsMore E.contents errors.old errors.new (line_on program.now name.now words.now) }
+    ensures { TellsMore E.contents errors.old errors.new (line_on program.now name.now (words_of note)) }
 {
     if is_standard_input(name) {
-        errors.write(alloc, &format_args!("{program}: note: {words}\n"));
+        errors.write(alloc, &format_args!("{program}: note: {note}\n"));
     } else {
-        errors.write(alloc, &format_args!("{program}: note: {name}: {words}\n"));
+        errors.write(alloc, &format_args!("{program}: note: {name}: {note}\n"));
     }
 }
 
@@ -116,8 +135,7 @@ fn write_note<E: Write>(
     ensures { TellsMore E.contents errors.old errors.new (note_line program.now (texts_now names.now) note.now) }
 {
     let name = name_at(names, note.page);
-    let words = words_of(note.note);
-    write_line(alloc, program, name, words, errors);
+    write_line(alloc, program, name, note.note, errors);
 }
 
 /// Writes the notes of the program of this name on pages of these names, each in a line.

@@ -37,6 +37,8 @@ pub struct Options<'w> {
     pub language: &'w str,
     /// The mark, and which words are left alone.
     pub settings: Settings<'w>,
+    /// Whether no notes are written.
+    pub quiet: bool,
     /// The place to which results go.
     pub target: Target<'w>,
 }
@@ -155,6 +157,7 @@ fn options_with<'w>(
             min_word,
             skip_capitals: arguments.has("--skip-capitals"),
         },
+        quiet: arguments.has("--quiet"),
         target,
     })
 }

@@ -19,14 +19,14 @@ use text_results::files::ReplaceFiles;
 use text_results::results::write_results;
 use text_results::texts::{push, read_texts};
 
-// A page with its marks, and a note if no dictionary served it.
+// A page with its marks, and a note if no dictionary served it, or it is not read to its end.
 #[derive(Drop)]
 struct Marked {
     text: String,
     note: Option<Note>,
 }
 
-// Pages with their marks, and a note on each that no dictionary served.
+// Pages with their marks, and a note on each that no dictionary served, or that is not read to its end.
 #[derive(Drop)]
 struct Results {
     texts: Vec<String>,
@@ -52,7 +52,7 @@ fn result_of<F: NamedFiles>(
     let cut = HtmlPage::new(alloc, page)?;
     load_for_page(files, alloc, options, folders, &cut, all, others)?;
     let text = hyphenate_html(alloc, all, options.language, &options.settings, &cut)?;
-    let note = note_on(alloc, all, options.language, &cut)?;
+    let note = note_on(alloc, all, options.language, &options.settings, &cut)?;
     Ok(Marked { text, note })
 }
 
@@ -103,7 +103,7 @@ fn results_of<F: NamedFiles, I: Read>(
 }
 
 /// Writes the results of all pages of a request, once all of them are made. Returns a note on each page that no dictionary
-/// served.
+/// served, or that is not read to its end.
 ///
 /// The pages are read in their order, and then the dictionaries of each are loaded, unless a page before it needed them. So
 /// that of a language is opened once. The first step that fails gives the failure. After [`Failure::Output`] a beginning may

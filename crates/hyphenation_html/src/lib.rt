@@ -18,6 +18,7 @@ mod plain;
 mod settings;
 mod text;
 mod touching;
+mod unread;
 mod words;
 
 pub use any_dictionary::AnyDictionary;
@@ -29,3 +30,4 @@ pub use page::hyphenate_html;
 pub use plain::hyphenate_text;
 pub use settings::Settings;
 pub use touching::INLINE_NAMES;
+pub use unread::unread_line;

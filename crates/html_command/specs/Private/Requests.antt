@@ -6,7 +6,7 @@ use Rattle.command_line.specs.Reading.{as_refused}
 use Rattle.command_line.specs.declared.options.BadArgument.{BadArgument}
 use Rattle.text_results.specs.Reading.{as_target, parsed_removal}
 use Rattle.html_command.specs.Arguments.{ParsedArgs, ParsedOptions, Task, Marks, Removes}
-use Rattle.html_command.specs.Notes.{notes_text}
+use Rattle.html_command.specs.Notes.{notes_told}
 use Rattle.html_command.specs.declared.Noted.{Noted}
 use Rattle.html_command.specs.declared.Noted.TheVariants.{Marked, Removed}
 use Rattle.html_command.specs.declared.TheConstants.{NAME}
@@ -30,6 +30,7 @@ parsed_options options = record {
   class = options.settings.class.now;
   min_word = options.settings.min_word;
   skip_capitals = options.settings.skip_capitals;
+  quiet = options.quiet;
   target = as_target options.target;
 }
 
@@ -44,7 +45,7 @@ parsed_task (Remove removal) = Removes (parsed_removal removal)
 
 -- The text of the notes of a task that is done.
 abbrev pub noted_text : Noted → List ℕ
-noted_text (Marked request notes) = notes_text NAME.now (texts_now request.inputs.items) notes.items
+noted_text (Marked request notes) = notes_told NAME.now request.options.quiet (texts_now request.inputs.items) notes.items
 noted_text Removed = []
 
 -- Options are as wanted, or the wanted refusal.
