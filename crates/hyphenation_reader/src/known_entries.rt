@@ -129,7 +129,7 @@ pub(crate) fn insert_pattern<C: Payload>(
     }
     let slot = slot_of(entries);
     match node_with(trie, known.node(slot), entries) {
-        Some(like) => trie.insert_as(key, like, entries),
+        Some(like) => trie.insert_as(key, like),
         None => insert_new(trie, known, slot, key, entries),
     }
 }

@@ -2,7 +2,6 @@ pub mod Counts
 pub mod Trie
 pub mod Links
 pub mod Keys
-pub mod Trail
 pub mod Laws
 pub mod Cells
 pub mod Steps

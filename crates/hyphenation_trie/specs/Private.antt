@@ -5,5 +5,6 @@ pub mod Known
 pub mod Links
 pub mod States
 pub mod TableRows
+pub mod Trail
 pub mod Trie
 pub mod Vectors

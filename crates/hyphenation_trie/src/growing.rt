@@ -1,9 +1,9 @@
-//! A trie that grows by keys with their entries, inserted one after the other.
+//! The nodes of a trie that grows, and the entries of its keys.
 
 ghost use Rattle.std.specs.Prelude.{◌≡◌, ◌≢◌, ◌+◌, ◌<◌, ◌++◌, [], ◌∷◌, ℕ, length, slice_index, Some, None, IfOk, OnOk, OnErr, is_some, IfSome, IfNone};
 ghost use Rattle.std.specs.Prelude.{option_copied, slice_index_or, IsSome};
 ghost use Rattle.hyphenation_trie.specs.Trie.{node_text, entries_of_key, entries_of_node, IsTrie, AddsFront, KeepsNodes, KeepsKeys, SetsKey, EachBeginsKey};
-ghost use Rattle.hyphenation_trie.specs.Trail.{IsTrail};
+ghost use Rattle.hyphenation_trie.specs.Private.Trail.{IsTrail};
 ghost use Rattle.hyphenation_trie.specs.Private.Growing.{IsLastChild, IsChildBefore};
 ghost use Rattle.hyphenation_trie.specs.Private.Trie.{with_child, Grows, with_entries};
 
@@ -12,11 +12,10 @@ use crate::lists::{append_all, list_of_first, push_both};
 use crate::state::{Span, State, entries_in};
 use crate::trail::Trail;
 use std::alloc::{AllocError, Global};
-use std::fmt;
 use std::marker::Model;
 
-/// Keys, each with its entries, to which more can be added.
-pub struct Trie<E> {
+// Keys, each with its entries, to which more can be added.
+pub(crate) struct Growing<E> {
     // The children of each node. If keys are inserted in order, each look-up asks only the last child.
     pub(crate) children: Children,
     // The states of the nodes.
@@ -28,9 +27,9 @@ pub struct Trie<E> {
 
 // It drops each field, as the derived implementation would. The proof of a function that drops a trie has one step for
 // this call. With the derived implementation it has a step for each list of the trie.
-impl<E: Drop> Drop for Trie<E> {
+impl<E: Drop> Drop for Growing<E> {
     fn drop(self) {
-        let Trie {
+        let Growing {
             children,
             states,
             entries,
@@ -41,7 +40,7 @@ impl<E: Drop> Drop for Trie<E> {
     }
 }
 
-impl<E> Model for Trie<E> {
+impl<E> Model for Growing<E> {
     ghost use Rattle.std.specs.Prelude.{map, length};
     ghost use Rattle.hyphenation_trie.specs.Trie.{Tree};
     ghost use Rattle.hyphenation_trie.specs.Private.Growing.{IsOrderedFrom};
@@ -59,68 +58,26 @@ impl<E> Model for Trie<E> {
         × (IsOrderedFrom t.children.parents.items t.children.bytes.items t.children.in_order_from) };
 }
 
-impl<E: Drop> Trie<E> {
-    /// Returns a trie without keys, which has only the root. The only error is out of memory.
-    ///
-    /// ```text
-    /// let mut trie = Trie::new(alloc)?;
-    /// trie.insert(b"rk", &mut entries)?;      // false: `rk` was not a key
-    /// let automaton = trie.freeze(alloc)?;
-    /// ```
-    pub fn new(alloc: Global) -> Result<Self, AllocError>
-        ensures { IfOk result (λ trie. trie ≡ record { texts = [] ∷ []; entries = None ∷ [] }) }
-    {
-        Self::with_room(alloc, 0)
-    }
-
-    /// Returns a trie without keys, with room for `nodes` nodes. The only error is out of memory.
-    ///
-    /// Room that is not used costs addresses and no memory, and saves copies when the trie grows.
-    pub fn with_room(alloc: Global, nodes: usize) -> Result<Self, AllocError>
+impl<E: Drop> Growing<E> {
+    // Returns a trie without keys, with room for `nodes` nodes. The only error is out of memory.
+    //
+    // Room that is not used costs addresses and no memory, and saves copies when the trie grows.
+    pub(crate) fn with_room(alloc: Global, nodes: usize) -> Result<Self, AllocError>
         ensures { IfOk result (λ trie. trie ≡ record { texts = [] ∷ []; entries = None ∷ [] }) }
     {
         let states = list_of_first(alloc, nodes, State::of_no_key())?;
         let entries = Vec::with_capacity(alloc, nodes)?;
         let children = Children::with_room(alloc, nodes)?;
-        Ok(Trie {
+        Ok(Growing {
             children,
             states,
             entries,
         })
     }
 
-    /// Moves entries to a key, in place of the entries that it had, and returns whether it was a key.
-    ///
-    /// No other key changes. The list of entries is empty then, and can be filled again. The only error is out of
-    /// memory, also if the trie would have 2^32 nodes or entries. It leaves each key and the list as they were.
+    // Moves entries to a key as [`Trie::insert`] does, along the nodes of the key before. After an error the trail is of no use.
     #[inline(always)]
-    pub fn insert(&mut self, key: &[u8], entries: &mut Vec<E>) -> Result<bool, AllocError>
-        ensures key_set { OnOk result (SetsKey self.old self.new key.now entries.old.items) }
-        ensures had { IfOk result (λ had. had ≡ is_some (entries_of_key self.old key.now)) }
-        ensures entries_moved { OnOk result (entries.new.items ≡ []) }
-        ensures begins { OnOk result (EachBeginsKey self.old → EachBeginsKey self.new) }
-        ensures same_keys_on_error { OnErr result (KeepsKeys self.old self.new) }
-        ensures entries_kept_on_error { OnErr result (entries.new.items ≡ entries.old.items) }
-        ensures adds { AddsFront self.old self.new key.now }
-        ensures nodes { KeepsNodes self.old self.new }
-    {
-        let node = self.path(key)?;
-        self.invariant();
-        let had = self.set_entries(node, entries)?;
-        Ok(had)
-    }
-
-    /// Moves entries to a key as [`Trie::insert`] does, along the nodes of the key before.
-    ///
-    /// Keys in order begin with the same bytes, and no child is looked up for these. After an error the trail is of no use.
-    ///
-    /// ```text
-    /// let mut trail = Trail::new(alloc);
-    /// trie.insert_along(b"rk", &mut trail, &mut entries)?;
-    /// trie.insert_along(b"rkin", &mut trail, &mut others)?;      // looks up only `i` and `n`
-    /// ```
-    #[inline(always)]
-    pub fn insert_along(
+    pub(crate) fn insert(
         &mut self,
         key: &[u8],
         trail: &mut Trail,
@@ -137,42 +94,16 @@ impl<E: Drop> Trie<E> {
         ensures adds { AddsFront self.old self.new key.now }
         ensures nodes { KeepsNodes self.old self.new }
     {
-        let node = self.path_along(key, trail)?;
+        let node = self.path(key, trail)?;
         self.invariant();
         let had = self.set_entries(node, entries)?;
         Ok(had)
     }
 
-    /// Gives a key the entries of a node, in place of the entries that it had, and returns whether it was a key.
-    ///
-    /// `entries` are those of the node `like`, as [`Trie::entries_of_node`] returns them. Both have them in common then, so
-    /// that they take no more memory. No other key changes. The only error is out of memory, also if the trie would have
-    /// 2^32 nodes. It leaves each key as it was.
-    ///
-    /// ```text
-    /// trie.insert(b"rk", &mut entries)?;
-    /// let like = trie.count() - 1;                  // the node of `rk`
-    /// trie.insert_as(b"kin", like, &same)?;         // `same` equals the entries of `rk`
-    /// ```
-    pub fn insert_as(&mut self, key: &[u8], like: usize, entries: &[E]) -> Result<bool, AllocError>
-        requires { slice_index_or self.old.entries like None ≡ Some entries.now }
-        ensures key_set { OnOk result (SetsKey self.old self.new key.now entries.now) }
-        ensures had { IfOk result (λ had. had ≡ is_some (entries_of_key self.old key.now)) }
-        ensures begins { OnOk result (EachBeginsKey self.old → EachBeginsKey self.new) }
-        ensures same_keys_on_error { OnErr result (KeepsKeys self.old self.new) }
-        ensures adds { AddsFront self.old self.new key.now }
-        ensures nodes { KeepsNodes self.old self.new }
-    {
-        self.invariant();
-        let node = self.path(key)?;
-        self.invariant();
-        Ok(self.share_entries(node, like))
-    }
-
-    /// Gives a key the entries of a node as [`Trie::insert_as`] does, along the nodes of the key before. The text of the node
-    /// `like` is a key.
+    // Gives a key the entries of a node as [`Trie::insert_as`] does, along the nodes of the key before. After an error the trail
+    // is of no use.
     #[inline(always)]
-    pub fn insert_along_as(
+    pub(crate) fn insert_as(
         &mut self,
         key: &[u8],
         trail: &mut Trail,
@@ -189,21 +120,21 @@ impl<E: Drop> Trie<E> {
         ensures nodes { KeepsNodes self.old self.new }
     {
         self.invariant();
-        let node = self.path_along(key, trail)?;
+        let node = self.path(key, trail)?;
         self.invariant();
         let had = self.share_entries(node, like);
         Ok(had)
     }
 
-    /// Returns the number of nodes, with the root. The last node is the one that was added last.
-    pub fn count(&self) -> usize
+    // Returns the number of nodes, with the root. The last node is the one that was added last.
+    pub(crate) fn count(&self) -> usize
         ensures { result ≡ length self.now.texts }
     {
         self.states.len()
     }
 
-    /// Returns the entries of a node. `None` if there is no such node, or if its text is not a key.
-    pub fn entries_of_node(&self, node: usize) -> Option<&[E]>
+    // Returns the entries of a node. `None` if there is no such node, or if its text is not a key.
+    pub(crate) fn entries_of_node(&self, node: usize) -> Option<&[E]>
         ensures { option_copied result ≡ slice_index_or self.now.entries node None }
     {
         if node < self.states.len() {
@@ -215,8 +146,8 @@ impl<E: Drop> Trie<E> {
         None
     }
 
-    /// Gives proofs the invariant of a trie, and does nothing.
-    pub fn invariant(&self)
+    // Gives proofs the invariant of a trie, and does nothing.
+    pub(crate) fn invariant(&self)
         ensures { IsTrie self.now }
     {
         // Reading a field gives the proof the invariant of the type.
@@ -320,24 +251,9 @@ impl<E: Drop> Trie<E> {
         }
     }
 
-    // Returns the node of a text, and adds it if there is none. The only error is out of memory; nodes may be added then.
-    fn path(&mut self, text: &[u8]) -> Result<u32, AllocError>
-        ensures node { IfOk result (λ j. (j < length self.new.texts) × (node_text self.new j ≡ text.now)) }
-        ensures keys_stay { KeepsKeys self.old self.new }
-        ensures adds { AddsFront self.old self.new text.now }
-        ensures nodes { KeepsNodes self.old self.new }
-    {
-        let mut node = self.root();
-        for byte in text {
-            self.invariant();
-            node = self.step(node, *byte)?;
-        }
-        Ok(node)
-    }
-
     // Returns the node of a text, and adds it if there is none, along the nodes of the key before. The only error is out of
     // memory; nodes may be added then.
-    fn path_along(&mut self, text: &[u8], trail: &mut Trail) -> Result<u32, AllocError>
+    fn path(&mut self, text: &[u8], trail: &mut Trail) -> Result<u32, AllocError>
         requires { IsTrail self.old trail.old }
         ensures trail { OnOk result (IsTrail self.new trail.new) }
         ensures node { IfOk result (λ j. (j < length self.new.texts) × (node_text self.new j ≡ text.now)) }
@@ -387,13 +303,5 @@ impl<E: Drop> Trie<E> {
     {
         let span = self.states[like].span;
         self.states[node as usize].set_span(span)
-    }
-}
-
-impl<E> fmt::Debug for Trie<E> {
-    fn fmt<W: fmt::Write>(&self, f: &mut fmt::Formatter<W>) -> fmt::Result {
-        f.debug_struct("Trie")
-            .field("nodes", &self.states.len())
-            .finish()
     }
 }

@@ -39,12 +39,12 @@ pub mod register;
 mod state;
 pub mod table;
 mod trail;
+mod trie;
 
 pub use automaton::Automaton;
-pub use growing::Trie;
 pub use look_ups::LookUps;
 use std::alloc::AllocError;
-pub use trail::Trail;
+pub use trie::Trie;
 
 /// Returns a number in 32 bits, as a dictionary holds the numbers of its nodes, cells and entries, and places in keys.
 ///

@@ -85,8 +85,8 @@ pub fn make_table<C: Payload>(
     ensures { IfOk result (λ made. IfSome made (λ table. IsTableOf C.rank_of (entries_of_key automaton.now) table)) }
 {
     automaton.invariant();
-    let order = automaton.nodes_by_depth(alloc)?;
-    let Some(known) = known_of_all(alloc, automaton, &order)? else {
+    let order = automaton.nodes_by_depth();
+    let Some(known) = known_of_all(alloc, automaton, order)? else {
         return Ok(None);
     };
     let Known {
@@ -94,7 +94,7 @@ pub fn make_table<C: Payload>(
         vectors,
         counts,
     } = known;
-    let Some(steps) = steps_of(alloc, automaton, &order, &numbers)? else {
+    let Some(steps) = steps_of(alloc, automaton, order, &numbers)? else {
         return Ok(None);
     };
     Ok(Some(Table {

@@ -1,19 +1,19 @@
 //! The nodes along a key, so that the next key needs no look-ups for the bytes that both begin with.
 
-ghost use Rattle.std.specs.Prelude.{◌≡◌, ◌≤◌, ◌-◌, [], length, slice_index, take};
+ghost use Rattle.std.specs.Prelude.{◌≡◌, ◌≤◌, [], length, take};
 
 use std::alloc::Global;
 
-/// The key that was inserted last, and the node of each of its beginnings.
+// The key that was inserted last, and the node of each of its beginnings.
 #[derive(Drop)]
-pub struct Trail {
+pub(crate) struct Trail {
     pub(crate) key: Vec<u8>,
     pub(crate) nodes: Vec<u32>,
 }
 
 impl Trail {
-    /// Returns the trail of the empty key.
-    pub fn new(alloc: Global) -> Trail
+    // Returns the trail of the empty key.
+    pub(crate) fn new(alloc: Global) -> Trail
         ensures key { result.key.items ≡ [] }
         ensures nodes { result.nodes.items ≡ [] }
     {
@@ -23,12 +23,13 @@ impl Trail {
         }
     }
 
-    /// Returns the node of the key. The empty key has none; the result is then 0.
-    pub fn node(&self) -> u32
-        ensures { result ≡ slice_index self.now.nodes.items (length self.now.nodes.items - 1) }
+    // Makes it the trail of the empty key, which is one of each trie.
+    pub(crate) fn clear(&mut self)
+        ensures key { self.new.key.items ≡ [] }
+        ensures nodes { self.new.nodes.items ≡ [] }
     {
-        let count = self.nodes.len();
-        if count == 0 { 0 } else { self.nodes[count - 1] }
+        self.key.clear();
+        self.nodes.clear();
     }
 
     // Returns the number of bytes with which the key and a text begin both.

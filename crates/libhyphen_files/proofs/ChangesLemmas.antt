@@ -8,9 +8,7 @@ use Rattle.std.specs.FinMap as finite
 use Rattle.std.specs.FinMap.{get-insert, get-from_entries}
 use Rattle.hyphenation_breaks.specs.Dictionary.{TextMap}
 use Rattle.hyphenation_dictionary.specs.Parts.{patterns_of}
-use Rattle.hyphenation_trie.specs.Trail.{IsTrail}
 use Rattle.hyphenation_trie.specs.Trie.{Tree, EachBeginsKey}
-use Rattle.hyphenation_trie.specs.declared.trail.Trail.{Trail}
 use Rattle.libhyphen_files.specs.Levels.{HasNoChanges, pattern_at}
 use Rattle.libhyphen_files.specs.Patterns.{Pattern}
 
@@ -39,9 +37,3 @@ inserted_without_change patterns key pattern before none q p found =
         let same : pattern ≡ p = cc in
         subst (λ (x : Pattern). x.change ≡ None) same none
     by false h = before q p h
-
-pub empty_trail : (t : Tree Pattern) (trail : Trail) → trail.key.items ≡ [] → trail.nodes.items ≡ [] → IsTrail t trail
-empty_trail t trail key nodes = record {
-  nodes = ap length nodes ∙ sym (ap length key);
-  each = λ k lt. absurd (omega (arith, lt, ap length key));
-}

@@ -6,7 +6,6 @@
 ghost use Rattle.std.specs.Prelude.{◌≡◌, ◌≤◌, [], IfOk, IsSome, IsTrue, None, slice_index_or, IfSome, OnOk, IsFalse, length, map, take};
 ghost use Rattle.hyphenation_dictionary.specs.Maker.{with_pair};
 ghost use Rattle.hyphenation_dictionary.specs.Parts.{patterns_of};
-ghost use Rattle.hyphenation_trie.specs.Trail.{IsTrail};
 ghost use Rattle.hyphenation_trie.specs.Trie.{EachBeginsKey, entries_of_node};
 ghost use Rattle.libhyphen_files.specs.Levels.{empty_level, with_line, with_text, HasNoChanges};
 ghost use Rattle.libhyphen_files.specs.Private.Growing.{HasDigits, IsGrowing, IsPlain, level_in, unchanging, with_key, with_spelt};
@@ -19,7 +18,7 @@ use crate::pattern::{Spelling, StoredPattern, pattern_of, spell_into, spelt_alon
 use crate::settings::{setting, texts_without_breaks, without_name};
 use crate::vectors::{NodeVectors, first_bytes, vectors_of};
 use hyphenation_dictionary::laws::inserted_key_is_added;
-use hyphenation_trie::{Automaton, Trail, Trie};
+use hyphenation_trie::{Automaton, Trie, to_u32};
 use std::alloc::{AllocError, Global};
 use std::marker::Model;
 
@@ -131,8 +130,6 @@ pub(crate) struct GrowingLevel {
     spelling: Spelling,
     // Room for the pattern of a line.
     pattern: Vec<StoredPattern>,
-    // The nodes along the key of the line before.
-    trail: Trail,
     // For each slot the node of a key whose pattern may have the digits looked for. It guides a search and proves
     // nothing.
     known: Vec<u32>,
@@ -160,7 +157,6 @@ impl GrowingLevel {
             has_changes: false,
             spelling: Spelling::new(alloc),
             pattern: Vec::new(alloc),
-            trail: Trail::new(alloc),
             known: vec![in alloc; 0u32; SLOTS]?,
         })
     }
@@ -247,13 +243,15 @@ impl GrowingLevel {
         let digits = &self.spelling.digits[..found.count + 1];
         if has_digits(&self.patterns, like, digits) {
             let key = &self.spelling.key[..found.count];
-            add_like(&mut self.patterns, key, &mut self.trail, like)?;
+            add_like(&mut self.patterns, key, like)?;
             return Ok(());
         }
         let digits = Vec::from_slice(alloc, digits)?;
         let change = None;
         self.add_pattern(found.count, StoredPattern { digits, change })?;
-        set_node(&mut self.known, slot, self.trail.node());
+        // Most keys end at the node that was added last.
+        let last = to_u32(self.patterns.count().saturating_sub(1))?;
+        set_node(&mut self.known, slot, last);
         Ok(())
     }
 
@@ -273,7 +271,7 @@ impl GrowingLevel {
         let has_changes = self.has_changes || pattern.change.is_some();
         self.pattern.push(pattern)?;
         let key = &self.spelling.key[..count];
-        add_pattern(&mut self.patterns, key, &mut self.trail, &mut self.pattern)?;
+        add_pattern(&mut self.patterns, key, &mut self.pattern)?;
         self.has_changes = has_changes;
         Ok(())
     }
@@ -290,7 +288,6 @@ impl GrowingLevel {
             has_changes,
             spelling: _,
             pattern: _,
-            trail: _,
             known: _,
         } = self;
         let patterns = patterns.freeze(alloc)?;
@@ -374,22 +371,15 @@ fn is_unchanging(pattern: &StoredPattern, digits: &[u8]) -> bool
 
 // Gives a key the patterns of a node, in place of those that it had. The only error is out of memory.
 #[inline(always)]
-fn add_like(
-    patterns: &mut Trie<StoredPattern>,
-    key: &[u8],
-    trail: &mut Trail,
-    like: usize,
-) -> Result<(), AllocError>
-    requires trail { IsTrail patterns.old trail.old }
-    requires like { IsSome (slice_index_or patterns.old.entries like None) }
-    ensures trail { OnOk result (IsTrail patterns.new trail.new) }
+fn add_like(patterns: &mut Trie<StoredPattern>, key: &[u8], like: usize) -> Result<(), AllocError>
+    requires { IsSome (slice_index_or patterns.old.entries like None) }
     ensures added { OnOk result (patterns_of patterns.new
         ≡ with_pair (patterns_of patterns.old) (key.now, entries_of_node patterns.old like)) }
     ensures begins { OnOk result (EachBeginsKey patterns.old → EachBeginsKey patterns.new) }
 {
     inserted_key_is_added::<StoredPattern>();
     patterns.invariant();
-    patterns.insert_along_as(key, trail, like)?;
+    patterns.insert_as(key, like)?;
     patterns.invariant();
     Ok(())
 }
@@ -399,11 +389,8 @@ fn add_like(
 fn add_pattern(
     patterns: &mut Trie<StoredPattern>,
     key: &[u8],
-    trail: &mut Trail,
     pattern: &mut Vec<StoredPattern>,
 ) -> Result<(), AllocError>
-    requires { IsTrail patterns.old trail.old }
-    ensures trail { OnOk result (IsTrail patterns.new trail.new) }
     ensures added { OnOk result (patterns_of patterns.new
         ≡ with_pair (patterns_of patterns.old) (key.now, pattern.old.items)) }
     ensures begins { OnOk result (EachBeginsKey patterns.old → EachBeginsKey patterns.new) }
@@ -411,7 +398,7 @@ fn add_pattern(
 {
     inserted_key_is_added::<StoredPattern>();
     patterns.invariant();
-    patterns.insert_along(key, trail, pattern)?;
+    patterns.insert(key, pattern)?;
     patterns.invariant();
     Ok(())
 }

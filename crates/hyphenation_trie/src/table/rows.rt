@@ -16,7 +16,7 @@ ghost use Rattle.hyphenation_trie.specs.Private.States.{IsLinked};
 ghost use Rattle.hyphenation_trie.specs.Private.TableRows.{AreInner, AreOwnRows, AreParts, AreRowsOf, IsMadeOf};
 
 use crate::frozen::Frozen;
-use crate::growing::Trie;
+use crate::growing::Growing;
 use crate::lists::list_of_first;
 use crate::table::split::Split;
 use crate::{Automaton, to_u32};
@@ -90,7 +90,7 @@ fn rows_of<E: Drop>(
 fn set_children<E: Drop>(
     cells: &mut Vec<u32>,
     row: usize,
-    trie: &Trie<E>,
+    trie: &Growing<E>,
     rows: &Rows,
     numbers: &[u32],
     classes: &[u8],
@@ -121,7 +121,7 @@ fn make_row<E: Drop>(
     cells: &mut Vec<u32>,
     from: usize,
     to: usize,
-    trie: &Trie<E>,
+    trie: &Growing<E>,
     rows: &Rows,
     numbers: &[u32],
     classes: &[u8],

@@ -106,6 +106,5 @@ pub fn make_steps<E: Drop>(
     requires root { slice_index numbers.now 0 ≡ 0 }
     ensures { IfOk result (λ made. IfSome made (λ steps. AreSteps automaton.now numbers.now steps)) }
 {
-    let order = automaton.nodes_by_depth(alloc)?;
-    steps_of(alloc, automaton, &order, numbers)
+    steps_of(alloc, automaton, automaton.nodes_by_depth(), numbers)
 }

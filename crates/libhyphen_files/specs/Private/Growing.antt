@@ -4,7 +4,6 @@ use Rattle.std.specs.Bool.{IsFalse}
 use Rattle.hyphenation_breaks.specs.Ascii.{slash, digit_zero}
 use Rattle.hyphenation_dictionary.specs.Maker.{with_pair}
 use Rattle.hyphenation_dictionary.specs.Parts.{patterns_of}
-use Rattle.hyphenation_trie.specs.Trail.{IsTrail}
 use Rattle.hyphenation_trie.specs.Trie.{EachBeginsKey, Tree}
 use Rattle.libhyphen_files.specs.Bytes.{before_nul}
 use Rattle.libhyphen_files.specs.Levels.{HasNoChanges, Level, with_line}
@@ -15,13 +14,11 @@ use Rattle.libhyphen_files.specs.declared.level.GrowingLevel.{GrowingLevel}
 abbrev pub level_in : GrowingLevel → Level
 level_in l = record { minima = l.minima; no_hyphen = map (λ text. text.items) l.no_hyphen.items; patterns = patterns_of l.patterns }
 
--- Each node but the root begins a key. No pattern has a change unless one was seen. The room for a pattern is
--- empty, and the trail is that of the last key.
+-- Each node but the root begins a key. No pattern has a change unless one was seen. The room for a pattern is empty.
 pub record IsGrowing (l : GrowingLevel) : Type 0 where
   pub begins : EachBeginsKey l.patterns
   pub changes : IsFalse l.has_changes → HasNoChanges (patterns_of l.patterns)
   pub spare : l.pattern.items ≡ []
-  pub trail : IsTrail l.patterns l.trail
 
 -- The pattern without a change that has these digits.
 abbrev pub unchanging : List ℕ → Pattern

@@ -1,4 +1,4 @@
-use Rattle.std.proofs.Common.{◌≡◌, [], None}
+use Rattle.std.proofs.Common.{[], None}
 use Rattle.std.proofs.lemmas.Result.{IfOk-weaker}
 use Rattle.hyphenation_reader.proofs.JudgingLine.{early, exception-utf8, pattern-utf8, pattern_passes, passed_late, refused_late, said_late}
 use Rattle.hyphenation_reader.proofs.items.item_of.Goals as goal

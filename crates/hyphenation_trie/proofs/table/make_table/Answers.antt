@@ -12,6 +12,6 @@ returns g c =
     let known_of = c.in-Some.known in
     let table : Table = record { steps = c.in-Some-2.steps; vectors = known_of.vectors; counts = known_of.counts } in
     let known : AreKnown rank tree known_of.numbers.items table.vectors.items table.counts.items = rw c.in-Some.is at c.in_ok-known.ensures in
-    let made : AreSteps tree c.deref-3.result.now table.steps = rw c.in-Some-2.is at c.in_ok-steps.ensures in
-    let steps : AreSteps tree known_of.numbers.items table.steps = subst (λ (numbers : List ℕ). AreSteps tree numbers table.steps) c.deref-3.ensures.value made in
+    let made : AreSteps tree c.deref.result.now table.steps = rw c.in-Some-2.is at c.in_ok-steps.ensures in
+    let steps : AreSteps tree known_of.numbers.items table.steps = subst (λ (numbers : List ℕ). AreSteps tree numbers table.steps) c.deref.ensures.value made in
     (row_texts tree steps.0, steps.1, table_is rank tree c.invariant.ensures known_of.numbers.items steps.0 steps.1 table known steps.2)

@@ -24,5 +24,4 @@ returns-clause-growing c = record {
             (inserted_without_change before _ c.args.pattern (c.requires.growing.changes w.if-self.false) unchanging)
       ];
   spare = c.in_ok-add_pattern.ensures.moved;
-  trail = c.in_ok-add_pattern.ensures.trail;
 }

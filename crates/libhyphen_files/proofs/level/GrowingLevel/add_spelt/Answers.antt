@@ -9,5 +9,4 @@ returns-then-has_digits-clause-growing c = record {
       shared_without_change (patterns_of c.args.self.now.patterns) (patterns_of c.add_like.new.patterns) c.args.self.now.patterns c.node_in-like.result _ _
       (c.requires.changes unset) (c.has_digits.ensures c.if-has_digits.true) c.in_ok-add_like.ensures.added;
   spare = c.requires.spare;
-  trail = c.in_ok-add_like.ensures.trail;
 }

@@ -3,7 +3,7 @@ use Rattle.hyphenation_dictionary.specs.Parts.{patterns_of}
 use Rattle.hyphenation_trie.specs.Trie.{Tree, EachBeginsKey}
 use Rattle.libhyphen_files.specs.Levels.{HasNoChanges}
 use Rattle.libhyphen_files.specs.Patterns.{Pattern}
-use Rattle.libhyphen_files.proofs.ChangesLemmas.{empty_trail, no_keys_begin, no_keys_change}
+use Rattle.libhyphen_files.proofs.ChangesLemmas.{no_keys_begin, no_keys_change}
 use Rattle.libhyphen_files.proofs.level.GrowingLevel.with_room.Goals as goal
 
 pub returns-clause-growing : goal.returns-clause-growing
@@ -11,5 +11,4 @@ returns-clause-growing c = record {
   begins = subst (λ (t : Tree Pattern). EachBeginsKey t) (sym c.in_ok-with_room.ensures) no_keys_begin;
   changes = λ unset. subst (λ (t : Tree Pattern). HasNoChanges (patterns_of t)) (sym c.in_ok-with_room.ensures) no_keys_change;
   spare = c.new-3.ensures.items;
-  trail = empty_trail c.in_ok-with_room.field-0 c.new-4.result c.new-4.ensures.key c.new-4.ensures.nodes;
 }
