@@ -1,5 +1,5 @@
 -- Dictionaries of either kind: the texts that give them, and the breaks of words.
-use Rattle.std.specs.Prelude.{ℕ, not, List, map, filter, Option}
+use Rattle.std.specs.Prelude.{ℕ, max, not, List, map, filter, Option}
 use Rattle.hyphenation_breaks.specs.Break.{Break, is_changed}
 use Rattle.hyphenation_breaks.specs.Dictionary.{entries_of_keys}
 use Rattle.hyphenation_grammar.specs.Judging.{refusal_of}
@@ -52,6 +52,13 @@ language_by (of.Extended extended) = extended.language
 abbrev pub minima_by : AnyDictionary → ℕ × ℕ
 minima_by (of.Standard standard) = (standard.left, standard.right)
 minima_by (of.Extended extended) = (extended.left, extended.right)
+
+-- The dictionary with minima that are at least these.
+abbrev pub raised : ℕ → ℕ → AnyDictionary → AnyDictionary
+raised left right (of.Standard standard) =
+    of.Standard (record standard { left = max standard.left left; right = max standard.right right })
+raised left right (of.Extended extended) =
+    of.Extended (record extended { left = max extended.left left; right = max extended.right right })
 
 -- The dictionary after an edit of its exceptions.
 abbrev pub edited : AnyDictionary → List ℕ → AnyDictionary

@@ -22,7 +22,7 @@ ghost use Rattle.hyphenation_load.specs.Load.{LoadsIn, RespectsLanguage, IsNotOu
 ghost use Rattle.hyphenation_reader.specs.Edits.{is_good_edit};
 ghost use Rattle.hyphenation_segments.specs.Fits.{Fits};
 ghost use Rattle.any_dictionary.specs.Dictionaries.{all_places_by, breaks_by, contents_as, edited, kind_by, language_by};
-ghost use Rattle.any_dictionary.specs.Dictionaries.{minima_by, places_by, values_by};
+ghost use Rattle.any_dictionary.specs.Dictionaries.{minima_by, places_by, raised, values_by};
 
 mod from_breaks;
 mod kinds;
@@ -118,6 +118,23 @@ impl AnyDictionary {
         match self {
             AnyDictionary::Standard(standard) => standard.minima(),
             AnyDictionary::Extended(extended) => extended.minima(),
+        }
+    }
+
+    /// Raises the minima to at least these numbers of characters. Greater ones stay, and nothing else changes.
+    ///
+    /// So the breaks of each word are those of a dictionary that has the greater ones of both as its minima. Soft hyphens
+    /// in a word are breaks, whatever the minima are.
+    ///
+    /// ```text
+    /// dictionary.raise_minima(4, 2);      // the minima 2 and 3 are then 4 and 3
+    /// ```
+    pub fn raise_minima(&mut self, left: u8, right: u8)
+        ensures { self.new ≡ raised left right self.old }
+    {
+        match self {
+            AnyDictionary::Standard(standard) => standard.raise_minima(left, right),
+            AnyDictionary::Extended(extended) => extended.raise_minima(left, right),
         }
     }
 

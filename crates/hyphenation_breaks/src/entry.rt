@@ -1,9 +1,9 @@
 //! Values and listed breaks as a dictionary of either kind holds them: without changes, or with them.
 
-ghost use Rattle.std.specs.Prelude.{◌≡◌, ◌↔◌, IfSome, IsTrue, option_copied};
+ghost use Rattle.std.specs.Prelude.{◌≡◌, ◌↔◌, IsTrue, option_copied};
 ghost use Rattle.hyphenation_breaks.specs.Break.{Break};
 ghost use Rattle.hyphenation_breaks.specs.Invariant.{has_letter};
-ghost use Rattle.hyphenation_breaks.specs.Ranks.{plain_rank, rank_with_change};
+ghost use Rattle.hyphenation_breaks.specs.Ranks.{plain_rank, rank_as_byte, rank_with_change};
 
 use crate::breaks::Break;
 use crate::extended::Subregion;
@@ -34,7 +34,7 @@ impl<C: Payload> Entry<C> {
 
 /// The payload of a value: nothing in a standard dictionary, a change or none in an extended one.
 pub trait Payload: Drop {
-    ghost use Rattle.std.specs.Prelude.{◌≡◌, ◌⊎◌, ◌↔◌, ℕ, Option, None, option_copied, IfSome, IsTrue};
+    ghost use Rattle.std.specs.Prelude.{◌≡◌, ◌⊎◌, ◌↔◌, ℕ, Option, None, option_copied, IsTrue};
     ghost use Rattle.hyphenation_breaks.specs.Break.{Change};
 
     /// The change that a payload carries, if any.
@@ -58,7 +58,7 @@ pub trait Payload: Drop {
     ///
     /// In a standard dictionary it is the value. In an extended one it is twice the value, and one more with a change.
     fn rank(&self, value: u8) -> Option<u8>
-        ensures { IfSome result (λ rank. rank ≡ rank_of self.now value) };
+        ensures { result ≡ rank_as_byte (rank_of self.now value) };
 
     /// Reports whether a payload equals another one.
     fn is_same(&self, other: &Self) -> bool

@@ -3,7 +3,7 @@
 //! A pattern is a key, a text that may occur in words, with values at places of the key. An exception is a word with its
 //! listed breaks.
 
-ghost use Rattle.std.specs.Prelude.{◌≡◌, ◌↔◌, IsTrue, IfOk, OnOk, OnErr, option_copied};
+ghost use Rattle.std.specs.Prelude.{◌≡◌, ◌↔◌, IsTrue, IfOk, OnOk, OnErr, max, option_copied};
 ghost use Rattle.std.specs.FinMap as finite;
 ghost use Rattle.std.specs.Option.{option_map};
 ghost use Rattle.std.specs.String.{string_bytes};
@@ -119,6 +119,18 @@ impl<C: Payload, B: Break> Dictionary<C, B> {
         ensures { result ≡ (self.now.left, self.now.right) }
     {
         (usize::from(self.left), usize::from(self.right))
+    }
+
+    /// Raises the minima to at least these numbers of characters. Greater ones stay, and nothing else changes.
+    ///
+    /// ```text
+    /// dictionary.raise_minima(4, 2);      // the minima 2 and 3 are then 4 and 3
+    /// ```
+    pub fn raise_minima(&mut self, left: u8, right: u8)
+        ensures { self.new ≡ record self.old { left = max self.old.left left; right = max self.old.right right } }
+    {
+        self.left = self.left.max(left);
+        self.right = self.right.max(right);
     }
 
     /// Returns the breaks listed for a word, or `None` if the word is not an exception.

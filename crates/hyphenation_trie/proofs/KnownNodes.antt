@@ -1,5 +1,5 @@
 -- How the vectors of nodes are made by their links.
-use Rattle.std.proofs.Common.{◌≡◌, ℕ, suc, ◌+◌, ◌-◌, ◌<◌, ◌≤◌, max, ◌==◌, Bool, true, false, cond, List, [], ◌∷◌, ◌++◌, length, take, drop, get_or, set, map, filter, fold, replicate, Option, Some, None, refl, sym, ap, subst, ◌∙◌, arith, inl, inr}
+use Rattle.std.proofs.Common.{◌≡◌, ℕ, suc, ◌+◌, ◌-◌, ◌<◌, ◌≤◌, max, ◌==◌, Bool, true, false, cond, List, [], ◌∷◌, ◌++◌, length, take, drop, get_or, set, map, filter, fold, replicate, Option, Some, None, refl, sym, ap, subst, ◌∙◌, arith, inl, inr, if◌then◌else◌, nat_le, true≢false}
 use Rattle.std.specs.Prelude.{is_some, unwrap_or, count_by, slice_index, slice_index_or}
 use Rattle.std.specs.List.{flat_map, range_with_len}
 use Rattle.std.proofs.lemmas.Bool.{cases_lt, cases_eq, eq-eqb, ne_eqb}
@@ -7,7 +7,7 @@ use Rattle.std.proofs.lemmas.Grind.{fold-append}
 use Rattle.std.proofs.lemmas.List.{length-replicate, length-take, length-set, get_or-set_same, get_or-set_other, get_or_default, get_or-take, map-append, take_more}
 use Rattle.std.proofs.lemmas.List.Elements.{filter-append, filter_agree}
 use Rattle.hyphenation_breaks.specs.Dictionary.{Patterns, greatest}
-use Rattle.hyphenation_breaks.specs.Ranks.{greatest_rank}
+use Rattle.hyphenation_breaks.specs.Ranks.{greatest_rank, rank_as_byte}
 use Rattle.hyphenation_breaks.specs.declared.entry.Entry.{Entry}
 use Rattle.hyphenation_trie.specs.Links.{IsLongest}
 use Rattle.hyphenation_trie.specs.Private.Known.{AreByDepth, AreKnown, IsKnown, IsKnownNode, IsRaisedBy}
@@ -294,3 +294,12 @@ module _ {C : Type 0} (rank : C → ℕ → ℕ) (tree : Tree (Entry C)) (trie :
           subst (λ (k : ℕ). IsKnownNode rank tree numbers vectors counts k) there.2 (known.each there.0 (omega (arith, there.1, past)))
     ];
   }
+
+-- ---- ranks that are bytes
+
+in_byte : (is_in : Bool) (byte rank : ℕ) → Some byte ≡ if is_in then Some rank else None → byte ≡ rank
+in_byte true byte rank is = ap (λ found. unwrap_or found 0) is
+in_byte false byte rank is = absurd (true≢false (ap is_some is))
+
+pub rank_of_byte : (byte rank : ℕ) → Some byte ≡ rank_as_byte rank → byte ≡ rank
+rank_of_byte byte rank is = in_byte (nat_le rank 255) byte rank is

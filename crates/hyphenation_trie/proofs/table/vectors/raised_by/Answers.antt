@@ -1,7 +1,7 @@
 use Rattle.std.proofs.Common.{◌≡◌, ℕ, ◌-◌, List, length, get_or, ap, subst, ◌∙◌, arith}
 use Rattle.std.proofs.lemmas.List.{take_all, length-set}
 use Rattle.hyphenation_trie.specs.Vectors.{AreNearEntries}
-use Rattle.hyphenation_trie.proofs.KnownNodes.{set_raises, keep_raises, raised_next, near_next}
+use Rattle.hyphenation_trie.proofs.KnownNodes.{set_raises, keep_raises, raised_next, near_next, rank_of_byte}
 use Rattle.hyphenation_trie.proofs.table.vectors.raised_by.Goals as goal
 use Rattle.hyphenation_trie.proofs.table.vectors.raised_by.Goals.{then-raised-lane, else-raised-lane}
 
@@ -16,7 +16,7 @@ loop-entry-preserved g c =
     let at : ℕ = 15 - (bytes - e.place) in
     let inv = c.loop-entry.invariant in
     let v : ℕ = c.in_ok-rank.rank in
-    let v_is : v ≡ rank e.change e.value = c.in_ok-rank.ensures in
+    let v_is : v ≡ rank e.change e.value = rank_of_byte v (rank e.change e.value) c.in_ok-rank.ensures in
     record {
       raised = elim c.if-raised-lane.branch [
         | then-raised-lane w ↦ raised_next rank c.args.vector.now now c.if-raised-lane.raised es k e v bytes c.loop-entry-test.true c.entry-item.is v_is c.if-place-bytes.false c.if-bytes-place-gt15.false inv.raised
