@@ -555,41 +555,29 @@ fn has_change<C: Payload>(entries: &[Entry<C>]) -> bool {
         .any(|entry| entry.change.as_change().is_some())
 }
 
-// Whether a dictionary may have the key with these entries.
-fn fits<C: Payload>(key: &[u8], entries: &[Entry<C>]) -> bool {
-    match std::str::from_utf8(key) {
-        Ok(key) => fits_key(key, entries),
-        Err(_) => false,
-    }
-}
-
-// Notes of a pattern that its change forbids a break, and that it does not fit.
-fn note_losses_of<C: Payload>(
+// Notes of a pattern that its change forbids a break, where a dictionary has no room for changes.
+fn note_loss_of<C: Payload>(
     alloc: Global,
     notes: &mut Vec<Note>,
-    key: &[u8],
     pattern: &Pattern,
 ) -> Result<(), AllocError> {
-    let line = pattern.line;
     let entries = entries_of::<C>(alloc, pattern)?;
     if pattern.change.is_some() && !has_change(&entries) {
+        let line = pattern.line;
         add_note(notes, NoteKind::ChangeForbidden, LineRef { file: 0, line })?;
-    }
-    if !fits(key, &entries) {
-        add_note(notes, NoteKind::Unfit, LineRef { file: 0, line })?;
     }
     Ok(())
 }
 
-// Notes the patterns that a dictionary has no room for.
+// Notes the patterns whose changes a dictionary has no room for.
 pub(crate) fn note_losses<C: Payload>(
     alloc: Global,
     noted: &mut PatternNotes,
     patterns: &[(Vec<u8>, Pattern)],
 ) -> Result<(), AllocError> {
-    for (key, index) in noted.last.iter() {
+    for (_, index) in noted.last.iter() {
         if let Some((_, pattern)) = patterns.get(*index) {
-            note_losses_of::<C>(alloc, &mut noted.notes, key, pattern)?;
+            note_loss_of::<C>(alloc, &mut noted.notes, pattern)?;
         }
     }
     Ok(())

@@ -34,7 +34,6 @@ pub enum NoteKind {
     NoLetters,
     NoValue,
     Repeated,
-    Unfit,
     Capital,
     ExceptionRepeated,
 }
@@ -76,7 +75,6 @@ impl fmt::Display for NoteKind {
             NoteKind::NoLetters => "a pattern without letters, left out",
             NoteKind::NoValue => "a pattern without values, kept; it bears on nothing",
             NoteKind::Repeated => "a repeated pattern: the last is taken",
-            NoteKind::Unfit => "patterns that fit no dictionary, left out",
             NoteKind::Capital => "a pattern or an exception with capitals: read in small letters",
             NoteKind::ExceptionRepeated => "a repeated exception: the last is taken",
         })

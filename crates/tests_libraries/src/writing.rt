@@ -9,7 +9,6 @@ use hyphenation_breaks::language::Language;
 use hyphenation_dictionary::dictionary::Standard;
 use hyphenation_dictionary::search::automaton_of;
 use hyphenation_load::{Error, Load};
-use pattern_results::notes::NoteKind;
 use std::alloc::Global;
 use std::test::Fail;
 
@@ -77,14 +76,5 @@ fn a_language_is_shown_by_its_code_and_patterns_by_their_number_of_nodes(
     expect_text(
         patterns_debugged(rt.alloc(), SMALLEST),
         "Automaton { nodes: 3 }",
-    )
-}
-
-// No file was found of which this is noted, so that no row of a program shows it.
-#[test]
-fn patterns_that_fit_no_dictionary_have_their_note(rt: HostRuntime) -> Result<(), Fail> {
-    expect_text(
-        format!(in rt.alloc(); "{}", NoteKind::Unfit),
-        "patterns that fit no dictionary, left out",
     )
 }
