@@ -1,5 +1,5 @@
 -- The failures of a run.
-use Rattle.std.proofs.Common.{◌≡◌, ℕ, List, [], ◌∷◌, Option, refl, inl, inr}
+use Rattle.std.proofs.Common.{◌≡◌, ◌⊎◌, ◌++◌, ◌∙◌, ℕ, List, [], ◌∷◌, Option, append-nil, length, map, refl, sym, inl, inr}
 use Rattle.any_dictionary.specs.declared.AnyDictionary.{AnyDictionary}
 use Rattle.command_line.specs.Dictionaries.{KnownFiles, IsOfArgument, IsFailureOf}
 use Rattle.command_line.specs.Failures.{status_of}
@@ -9,9 +9,9 @@ use Rattle.command_line.specs.declared.failure.Failure.TheVariants as failed
 use Rattle.text_results.specs.Files.{WrittenFiles}
 use Rattle.text_results.specs.Texts.{IsFailureAmong, left_after}
 use Rattle.text_results.specs.Written.{IsFailureFor}
-use Rattle.text_command.specs.Arguments.{ParsedArgs}
+use Rattle.text_command.specs.Arguments.{ParsedArgs, ParsedOptions}
 use Rattle.text_command.specs.Private.Runs.{AreResultsBy, BeforeReading}
-use Rattle.text_command.specs.Written.{AreResults, IsFailureBefore}
+use Rattle.text_command.specs.Written.{AreResults, IsFailureBefore, results_of}
 
 not_among : (bytes_of : KnownFiles) (left : Option (List ℕ)) (names : List (List ℕ)) (failure : Failure)
     → (failure ≡ failed.Memory → ⊥) → ((l : Option (List ℕ)) (name : List ℕ) → IsFailureOfInput bytes_of l name failure → ⊥)
@@ -92,3 +92,15 @@ by_status P (failed.Reading input) before three = absurd cc
 by_status P (failed.Writing output) before three = absurd cc
 by_status P failed.Output before three = absurd cc
 by_status P failed.Memory before three = absurd cc
+
+-- ---- results
+
+-- Where the names or the texts are at their end, all results are there.
+pub results_end : {N T : Type 0} (name_of : N → List ℕ) (text_of : T → List ℕ) (options : ParsedOptions) (dictionary : AnyDictionary)
+    (results whole : List (List ℕ)) (names : List N) (texts : List T)
+    → results ++ results_of options dictionary (map name_of names) (map text_of texts) ≡ whole
+    → (length names ≡ 0) ⊎ (length texts ≡ 0) → results ≡ whole
+results_end name_of text_of options dictionary results whole [] texts told ends = sym (append-nil results) ∙ told
+results_end name_of text_of options dictionary results whole (name ∷ names) [] told ends = sym (append-nil results) ∙ told
+results_end name_of text_of options dictionary results whole (name ∷ names) (text ∷ texts) told (inl none) = absurd cc
+results_end name_of text_of options dictionary results whole (name ∷ names) (text ∷ texts) told (inr none) = absurd cc

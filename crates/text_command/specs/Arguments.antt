@@ -11,11 +11,12 @@ use Rattle.text_command.specs.declared.TheConstants.{USAGE}
 use Rattle.text_command.specs.declared.request.TheConstants.{SOFT_HYPHEN}
 
 -- The options: the mark; the least number of characters of a word that is broken; whether words that begin with a capital
--- are left alone; where results go.
+-- are left alone; whether each text is Markdown; where results go.
 pub record ParsedOptions : Type 0 where
   pub mark : List ℕ
   pub min_word : ℕ
   pub skip_capitals : Bool
+  pub markdown : Bool
   pub target : Target
 
 -- The arguments of marks: the options, the path or the language of a dictionary, and the names of the texts.
@@ -32,6 +33,7 @@ options_of given =
       mark = unwrap_or (last_value (codes "--mark") given) SOFT_HYPHEN.now;
       min_word = min_word;
       skip_capitals = is_given (codes "--skip-capitals") given;
+      markdown = is_given (codes "--markdown") given;
       target = target;
     }))
     (target_of given))

@@ -1,7 +1,7 @@
 -- The results and the statuses of the program `hyphenate-text`.
-use Rattle.std.specs.Prelude.{◌≡◌, ℕ, Bool, not, true, List, map, Option, None, Result, Ok, Err, ⊤}
+use Rattle.std.specs.Prelude.{◌≡◌, ℕ, ◌||◌, Bool, not, true, List, [], ◌∷◌, codes, nat_eq, if◌then◌else◌, Option, None, Result, Ok, Err, ⊤}
 use Rattle.std.specs.Borrow.{Bor}
-use Rattle.std.specs.List.{list_any}
+use Rattle.std.specs.List.{ends_with, list_any}
 use Rattle.any_dictionary.specs.Dictionaries.{places_by}
 use Rattle.any_dictionary.specs.declared.AnyDictionary.{AnyDictionary}
 use Rattle.command_line.specs.About.{help_or_version}
@@ -15,6 +15,8 @@ use Rattle.command_line.specs.declared.failure.Failure.{Failure}
 use Rattle.command_line.specs.declared.failure.Failure.TheVariants as failed
 use Rattle.composed_words.specs.Composed.{through_composed}
 use Rattle.text_words.specs.Words.{unless_mixed}
+use Rattle.hyphenation_html.specs.Dictionaries.{Breaks}
+use Rattle.hyphenation_html.specs.Markdown.{hyphenated_markdown_by}
 use Rattle.hyphenation_html.specs.Texts.{hyphenated_by}
 use Rattle.hyphenation_html.specs.Words.{within_limits}
 use Rattle.text_results.specs.Files.{WrittenFiles}
@@ -30,12 +32,28 @@ asked_text args = help_or_version NAME.now VERSION.now USAGE.now args
 
 -- ---- results
 
--- The result of a text, by options and a dictionary: the text with the mark at the breaks of its words that change no
--- letters. Each word is broken as its NFC is.
-abbrev pub result_of : ParsedOptions → AnyDictionary → List ℕ → List ℕ
-result_of options dictionary text =
-    hyphenated_by
-    (through_composed (within_limits options.min_word options.skip_capitals (unless_mixed (places_by dictionary)))) options.mark text
+-- A text is Markdown: the options say so, or its name ends so.
+abbrev pub is_markdown : ParsedOptions → List ℕ → Bool
+is_markdown options name =
+    options.markdown || ends_with nat_eq name (codes ".md") || ends_with nat_eq name (codes ".markdown")
+
+-- The breaks of words by options and a dictionary.
+abbrev pub breaks_of : ParsedOptions → AnyDictionary → Breaks
+breaks_of options dictionary =
+    through_composed (within_limits options.min_word options.skip_capitals (unless_mixed (places_by dictionary)))
+
+-- The result of a text of a name, by options and a dictionary: the text with the mark at the breaks of its words that change
+-- no letters. Each word is broken as its NFC is.
+abbrev pub result_of : ParsedOptions → AnyDictionary → List ℕ → List ℕ → List ℕ
+result_of options dictionary name text =
+    if is_markdown options name then hyphenated_markdown_by (breaks_of options dictionary) options.mark text
+    else hyphenated_by (breaks_of options dictionary) options.mark text
+
+-- The results of texts of these names, in their order.
+abbrev pub results_of : ParsedOptions → AnyDictionary → List (List ℕ) → List (List ℕ) → List (List ℕ)
+results_of options dictionary (name ∷ names) (text ∷ texts) =
+    result_of options dictionary name text ∷ results_of options dictionary names texts
+results_of options dictionary _ _ = []
 
 -- Results of arguments: those of the texts that they name, in their order, by the dictionary that they name.
 pub record AreResults (args : ParsedArgs) (bytes_of : KnownFiles) (folders : List (List ℕ)) (left : Option (List ℕ)) (results : List (List ℕ)) : Type 0 where
@@ -43,7 +61,7 @@ pub record AreResults (args : ParsedArgs) (bytes_of : KnownFiles) (folders : Lis
   pub named : IsOfArgument bytes_of folders args.dictionary dictionary
   pub texts : List (List ℕ)
   pub read : AreTextsOf bytes_of left args.inputs texts
-  pub each : results ≡ map (result_of args.options dictionary) texts
+  pub each : results ≡ results_of args.options dictionary args.inputs texts
 
 -- ---- failures
 

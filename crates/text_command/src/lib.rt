@@ -1,6 +1,7 @@
 //! The program `hyphenate-text` without its `main`: its arguments, messages and statuses.
 //!
-//! It puts marks into plain texts where their words may be broken, and leaves all else as it is. Or it takes soft hyphens out.
+//! It puts marks into texts, plain or in Markdown, where their words may be broken, and leaves all else as it is. Or it
+//! takes soft hyphens out.
 #![tactic(auto)]
 
 ghost use Rattle.std.specs.Prelude.{◌≡◌, true, Ok, Some, is_some};
@@ -51,12 +52,15 @@ Writes plain texts with soft hyphens where a dictionary breaks their words.
   --mark MARK        in place of the soft hyphen
   --min-word N       shorter words are left alone; N counts characters
   --skip-capitals    words that begin with a capital are left alone
+  --markdown         each FILE is Markdown; so is one whose name ends in .md
+                     or .markdown
   --remove           soft hyphens are taken out, and none are put in; then all
                      operands are FILEs
   -o, --output FILE  the results go into this file, which is replaced
   -i, --in-place     each FILE is replaced by its result
 Of an extended dictionary the breaks that change no letter are used. Addresses,
-paths, names of files, and what has a soft hyphen, are left alone.
+paths, names of files, and what has a soft hyphen, are left alone. So are code,
+targets of links, HTML and front matter in Markdown.
 ";
 
 /// The message if memory was refused.
@@ -113,7 +117,8 @@ impl<'w, F: NamedFiles, S: ReplaceFiles, I: Read, O: Write> ProgramSteps<S, I, O
 ///
 /// The texts are read by `files` and `input`. Their results go to `output`, one after the other, or into files that
 /// `store` replaces. All of them are made before the first byte is written. A language is looked for in
-/// the folders of the call.
+/// the folders of the call. A text is read as Markdown by the option `--markdown`, or if its name ends in `.md` or
+/// `.markdown`.
 ///
 /// | Status | When |
 /// |---|---|

@@ -27,6 +27,8 @@ pub struct Options<'w> {
     pub min_word: usize,
     /// Whether words that begin with a capital are left as they are.
     pub skip_capitals: bool,
+    /// Whether each text is Markdown.
+    pub markdown: bool,
     /// The place to which results go.
     pub target: Target<'w>,
 }
@@ -62,6 +64,7 @@ impl<'w> Options<'w> {
             mark: arguments.last("--mark").unwrap_or(SOFT_HYPHEN),
             min_word,
             skip_capitals: arguments.has("--skip-capitals"),
+            markdown: arguments.has("--markdown"),
             target,
         })
     }

@@ -1,34 +1,44 @@
 //! A run of the program: from a dictionary and texts to results that are written.
 
-ghost use Rattle.std.specs.Prelude.{◌≡◌, ◌⊎◌, false, IfErr, IfOk, OnOk, map};
+ghost use Rattle.std.specs.Prelude.{◌≡◌, ◌⊎◌, false, IfErr, IfOk, OnOk};
 ghost use Rattle.std.specs.List.{list_any};
 ghost use Rattle.std.specs.String.{string_bytes};
 ghost use Rattle.command_line.specs.Inputs.{is_standard_input};
 ghost use Rattle.hyphenation_breaks.specs.Borrowed.{texts_now};
 ghost use Rattle.text_command.specs.Private.Requests.{parsed_options, parsed_request};
-ghost use Rattle.text_command.specs.Private.Runs.{BeforeReading, HasResults, HasResultsBy, IsFailureOfRequest, WritesRequest};
-ghost use Rattle.text_command.specs.Written.{result_of, IsFailureBefore};
+ghost use Rattle.text_command.specs.Private.Runs.{AreResultsOf, BeforeReading, HasResults, HasResultsBy, IsFailureOfRequest, WritesRequest};
+ghost use Rattle.text_command.specs.Written.{is_markdown, result_of, IsFailureBefore};
 ghost use Rattle.text_results.specs.Texts.{IsFailureAmong};
 
 use crate::request::{Options, Request};
 use any_dictionary::AnyDictionary;
 use command_line::dictionaries::load_dictionary;
 use command_line::{Failure, NamedFiles};
-use hyphenation_html::{Settings, hyphenate_text};
+use hyphenation_html::{Settings, hyphenate_markdown, hyphenate_text};
 use std::alloc::{AllocError, Global};
 use std::io::{Read, Write};
 use text_results::files::ReplaceFiles;
 use text_results::results::write_results;
 use text_results::texts::{push, read_texts};
 
+// Whether a text of a name is Markdown.
+fn is_markdown(options: &Options<'_>, name: &str) -> bool
+    ensures { result ≡ is_markdown (parsed_options options.now) name.now }
+{
+    let bytes = name.as_bytes();
+    options.markdown || bytes.ends_with(b".md") || bytes.ends_with(b".markdown")
+}
+
 // Returns the result of a text.
 fn result_of(
     alloc: Global,
     dictionary: &AnyDictionary,
     options: &Options<'_>,
+    name: &str,
     text: &str,
 ) -> Result<String, AllocError>
-    ensures { IfOk result (λ one. string_bytes one ≡ result_of (parsed_options options.now) dictionary.now text.now) }
+    ensures { IfOk result (λ one.
+        string_bytes one ≡ result_of (parsed_options options.now) dictionary.now name.now text.now) }
 {
     let settings = Settings {
         mark: options.mark,
@@ -36,22 +46,26 @@ fn result_of(
         min_word: options.min_word,
         skip_capitals: options.skip_capitals,
     };
-    hyphenate_text(alloc, dictionary, &settings, text)
+    if is_markdown(options, name) {
+        hyphenate_markdown(alloc, dictionary, &settings, text)
+    } else {
+        hyphenate_text(alloc, dictionary, &settings, text)
+    }
 }
 
-// Returns the results of texts.
+// Returns the results of texts of these names.
 fn results_of_texts(
     alloc: Global,
     dictionary: &AnyDictionary,
     options: &Options<'_>,
+    names: &[&str],
     texts: &[String],
 ) -> Result<Vec<String>, AllocError>
-    ensures { IfOk result (λ results. map string_bytes results.items
-        ≡ map (result_of (parsed_options options.now) dictionary.now) (map string_bytes texts.now)) }
+    ensures { IfOk result (λ results. AreResultsOf options.now dictionary.now names.now texts.now results.items) }
 {
     let mut results = Vec::new(alloc);
-    for text in texts {
-        let one = result_of(alloc, dictionary, options, text)?;
+    for (name, text) in names.iter().zip(texts) {
+        let one = result_of(alloc, dictionary, options, name, text)?;
         push(&mut results, one)?;
     }
     Ok(results)
@@ -73,7 +87,7 @@ fn results_by<F: NamedFiles, I: Read>(
     ensures unread { list_any is_standard_input (texts_now request.now.inputs.items) ≡ false → input.new ≡ input.old }
 {
     let texts = read_texts(files, alloc, &request.inputs, input)?;
-    let results = results_of_texts(alloc, dictionary, &request.options, &texts)?;
+    let results = results_of_texts(alloc, dictionary, &request.options, &request.inputs, &texts)?;
     Ok(results)
 }
 

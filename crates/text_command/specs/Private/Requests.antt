@@ -17,6 +17,7 @@ parsed_options options = record {
   mark = options.mark.now;
   min_word = options.min_word;
   skip_capitals = options.skip_capitals;
+  markdown = options.markdown;
   target = as_target options.target;
 }
 

@@ -12,14 +12,20 @@ use Rattle.command_line.specs.declared.failure.Failure.TheVariants as failed
 use Rattle.text_results.specs.Files.{WrittenFiles}
 use Rattle.text_results.specs.Written.{WritesResults, IsFailureFor}
 use Rattle.text_command.specs.Arguments.{ParsedArgs}
-use Rattle.text_command.specs.Private.Requests.{parsed_request}
-use Rattle.text_command.specs.Written.{result_of, AreResults, IsFailureBefore}
+use Rattle.text_command.specs.Private.Requests.{parsed_options, parsed_request}
+use Rattle.text_command.specs.Written.{results_of, AreResults, IsFailureBefore}
+use Rattle.text_command.specs.declared.request.Options.{Options}
 use Rattle.text_command.specs.declared.request.Request.{Request}
+
+-- These strings are the results of texts of these names.
+abbrev pub AreResultsOf : {Y Z : Type 0} → Options → AnyDictionary → List (Bor (List ℕ)) → List (String Y) → List (String Z) → Type 0
+AreResultsOf options dictionary names texts results =
+    map string_bytes results ≡ results_of (parsed_options options) dictionary (texts_now names) (map string_bytes texts)
 
 -- Results of arguments by a dictionary: those of the texts that they name, in their order.
 abbrev pub AreResultsBy : ParsedArgs → AnyDictionary → KnownFiles → Option (List ℕ) → List (List ℕ) → Type 0
 AreResultsBy args dictionary bytes_of left results = (texts : List (List ℕ))
-    × AreTextsOf bytes_of left args.inputs texts × (results ≡ map (result_of args.options dictionary) texts)
+    × AreTextsOf bytes_of left args.inputs texts × (results ≡ results_of args.options dictionary args.inputs texts)
 
 -- These strings are the results of a request by a dictionary.
 abbrev pub HasResultsBy : {Z : Type 0} → Request → AnyDictionary → KnownFiles → Option (List ℕ) → List (String Z) → Type 0

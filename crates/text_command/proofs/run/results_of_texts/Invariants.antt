@@ -1,10 +1,11 @@
-use Rattle.std.proofs.Common.{◌≡◌, ◌++◌, drop, map}
+use Rattle.std.proofs.Common.{◌≡◌, ◌++◌, map}
 use Rattle.std.specs.String.{string_bytes}
+use Rattle.hyphenation_breaks.specs.Borrowed.{texts_now}
 use Rattle.text_command.specs.Private.Requests.{parsed_options}
-use Rattle.text_command.specs.Written.{result_of}
+use Rattle.text_command.specs.Written.{results_of}
 use Rattle.text_command.proofs.run.results_of_texts.Given as goal
 
-abbrev pub invariant-loop-text : goal.invariant-loop-text
-invariant-loop-text l =
-    let each = result_of (parsed_options l.options) l.dictionary in
-    map string_bytes l.results.items ++ map each (map string_bytes (drop l.text-index l.texts)) ≡ map each (map string_bytes l.texts)
+abbrev pub invariant-loop-name : goal.invariant-loop-name
+invariant-loop-name l =
+    map string_bytes l.results.items ++ results_of (parsed_options l.options) l.dictionary (texts_now l.name-iterator.a.rest.now) (map string_bytes l.name-iterator.b.rest.now)
+    ≡ results_of (parsed_options l.options) l.dictionary (texts_now l.names) (map string_bytes l.texts)
