@@ -11,7 +11,7 @@ use Rattle.convert_command.specs.Arguments.{ParsedArgs, ParsesAs, asked_text, is
 use Rattle.convert_command.specs.Failures.{IsFailureOfBytes, IsOutside}
 use Rattle.convert_command.specs.Messages.{TellsFailure, notes_text, rejection_message}
 use Rattle.convert_command.specs.Rejections.{input_of}
-use Rattle.convert_command.specs.Written.{AreBytesAt, AreNotesOf}
+use Rattle.convert_command.specs.Written.{AreBytesAt, AreNotesBy}
 use Rattle.convert_command.specs.declared.Failure.{Failure}
 use Rattle.convert_command.specs.declared.Failure.TheVariants.{Reading, Refused, Minima, Writing, Memory}
 use Rattle.convert_command.specs.declared.request.BadArgs.{BadArgs}
@@ -42,7 +42,7 @@ IsFailureFor parsed is_dic bytes_of failure = IsOutside failure
 -- The notes are those on the files of parsed arguments, by the bytes of these files.
 abbrev pub AreNotesFor : ParsedArgs → Bool → KnownFiles → List Note → Type 0
 AreNotesFor parsed is_dic bytes_of notes = (all : List (List ℕ)) × AreBytesAt bytes_of parsed.paths all
-    × AreNotesOf is_dic parsed.paths all notes
+    × AreNotesBy parsed.kind is_dic parsed.left parsed.right parsed.paths all notes
 
 -- The program rejects its arguments, with status 2, and tells exactly why.
 abbrev pub EndsRejected : List (Bor (List ℕ)) → ℕ → (List ℕ → Type 0) → Type 0

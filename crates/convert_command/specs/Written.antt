@@ -1,5 +1,5 @@
 -- The output and the statuses of the program `hyphenate-convert`.
-use Rattle.std.specs.Prelude.{◌≡◌, ◌≢◌, ◌⊎◌, ℕ, Bool, true, false, List, [], Option, Some, None, IfSome, map, slice_index_or, ⊤}
+use Rattle.std.specs.Prelude.{◌≡◌, ◌≢◌, ◌⊎◌, ℕ, Bool, true, false, List, [], Option, Some, None, IfSome, map, slice_index_or}
 use Rattle.std.specs.Borrow.{Bor}
 use Rattle.std.specs.Io.KnownBytes.{Appends}
 use Rattle.std.specs.List.{AllZip}
@@ -11,6 +11,7 @@ use Rattle.hyphenation_grammar.specs.declared.form.Kind.{Kind}
 use Rattle.hyphenation_grammar.specs.declared.form.Kind.TheVariants.{Standard, Extended}
 use Rattle.hyphenation_writer.specs.Canonical.{standard_text, extended_text}
 use Rattle.libreoffice_files.specs.LibreOffice.{contents_of_dic}
+use Rattle.libreoffice_files.specs.Notes.{notes_of_dic}
 use Rattle.pattern_results.specs.declared.notes.Note.{Note}
 use Rattle.tex_files.specs.Converting.{contents_of_files}
 use Rattle.tex_files.specs.Heads.{minima_for}
@@ -48,11 +49,21 @@ IsMadeOf change_of payload_of listing_of false code left right paths all diction
     × (minima_for left right files ≡ Some (least_left, least_right))
     × (dictionary ≡ contents_of_files payload_of listing_of code least_left least_right files)
 
--- The notes are exactly those on files of TeX and plain ones with these paths and bytes, in their order. The notes on a .dic are
--- some: no clause of its reader says which.
-abbrev pub AreNotesOf : Bool → List (List ℕ) → List (List ℕ) → List Note → Type 0
-AreNotesOf true paths all notes = ⊤
-AreNotesOf false paths all notes = (files : List File) × AreFilesAt paths all files × (notes ≡ notes_of_files files)
+-- The notes are exactly those on files with these paths and bytes: on a .dic, which is the only file, or on files of TeX and plain
+-- ones, in their order.
+abbrev pub AreNotesOf : {C : Type 0} → (C → Option Change) → (Option Change → C) → Bool → Option ℕ → Option ℕ
+    → List (List ℕ) → List (List ℕ) → List Note → Type 0
+AreNotesOf change_of payload_of true left right paths all notes =
+    notes ≡ notes_of_dic change_of payload_of left right (slice_index_or all 0 [])
+AreNotesOf change_of payload_of false left right paths all notes =
+    (files : List File) × AreFilesAt paths all files × (notes ≡ notes_of_files files)
+
+-- The notes are those for a dictionary of that kind.
+abbrev pub AreNotesBy : Kind → Bool → Option ℕ → Option ℕ → List (List ℕ) → List (List ℕ) → List Note → Type 0
+AreNotesBy Standard is_dic left right paths all notes =
+    AreNotesOf {C = Unit {0}} (λ _. None) no_payload is_dic left right paths all notes
+AreNotesBy Extended is_dic left right paths all notes =
+    AreNotesOf change_as_payload change_as_payload is_dic left right paths all notes
 
 -- The canonical text of the dictionary of that kind, language and minima, which files with these paths and bytes make, was
 -- appended.

@@ -175,7 +175,8 @@ fn convert_tex<C: Payload, B: Listing>(
         IsFor request.now.language request.now.left request.now.right found.dictionary) }
     ensures of_files { IfOk result (λ found. IsMadeFor C.change_of C.payload_of B.listing_of false request.now bytes.now
         found.dictionary) }
-    ensures notes { IfOk result (λ found. AreNotesOn false request.now bytes.now found.notes.items) }
+    ensures notes { IfOk result (λ found.
+        AreNotesOn C.change_of C.payload_of false request.now bytes.now found.notes.items) }
     ensures misses_minima { IfErr result (MissesMinima request.now.left request.now.right) }
     ensures failure { IfErr result (IsFailureOf false request.now bytes.now) }
 {
@@ -212,8 +213,8 @@ fn convert_files<C: Payload, B: Listing>(
         IsFor request.now.language request.now.left request.now.right found.dictionary) }
     ensures of_files { IfOk result (λ found. IsMadeFor C.change_of C.payload_of B.listing_of (is_dic request.now.input)
         request.now bytes.now found.dictionary) }
-    ensures notes { IfOk result (λ found.
-        AreNotesOn (is_dic request.now.input) request.now bytes.now found.notes.items) }
+    ensures notes { IfOk result (λ found. AreNotesOn C.change_of C.payload_of (is_dic request.now.input) request.now
+        bytes.now found.notes.items) }
     ensures misses_minima { IfErr result (MissesMinima request.now.left request.now.right) }
     ensures failure { IfErr result (IsFailureOf (is_dic request.now.input) request.now bytes.now) }
 {
@@ -261,7 +262,7 @@ fn write_text<D: Load, O: Write>(
 }
 
 // Reads the files, makes a dictionary of them and writes it. Returns the notes on the files.
-#[tactic(auto, using(crate::proofs::Writing::standard_written, crate::proofs::Writing::extended_written, crate::proofs::Reading::as_many, crate::proofs::Failing::outside_fails, crate::proofs::Failing::bytes_fail, crate::proofs::Noting::noted_for))]
+#[tactic(auto, using(crate::proofs::Writing::standard_written, crate::proofs::Writing::extended_written, crate::proofs::Reading::as_many, crate::proofs::Failing::outside_fails, crate::proofs::Failing::bytes_fail, crate::proofs::Noting::noted_for, crate::proofs::Noting::standard_noted, crate::proofs::Noting::extended_noted))]
 fn run<F: NamedFiles, O: Write>(
     files: &F,
     alloc: Global,

@@ -6,3 +6,4 @@ pub mod SmallValues
 pub mod Changing
 pub mod Keeping
 pub mod Making
+pub mod Noting

@@ -4,4 +4,5 @@ pub mod LibreOfficePatterns
 pub mod LibreOffice
 pub mod Longest
 pub mod Changes
+pub mod Notes
 pub mod Private

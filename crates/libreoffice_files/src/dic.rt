@@ -12,14 +12,13 @@ ghost use Rattle.libreoffice_files.specs.LibreOffice.{first_and_rest, trimmed, s
 ghost use Rattle.libreoffice_files.specs.LibreOffice.{encoded_in, encoded_lines, encoded_fault, lines_of_dic, all_patterns, dic_fault};
 ghost use Rattle.libreoffice_files.specs.LibreOffice.{fault_of_lines, kept_in, contents_of_patterns, contents_of_dic};
 ghost use Rattle.pattern_results.specs.Errors.{IsFileError};
+ghost use Rattle.libreoffice_files.specs.Notes.{notes_of_dic, notes_on, notes_on_encoded};
 ghost use Rattle.libreoffice_files.specs.Private.Views.{line_view, settings_view, spelt_view, keyed_view, encoded_view, has_small_values};
 ghost use Rattle.std.specs.List.{filter_map};
 
 use crate::charset::{Charset, text_of};
-use crate::dic_patterns::{
-    Pattern, PatternNotes, forbid_all, note_hiding, note_levels, note_losses, patterns_of,
-    push_fitting,
-};
+use crate::dic_notes::notes_on;
+use crate::dic_patterns::{Pattern, forbid_all, patterns_of, push_fitting};
 use crate::lines::{
     FileSettings, Line, LineKind, line_fault, line_of, lines_of, minimum_of, minimum_set,
     settings_of,
@@ -31,7 +30,7 @@ use hyphenation_grammar::lines::starts_with;
 use pattern_results::converted::Converted;
 use pattern_results::dictionary_parts::DictionaryParts;
 use pattern_results::errors::{ConvertError, FileCause, FileError};
-use pattern_results::notes::NoteKind;
+use pattern_results::notes::Note;
 use std::alloc::{AllocError, Global};
 
 // The place of the first line feed, in bytes.
@@ -126,10 +125,18 @@ fn encoded_in(bytes: &[u8]) -> Option<Encoded<'_>>
     }
 }
 
-// A file, read: its patterns, and the minima that it sets.
+// A file, read: its patterns, the minima that it sets, and the notes on it.
 #[derive(Drop)]
 struct DicFile {
     patterns: Vec<(Vec<u8>, Pattern)>,
+    left: Option<u8>,
+    right: Option<u8>,
+    notes: Vec<Note>,
+}
+
+// The minima that a caller gives.
+#[derive(Clone, Copy)]
+struct GivenMinima {
     left: Option<u8>,
     right: Option<u8>,
 }
@@ -137,30 +144,23 @@ struct DicFile {
 // The patterns of lines, and after them those of NOHYPHEN.
 fn all_patterns(
     alloc: Global,
-    noted: &mut PatternNotes,
     lines: &[Line<'_>],
     settings: FileSettings<'_>,
 ) -> Result<Vec<(Vec<u8>, Pattern)>, AllocError>
     requires { settings_view settings ≡ settings_of (map line_view lines.now) }
     ensures { IfOk result (λ patterns. map keyed_view patterns.items ≡ all_patterns (map line_view lines.now)) }
 {
-    let mut patterns = patterns_of(alloc, noted, lines)?;
-    note_hiding(alloc, noted, &patterns)?;
-    forbid_all(
-        alloc,
-        noted,
-        &mut patterns,
-        settings.no_hyphen.unwrap_or(""),
-    )?;
-    note_levels(noted, lines)?;
+    let mut patterns = patterns_of(alloc, lines)?;
+    forbid_all(alloc, &mut patterns, settings.no_hyphen.unwrap_or(""))?;
     Ok(patterns)
 }
 
 // Reads lines. An error is their first fault, or out of memory.
 #[tactic(auto, using(crate::proofs::Keeping::as_many))]
-fn dic_of_lines(
+fn dic_of_lines<C: Payload>(
     alloc: Global,
-    noted: &mut PatternNotes,
+    given: GivenMinima,
+    first: usize,
     lines: &[Line<'_>],
 ) -> Result<DicFile, FileError>
     ensures no_fault { OnOk result (fault_of_lines (map line_view lines.now) ≡ None) }
@@ -168,13 +168,15 @@ fn dic_of_lines(
         ≡ all_patterns (map line_view lines.now)) }
     ensures left { IfOk result (λ dic. dic.left ≡ minimum_set (settings_of (map line_view lines.now)).left) }
     ensures right { IfOk result (λ dic. dic.right ≡ minimum_set (settings_of (map line_view lines.now)).right) }
+    ensures notes { IfOk result (λ dic. dic.notes.items
+        ≡ notes_on C.change_of C.payload_of given.left given.right first (map line_view lines.now)) }
     ensures first_fault { IfErr result (λ error. IsFileError error (fault_of_lines (map line_view lines.now))) }
 {
     if let Some((line, cause)) = line_fault(lines) {
         return Err(FileError::OnLine(line, cause));
     }
     let settings = settings_of(lines);
-    let patterns = all_patterns(alloc, noted, lines, settings)?;
+    let patterns = all_patterns(alloc, lines, settings)?;
     if patterns.is_empty() {
         return Err(FileError::OnLine(1, FileCause::Nothing));
     }
@@ -182,13 +184,14 @@ fn dic_of_lines(
         patterns,
         left: minimum_set(settings.left),
         right: minimum_set(settings.right),
+        notes: notes_on::<C>(alloc, given.left, given.right, first, lines, settings)?,
     })
 }
 
 // Reads bytes by their charset. An error is their first fault, or out of memory.
-fn dic_of_encoded(
+fn dic_of_encoded<C: Payload>(
     alloc: Global,
-    noted: &mut PatternNotes,
+    given: GivenMinima,
     encoded: Encoded<'_>,
 ) -> Result<DicFile, FileError>
     requires { encoded.first < 3 }
@@ -199,83 +202,73 @@ fn dic_of_encoded(
         ≡ minimum_set (settings_of (encoded_lines (encoded_view encoded.entry))).left) }
     ensures right { IfOk result (λ dic. dic.right
         ≡ minimum_set (settings_of (encoded_lines (encoded_view encoded.entry))).right) }
+    ensures notes { IfOk result (λ dic. dic.notes.items
+        ≡ notes_on_encoded C.change_of C.payload_of given.left given.right (encoded_view encoded.entry)) }
     ensures first_fault { IfErr result (λ error. IsFileError error (encoded_fault (encoded_view encoded.entry))) }
 {
     let text = text_of(alloc, encoded.charset, encoded.bytes, encoded.first)?;
     let lines = lines_of(alloc, encoded.first, &text)?;
-    dic_of_lines(alloc, noted, &lines)
+    dic_of_lines::<C>(alloc, given, encoded.first, &lines)
 }
 
 // Reads a file. An error is its first fault, or out of memory.
-fn dic_of_bytes(alloc: Global, noted: &mut PatternNotes, bytes: &[u8]) -> Result<DicFile, FileError>
+fn dic_of_bytes<C: Payload>(
+    alloc: Global,
+    given: GivenMinima,
+    bytes: &[u8],
+) -> Result<DicFile, FileError>
     ensures no_fault { OnOk result (dic_fault bytes.now ≡ None) }
     ensures patterns { IfOk result (λ dic. map keyed_view dic.patterns.items
         ≡ all_patterns (lines_of_dic bytes.now)) }
     ensures left { IfOk result (λ dic. dic.left ≡ minimum_set (settings_of (lines_of_dic bytes.now)).left) }
     ensures right { IfOk result (λ dic. dic.right ≡ minimum_set (settings_of (lines_of_dic bytes.now)).right) }
+    ensures notes { IfOk result (λ dic. dic.notes.items
+        ≡ notes_of_dic C.change_of C.payload_of given.left given.right bytes.now) }
     ensures first_fault { IfErr result (λ error. IsFileError error (dic_fault bytes.now)) }
 {
     let Some(encoded) = encoded_in(bytes) else {
         return Err(FileError::OnLine(1, FileCause::Charset));
     };
-    if encoded.first == 1 {
-        noted.note(NoteKind::NoCharset, 1)?;
-    }
-    dic_of_encoded(alloc, noted, encoded)
+    dic_of_encoded::<C>(alloc, given, encoded)
 }
 
-// Notes that a minimum is neither given nor set.
-fn note_minima(
-    noted: &mut PatternNotes,
-    left: Option<u8>,
-    right: Option<u8>,
-) -> Result<(), AllocError> {
-    if left.is_none() || right.is_none() {
-        noted.note(NoteKind::NoMinima, 1)?;
-    }
-    Ok(())
-}
-
-// The dictionary of a file that was read, with these minima.
+// The dictionary of patterns, with these minima.
 fn dictionary_of<C: Payload, B: Listing>(
     alloc: Global,
     language: Language,
     left: u8,
     right: u8,
-    dic: &DicFile,
+    patterns: &[(Vec<u8>, Pattern)],
 ) -> Result<Dictionary<C, B>, AllocError>
-    requires { All (λ p. has_small_values (spelt_view p.1)) dic.now.patterns.items }
+    requires { All (λ p. has_small_values (spelt_view p.1)) patterns.now }
     ensures { IfOk result (λ d. d ≡ contents_of_patterns C.change_of C.payload_of language left right
-        (map keyed_view dic.now.patterns.items)) }
+        (map keyed_view patterns.now)) }
 {
     let mut parts = DictionaryParts::new(alloc);
-    push_fitting(alloc, &mut parts, &dic.patterns)?;
+    push_fitting(alloc, &mut parts, patterns)?;
     Ok(parts.make(alloc, language, left, right)?)
 }
 
-// The dictionary of a file's bytes. An error is the file's first fault, or out of memory.
+// The dictionary of a file's bytes, with the notes on it. An error is the file's first fault, or out of memory.
 fn dictionary_in<C: Payload, B: Listing>(
     alloc: Global,
-    noted: &mut PatternNotes,
     language: Language,
-    left: Option<u8>,
-    right: Option<u8>,
+    given: GivenMinima,
     bytes: &[u8],
-) -> Result<Dictionary<C, B>, FileError>
+) -> Result<Converted<C, B>, FileError>
     ensures no_fault { OnOk result (dic_fault bytes.now ≡ None) }
-    ensures contents { IfOk result (λ d. d ≡ contents_of_dic C.change_of C.payload_of language left right bytes.now) }
+    ensures contents { IfOk result (λ found. found.dictionary
+        ≡ contents_of_dic C.change_of C.payload_of language given.left given.right bytes.now) }
+    ensures notes { IfOk result (λ found. found.notes.items
+        ≡ notes_of_dic C.change_of C.payload_of given.left given.right bytes.now) }
     ensures first_fault { IfErr result (λ error. IsFileError error (dic_fault bytes.now)) }
 {
-    let dic = dic_of_bytes(alloc, noted, bytes)?;
-    note_minima(noted, left.or(dic.left), right.or(dic.right))?;
-    note_losses::<C>(alloc, noted, &dic.patterns)?;
-    Ok(dictionary_of(
-        alloc,
-        language,
-        minimum_of(left, dic.left),
-        minimum_of(right, dic.right),
-        &dic,
-    )?)
+    let dic = dic_of_bytes::<C>(alloc, given, bytes)?;
+    let left = minimum_of(given.left, dic.left);
+    let right = minimum_of(given.right, dic.right);
+    let dictionary = dictionary_of(alloc, language, left, right, &dic.patterns)?;
+    let notes = dic.notes;
+    Ok(Converted { dictionary, notes })
 }
 
 /// Makes a dictionary of a `.dic`. A least number of letters before or after a break that is not given is the file's,
@@ -284,7 +277,10 @@ fn dictionary_in<C: Payload, B: Listing>(
 /// Each pattern of both levels gives a key with its values. If a key comes several times, the last one counts, and of
 /// several digits in one place the last one. A text that NOHYPHEN names has the value 8 at both ends. An extended
 /// dictionary has the changes of the file's patterns. A standard one has no room for them: its pattern forbids the
-/// break that it would change, which is noted.
+/// break that it would change.
+///
+/// The notes say what was left out or decided: of each line by itself first, then of the patterns beside one another, of the
+/// levels, of the minima, and of changes that a standard dictionary has no room for.
 ///
 /// An error is the first fault: its line and the cause. Out of memory says nothing of the file.
 pub fn convert_dic<C: Payload, B: Listing>(
@@ -297,15 +293,12 @@ pub fn convert_dic<C: Payload, B: Listing>(
     ensures no_fault { OnOk result (dic_fault bytes.now ≡ None) }
     ensures contents { IfOk result (λ found. found.dictionary
         ≡ contents_of_dic C.change_of C.payload_of language left right bytes.now) }
+    ensures notes { IfOk result (λ found. found.notes.items ≡ notes_of_dic C.change_of C.payload_of left right bytes.now) }
     ensures first_fault { IfErr result (λ error.
         IsConvertError error (option_map (λ fault. (0, fault)) (dic_fault bytes.now))) }
 {
-    let mut noted = PatternNotes::new(alloc);
-    match dictionary_in(alloc, &mut noted, language, left, right, bytes) {
-        Ok(dictionary) => {
-            let PatternNotes { notes, .. } = noted;
-            Ok(Converted { dictionary, notes })
-        }
+    match dictionary_in(alloc, language, GivenMinima { left, right }, bytes) {
+        Ok(converted) => Ok(converted),
         Err(FileError::Memory) => Err(ConvertError::Memory),
         Err(FileError::OnLine(line, cause)) => Err(ConvertError::Fault {
             file: 0,

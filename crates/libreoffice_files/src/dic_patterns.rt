@@ -15,67 +15,20 @@ ghost use Rattle.libreoffice_files.specs.Private.Views.{with_keys, line_view, sp
 use crate::carried_changes::carried_entry;
 use crate::change::{PlacedChange, change_of, has_byte};
 use crate::lines::{Line, LineKind, split_at_byte};
-use crate::longest::hides_value;
 use crate::value::Value;
 use hyphenation_breaks::entry::{Entry, Listing, Payload, has_letter};
 use hyphenation_breaks::extended::Subregion;
 use hyphenation_dictionary::maker::fits_key;
-use hyphenation_trie::{Automaton, Trie, to_u32};
+use hyphenation_trie::to_u32;
 use pattern_results::dictionary_parts::DictionaryParts;
-use pattern_results::notes::{LineRef, Note, NoteKind, add_note};
 use pattern_results::texts::text_from_utf8;
 use std::alloc::{AllocError, Global};
-use std::collections::BTreeMap;
 
-// A pattern without its key: its values, its change, and the line that it is on.
+// A pattern without its key: its values and its change.
 #[derive(Drop)]
 pub(crate) struct Pattern {
-    values: Vec<Value>,
-    change: Option<PlacedChange>,
-    line: usize,
-}
-
-// Remarks, and the index of the last pattern of each key.
-#[derive(Drop)]
-pub(crate) struct PatternNotes {
-    pub notes: Vec<Note>,
-    last: BTreeMap<Vec<u8>, usize>,
-}
-
-impl PatternNotes {
-    // No remark, and no pattern.
-    pub(crate) fn new(alloc: Global) -> PatternNotes {
-        PatternNotes {
-            notes: Vec::new(alloc),
-            last: BTreeMap::new(alloc),
-        }
-    }
-
-    // Notes a remark on a line.
-    pub(crate) fn note(&mut self, kind: NoteKind, line: usize) -> Result<(), AllocError> {
-        add_note(&mut self.notes, kind, LineRef { file: 0, line })
-    }
-
-    // Notes missing values and repetition of a pattern that is kept at that index.
-    fn note_kept(
-        &mut self,
-        alloc: Global,
-        key: &[u8],
-        pattern: &Pattern,
-        index: usize,
-    ) -> Result<(), AllocError> {
-        if pattern.values.is_empty() {
-            self.note(NoteKind::NoValue, pattern.line)?;
-        }
-        if self
-            .last
-            .insert(Vec::from_slice(alloc, key)?, index)?
-            .is_some()
-        {
-            self.note(NoteKind::Repeated, pattern.line)?;
-        }
-        Ok(())
-    }
+    pub values: Vec<Value>,
+    pub change: Option<PlacedChange>,
 }
 
 // Appends the value that a digit writes, unless the value is 0.
@@ -94,26 +47,14 @@ fn push_value(values: &mut Vec<Value>, place: usize, digit: u8) -> Result<(), Al
 }
 
 // Whether a byte is a digit.
-fn is_digit(byte: u8) -> bool
+pub(crate) fn is_digit(byte: u8) -> bool
     ensures { result ≡ is_digit byte }
 {
     matches!(byte, b'0'..=b'9')
 }
 
-// Whether two digits are in succession.
-fn has_two_values_in_one_place(body: &[u8]) -> bool {
-    let mut after_digit = false;
-    for byte in body {
-        if after_digit && is_digit(*byte) {
-            return true;
-        }
-        after_digit = is_digit(*byte);
-    }
-    false
-}
-
 // Whether a text begins with a digit.
-fn begins_with_digit(text: &[u8]) -> bool
+pub(crate) fn begins_with_digit(text: &[u8]) -> bool
     ensures { result ≡ begins_with_digit text.now }
 {
     match text.first() {
@@ -124,7 +65,7 @@ fn begins_with_digit(text: &[u8]) -> bool
 
 // The letters of a pattern, and its values other than 0. If several digits are in one place, the last one counts, as in
 // LibreOffice.
-fn spelling_of(alloc: Global, body: &[u8]) -> Result<(Vec<u8>, Vec<Value>), AllocError>
+pub(crate) fn spelling_of(alloc: Global, body: &[u8]) -> Result<(Vec<u8>, Vec<Value>), AllocError>
     ensures letters { IfOk result (λ found. found.0.items ≡ letters body.now) }
     ensures values { IfOk result (λ found. found.1.items ≡ last_values 0 body.now) }
 {
@@ -143,7 +84,7 @@ fn spelling_of(alloc: Global, body: &[u8]) -> Result<(Vec<u8>, Vec<Value>), Allo
 }
 
 // Splits a pattern from its change, at a slash with a `=` after it.
-fn split_at_slash(line: &str) -> (&str, Option<&str>)
+pub(crate) fn split_at_slash(line: &str) -> (&str, Option<&str>)
     ensures { (result.0.now, option_map (λ change. change.now) result.1) ≡ split_at_slash line.now }
 {
     match split_at_byte(line, '/') {
@@ -152,28 +93,18 @@ fn split_at_slash(line: &str) -> (&str, Option<&str>)
     }
 }
 
-// The change of a pattern. None if it can't be carried, which is noted.
-fn change_or_note(
+// The change of a pattern. None if it can't be carried.
+fn change_kept(
     alloc: Global,
-    noted: &mut PatternNotes,
     text: &str,
     key: &[u8],
     values: &[Value],
-    line: usize,
 ) -> Result<Option<PlacedChange>, AllocError>
     ensures { IfOk result (λ found. found ≡ change_kept (change_of key.now values.now text.now)) }
 {
     match change_of(alloc, text, key, values)? {
-        Err(kind) => {
-            noted.note(kind, line)?;
-            Ok(None)
-        }
-        Ok((placed, several)) => {
-            if several {
-                noted.note(NoteKind::ChangeOfSeveral, line)?;
-            }
-            Ok(Some(placed))
-        }
+        Err(_) => Ok(None),
+        Ok((placed, _)) => Ok(Some(placed)),
     }
 }
 
@@ -181,99 +112,61 @@ fn change_or_note(
 #[tactic(auto, using(crate::proofs::Keeping::kept_none, crate::proofs::Keeping::kept_some))]
 fn with_change(
     alloc: Global,
-    noted: &mut PatternNotes,
     key: Vec<u8>,
     values: Vec<Value>,
     change: Option<&str>,
-    line: usize,
 ) -> Result<Option<(Vec<u8>, Pattern)>, AllocError>
     ensures { IfOk result (λ found. option_map keyed_view found
         ≡ key_with_values key.items values.items (option_map (λ text. text.now) change.entry)) }
 {
     let Some(text) = change else {
         let change = None;
-        return Ok(Some((
-            key,
-            Pattern {
-                values,
-                change,
-                line,
-            },
-        )));
+        return Ok(Some((key, Pattern { values, change })));
     };
-    match change_or_note(alloc, noted, text, &key, &values, line)? {
+    match change_kept(alloc, text, &key, &values)? {
         None => Ok(None),
         Some(placed) => {
             let change = Some(placed);
-            Ok(Some((
-                key,
-                Pattern {
-                    values,
-                    change,
-                    line,
-                },
-            )))
+            Ok(Some((key, Pattern { values, change })))
         }
     }
 }
 
-// The key and the pattern that a text writes. None if it has no letter, or a change that can't be carried; both are
-// noted.
-fn pattern_of(
-    alloc: Global,
-    noted: &mut PatternNotes,
-    text: &str,
-    line: usize,
-) -> Result<Option<(Vec<u8>, Pattern)>, AllocError>
+// The key and the pattern that a text writes. None if it has no letter, or a change that can't be carried.
+fn pattern_of(alloc: Global, text: &str) -> Result<Option<(Vec<u8>, Pattern)>, AllocError>
     ensures { IfOk result (λ found. option_map keyed_view found ≡ pattern_of text.now) }
 {
     let (body, change) = split_at_slash(text);
     let (key, values) = spelling_of(alloc, body.as_bytes())?;
-    if has_two_values_in_one_place(body.as_bytes()) {
-        noted.note(NoteKind::TwoValues, line)?;
-    }
     if !has_letter(&key) {
-        noted.note(NoteKind::NoLetters, line)?;
         return Ok(None);
     }
-    with_change(alloc, noted, key, values, change, line)
+    with_change(alloc, key, values, change)
 }
 
 // The key and the pattern of a line. None if the line is no pattern, or one that can't be kept.
-fn pattern_of_line(
+pub(crate) fn pattern_of_line(
     alloc: Global,
-    noted: &mut PatternNotes,
     line: Line<'_>,
 ) -> Result<Option<(Vec<u8>, Pattern)>, AllocError>
     ensures { IfOk result (λ found. option_map keyed_view found ≡ pattern_of_line (line_view line.entry)) }
 {
     match line.kind {
-        LineKind::Pattern => pattern_of(alloc, noted, line.text, line.number),
-        LineKind::NoHyphen => {
-            noted.note(NoteKind::NoHyphen, line.number)?;
-            Ok(None)
-        }
-        LineKind::Other => {
-            noted.note(NoteKind::Setting, line.number)?;
-            Ok(None)
-        }
+        LineKind::Pattern => pattern_of(alloc, line.text),
         _ => Ok(None),
     }
 }
 
-// Appends a pattern, if there is one, and makes its remarks.
+// Appends a pattern, if there is one.
 fn push_found(
-    alloc: Global,
-    noted: &mut PatternNotes,
     patterns: &mut Vec<(Vec<u8>, Pattern)>,
     found: Option<(Vec<u8>, Pattern)>,
 ) -> Result<(), AllocError>
     ensures { OnOk result (map keyed_view patterns.new.items
         ≡ map keyed_view patterns.old.items ++ option_to_list (option_map keyed_view found)) }
 {
-    if let Some((key, pattern)) = found {
-        noted.note_kept(alloc, &key, &pattern, patterns.len())?;
-        patterns.push((key, pattern))?;
+    if let Some(pattern) = found {
+        patterns.push(pattern)?;
     }
     Ok(())
 }
@@ -282,15 +175,14 @@ fn push_found(
 #[tactic(auto, using(crate::proofs::Keeping::kept_on))]
 pub(crate) fn patterns_of(
     alloc: Global,
-    noted: &mut PatternNotes,
     lines: &[Line<'_>],
 ) -> Result<Vec<(Vec<u8>, Pattern)>, AllocError>
     ensures { IfOk result (λ patterns. map keyed_view patterns.items ≡ patterns_of (map line_view lines.now)) }
 {
     let mut patterns = Vec::new(alloc);
     for line in lines {
-        let found = pattern_of_line(alloc, noted, *line)?;
-        push_found(alloc, noted, &mut patterns, found)?;
+        let found = pattern_of_line(alloc, *line)?;
+        push_found(&mut patterns, found)?;
     }
     Ok(patterns)
 }
@@ -355,7 +247,7 @@ fn copy_change(change: &Option<PlacedChange>) -> Result<Option<PlacedChange>, Al
 }
 
 // A copy of a change.
-fn copy_subregion(change: &Subregion) -> Result<Subregion, AllocError>
+pub(crate) fn copy_subregion(change: &Subregion) -> Result<Subregion, AllocError>
     ensures { IfOk result (λ found. found ≡ change.now) }
 {
     change.invariant();
@@ -363,8 +255,7 @@ fn copy_subregion(change: &Subregion) -> Result<Subregion, AllocError>
     Ok(Subregion::new(change.left, change.right, substitution, change.breakpoint))
 }
 
-// The pattern that forbids breaks at both ends of a text, with the old pattern's values within it. A pattern of no line
-// has line 1: it fits any dictionary, so nothing is noted of it.
+// The pattern that forbids breaks at both ends of a text, with the old pattern's values within it.
 fn forbidden(alloc: Global, text: &str, old: Option<&Pattern>) -> Result<Pattern, AllocError>
     ensures { IfOk result (λ pattern. spelt_view pattern
         ≡ forbidden text.now (option_map (λ old. spelt_view old.now) old.entry)) }
@@ -373,12 +264,10 @@ fn forbidden(alloc: Global, text: &str, old: Option<&Pattern>) -> Result<Pattern
         None => Ok(Pattern {
             values: forbidding(alloc, text.len(), &[])?,
             change: None,
-            line: 1,
         }),
         Some(old) => Ok(Pattern {
             values: forbidding(alloc, text.len(), &old.values)?,
             change: copy_change(&old.change)?,
-            line: old.line,
         }),
     }
 }
@@ -386,7 +275,6 @@ fn forbidden(alloc: Global, text: &str, old: Option<&Pattern>) -> Result<Pattern
 // Forbids breaks directly before and after a text: its values there are 8. A text without letters forbids nothing.
 fn forbid(
     alloc: Global,
-    noted: &mut PatternNotes,
     patterns: &mut Vec<(Vec<u8>, Pattern)>,
     text: &str,
 ) -> Result<(), AllocError>
@@ -398,9 +286,6 @@ fn forbid(
         return Ok(());
     }
     let pattern = forbidden(alloc, text, last_of(bytes, patterns))?;
-    noted
-        .last
-        .insert(Vec::from_slice(alloc, bytes)?, patterns.len())?;
     patterns.push((Vec::from_slice(alloc, bytes)?, pattern))?;
     Ok(())
 }
@@ -415,7 +300,6 @@ fn between_commas(alloc: Global, texts: &str) -> Result<Vec<&str>, AllocError>
 // Forbids breaks directly before and after texts that have commas between them.
 pub(crate) fn forbid_all(
     alloc: Global,
-    noted: &mut PatternNotes,
     patterns: &mut Vec<(Vec<u8>, Pattern)>,
     texts: &str,
 ) -> Result<(), AllocError>
@@ -424,55 +308,7 @@ pub(crate) fn forbid_all(
 {
     let named = between_commas(alloc, texts)?;
     for text in &named {
-        forbid(alloc, noted, patterns, text.trim())?;
-    }
-    Ok(())
-}
-
-// Values without changes, as entries of a key.
-fn plain_entries(alloc: Global, values: &[Value]) -> Result<Vec<Entry<()>>, AllocError> {
-    let mut entries = Vec::new(alloc);
-    for value in values {
-        entries.push(Entry {
-            place: to_u32(value.place)?,
-            value: value.value,
-            change: (),
-        })?;
-    }
-    Ok(entries)
-}
-
-// The automaton of patterns with their values.
-fn automaton_of(
-    alloc: Global,
-    patterns: &[(Vec<u8>, Pattern)],
-) -> Result<Automaton<Entry<()>>, AllocError> {
-    let mut trie = Trie::new(alloc)?;
-    for (key, pattern) in patterns {
-        let mut entries = plain_entries(alloc, &pattern.values)?;
-        trie.insert(key, &mut entries)?;
-    }
-    trie.freeze(alloc)
-}
-
-// Notes each pattern that hides a value of a shorter one from LibreOffice.
-pub(crate) fn note_hiding(
-    alloc: Global,
-    noted: &mut PatternNotes,
-    patterns: &[(Vec<u8>, Pattern)],
-) -> Result<(), AllocError> {
-    let automaton = automaton_of(alloc, patterns)?;
-    for (key, index) in noted.last.iter() {
-        if let Some((_, pattern)) = patterns.get(*index) {
-            if hides_value(&automaton, key) {
-                let line = pattern.line;
-                add_note(
-                    &mut noted.notes,
-                    NoteKind::HidesValue,
-                    LineRef { file: 0, line },
-                )?;
-            }
-        }
+        forbid(alloc, patterns, text.trim())?;
     }
     Ok(())
 }
@@ -546,58 +382,4 @@ pub(crate) fn push_fitting<C: Payload, B: Listing>(
         push_if_fits(alloc, parts, keyed)?;
     }
     Ok(())
-}
-
-// Whether some entry carries a change.
-fn has_change<C: Payload>(entries: &[Entry<C>]) -> bool {
-    entries
-        .iter()
-        .any(|entry| entry.change.as_change().is_some())
-}
-
-// Notes of a pattern that its change forbids a break, where a dictionary has no room for changes.
-fn note_loss_of<C: Payload>(
-    alloc: Global,
-    notes: &mut Vec<Note>,
-    pattern: &Pattern,
-) -> Result<(), AllocError> {
-    let entries = entries_of::<C>(alloc, pattern)?;
-    if pattern.change.is_some() && !has_change(&entries) {
-        let line = pattern.line;
-        add_note(notes, NoteKind::ChangeForbidden, LineRef { file: 0, line })?;
-    }
-    Ok(())
-}
-
-// Notes the patterns whose changes a dictionary has no room for.
-pub(crate) fn note_losses<C: Payload>(
-    alloc: Global,
-    noted: &mut PatternNotes,
-    patterns: &[(Vec<u8>, Pattern)],
-) -> Result<(), AllocError> {
-    for (_, index) in noted.last.iter() {
-        if let Some((_, pattern)) = patterns.get(*index) {
-            note_loss_of::<C>(alloc, &mut noted.notes, pattern)?;
-        }
-    }
-    Ok(())
-}
-
-// Notes what the levels mean for LibreOffice. If only one of them has patterns, nothing is noted.
-pub(crate) fn note_levels(noted: &mut PatternNotes, lines: &[Line<'_>]) -> Result<(), AllocError> {
-    let mut level = None;
-    let mut has_patterns = (false, false);
-    for line in lines {
-        match (line.kind, level) {
-            (LineKind::Level, _) => level = Some(line.number),
-            (LineKind::Pattern, None) => has_patterns.0 = true,
-            (LineKind::Pattern, Some(_)) => has_patterns.1 = true,
-            _ => {}
-        }
-    }
-    match (level, has_patterns) {
-        (None, _) => noted.note(NoteKind::NoLevels, 1),
-        (Some(line), (true, true)) => noted.note(NoteKind::TwoLevels, line),
-        (Some(_), _) => Ok(()),
-    }
 }

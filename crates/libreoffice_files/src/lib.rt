@@ -11,14 +11,15 @@
 //!
 //! [`dic::convert_dic`] makes the dictionary, and its contract says which one. The modules, from the bottom up: `charset`
 //! reads bytes as text, and `lines` text as lines; `change` reads a pattern's change, [`carried_changes`] says what each
-//! kind of dictionary keeps of it, and `dic_patterns` reads patterns; [`longest`] says whether LibreOffice reads
-//! patterns as TeX does.
+//! kind of dictionary keeps of it, `dic_patterns` reads patterns, and `dic_notes` makes remarks; [`longest`] says whether
+//! LibreOffice reads patterns as TeX does.
 #![tactic(auto)]
 
 pub mod carried_changes;
 mod change;
 mod charset;
 pub mod dic;
+mod dic_notes;
 mod dic_patterns;
 mod lines;
 pub mod longest;

@@ -33,6 +33,7 @@ IsMadeFor change_of payload_of listing_of is_one_dic request files dictionary = 
     (map (λ one. one.items) files) dictionary
 
 -- The notes are those on files with these bytes, at the paths of a request.
-abbrev pub AreNotesOn : {Y : Type 0} → Bool → Request → List (Vec ℕ Y) → List Note → Type 0
-AreNotesOn is_one_dic request files notes = AreNotesOf is_one_dic (map (λ path. path.now) request.paths.now)
-    (map (λ one. one.items) files) notes
+abbrev pub AreNotesOn : {C Y : Type 0} → (C → Option Change) → (Option Change → C) → Bool → Request → List (Vec ℕ Y)
+    → List Note → Type 0
+AreNotesOn change_of payload_of is_one_dic request files notes = AreNotesOf change_of payload_of is_one_dic request.left
+    request.right (map (λ path. path.now) request.paths.now) (map (λ one. one.items) files) notes

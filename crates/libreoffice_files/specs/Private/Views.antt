@@ -1,12 +1,16 @@
 -- The values of private structs in the words of the definitions.
-use Rattle.std.specs.Prelude.{ℕ, ◌<◌, ◌++◌, All, List, Option, Some, None, option_map, Bool, Result, Ok, Err}
+use Rattle.std.specs.Prelude.{◌≡◌, ℕ, ◌<◌, ◌++◌, All, fold, List, Option, Some, None, option_map, Bool, Result, Ok, Err}
 use Rattle.std.specs.declared.vec.Vec.{Vec}
 use Rattle.hyphenation_breaks.specs.declared.entry.Entry.{Entry}
+use Rattle.pattern_results.specs.Notes.{Remark, with_remark}
 use Rattle.pattern_results.specs.Parts.{SpeltWords}
+use Rattle.pattern_results.specs.declared.notes.Note.{Note}
 use Rattle.libreoffice_files.specs.LibreOfficeLines as lines
 use Rattle.libreoffice_files.specs.LibreOfficeLines.{DicLine}
 use Rattle.libreoffice_files.specs.LibreOfficePatterns.{Spelt}
 use Rattle.libreoffice_files.specs.LibreOffice as libreoffice
+use Rattle.libreoffice_files.specs.Notes as notes
+use Rattle.libreoffice_files.specs.declared.dic_notes.LinePattern.{LinePattern}
 use Rattle.libreoffice_files.specs.declared.change.PlacedChange.{PlacedChange}
 use Rattle.libreoffice_files.specs.declared.dic.Encoded.{Encoded}
 use Rattle.libreoffice_files.specs.declared.dic_patterns.Pattern.{Pattern}
@@ -37,6 +41,18 @@ spelt_view pattern = record { values = pattern.values.items; change = pattern.ch
 -- A key with its pattern.
 abbrev pub keyed_view : {Z : Type 0} → Vec ℕ Z × Pattern → List ℕ × Spelt
 keyed_view keyed = (keyed.0.items, spelt_view keyed.1)
+
+-- A key with its pattern, on a line.
+abbrev pub on_line : {Z : Type 0} → ℕ → Vec ℕ Z × Pattern → notes.LinePattern
+on_line line keyed = record { key = keyed.0.items; spelt = spelt_view keyed.1; line = line }
+
+-- Notes get remarks.
+abbrev pub AddsRemarks : List Note → List Note → List Remark → Type 0
+AddsRemarks old new remarks = new ≡ fold with_remark old remarks
+
+-- A pattern on a line, in the words of the definitions.
+abbrev pub as_on_line : LinePattern → notes.LinePattern
+as_on_line one = record { key = one.key.items; spelt = spelt_view one.pattern; line = one.line }
 
 -- The change of a pattern, if it can be carried.
 abbrev pub change_kept : Result (PlacedChange × Bool) NoteKind → Option PlacedChange
