@@ -10,6 +10,7 @@ The one word of the pages has another break in each language, so a mark tells by
 
 - N *hostile* pages: tags, texts, comments, declarations, scripts and attributes in any order.
 - N *nested* pages: elements that nest wrongly, parts of tables, forms, lists and links.
+- N *loose* pages: elements that nest wrongly come first, and then elements of which some are left alone or name a language.
 - N *XML* pages: elements, sections, instructions, comments and document types.
 - N *valid* pages in HTML, with end tags left out, drawings, formulas, tables, scripts and templates; and N of XHTML.
 
@@ -66,7 +67,7 @@ def local(tag):
     return tag.rsplit("}", 1)[-1] if isinstance(tag, str) else ""
 
 
-def texts_of(element, language, alone, is_xml):
+def texts_of(element, language, alone, translated, is_xml):
     """Yields the texts in an element, each with its language and whether it is left alone."""
     name = local(element.tag)
     names = [*XML_LANG, "lang"] if is_xml else ["lang"]
@@ -74,14 +75,15 @@ def texts_of(element, language, alone, is_xml):
         if attribute in element.attrib:
             language = element.attrib[attribute]
             break
-    alone = alone or name in ALONE
+    alone = alone or name in ALONE or "donthyphenate" in element.attrib.get("class", "").split()
+    translated = {"no": False, "yes": True, "": True}.get(element.attrib.get("translate", "?"), translated)
     if element.text:
-        yield element.text, language, alone
+        yield element.text, language, alone or not translated
     for child in element:
         if isinstance(child.tag, str):
-            yield from texts_of(child, language, alone, is_xml)
+            yield from texts_of(child, language, alone, translated, is_xml)
         if child.tail:
-            yield child.tail, language, alone
+            yield child.tail, language, alone or not translated
 
 
 def rest_of(element):
@@ -173,7 +175,7 @@ def compare(kind, page, written, again):
         told = f"{kind}, scripting {'on' if scripting else 'off'}"
         check(repr(rest_of(one)).replace(MARK, "") == repr(rest_of(other)).replace(MARK, "")
               and MARK not in repr(rest_of(other)), f"{told}: more than text changes", page)
-        texts = list(texts_of(other, None, False, False))
+        texts = list(texts_of(other, None, False, True, False))
         if is_xml:
             shown = sum(piece.count(MARK) for piece, _, _ in texts)
         else:
@@ -249,6 +251,37 @@ def nested(choice):
         else:
             page += f" {WORD} "
     return page
+
+
+LOOSE = """a b i em nobr font code samp p p div span li ul ol dl dd dt form h1 h2 button ruby rt object section address pre
+table table tr tr td td th caption tbody colgroup select option optgroup svg g math template noscript textarea style script
+title html body head frameset image applet marquee mi desc foreignObject iframe hr br input plaintext xmp label""".split()
+
+
+def loose(choice):
+    """Elements that nest wrongly, and then others, of which some are left alone or name a language."""
+    page = pick(choice, "<!DOCTYPE html>", "<!DOCTYPE html><html lang=en><head><title>t</title></head><body>", "<!DOCTYPE html><body lang=de>",
+                "", f"<!DOCTYPE html><html lang=en><head> {WORD} </head><body class=c>")
+    page += pick(choice, "x<b><i></b>y</i>", "x<b><p></b>y</p>", "x<a>l<a>m</a></a>", "x<a>l<a>m", "<p>x</br>", "x<b><font></b>",
+                 "x<table><tr><td><b></td></tr></table>y")
+    names = LOOSE[:choice.choice((31, 42, len(LOOSE)))]
+    last = []
+    for _ in range(choice.randrange(3, 18)):
+        what = choice.randrange(10)
+        if what < 4:
+            last.append(pick(choice, *names))
+            attribute = language(choice) if choice.random() < 0.15 else ""
+            if choice.random() < 0.05:
+                attribute += pick(choice, ' class="c donthyphenate"', " translate=no")
+            page += f"<{last[-1]}{attribute}>"
+        elif what < 7:
+            if last and choice.random() < 0.85:
+                page += f"</{last.pop(pick(choice, -1, choice.randrange(len(last))))}>"
+            else:
+                page += f"</{pick(choice, *names)}>"
+        else:
+            page += f" {WORD} "
+    return page + f" {WORD} </code> {WORD} "
 
 
 def xml_page(choice):
@@ -401,6 +434,7 @@ class Valid:
 KINDS = {
     "hostile": hostile,
     "nested": nested,
+    "loose": loose,
     "XML": xml_page,
     "valid HTML": lambda choice: Valid(choice, False).page(),
     "valid XHTML": lambda choice: Valid(choice, True).page(),

@@ -8,13 +8,14 @@ use Rattle.std.specs.Cmp.Lexicographic.{pointwise}
 use Rattle.html_pieces.specs.Bytes.{is_white_space, is_same_name, is_same_in, is_one_of, is_named, is_xml}
 use Rattle.html_pieces.specs.Names.{name_of, is_foreign_root}
 use Rattle.html_pieces.specs.Pieces.{Piece}
-use Rattle.html_pieces.specs.Groups.{group_of, is_void, ends, stops, bounds, is_root, is_heading}
+use Rattle.html_pieces.specs.Forms.{is_start}
+use Rattle.html_pieces.specs.Groups.{group_of, is_void, is_table_part, is_same_group, ends, stops, bounds, is_root, is_heading}
 use Rattle.html_pieces.specs.References.{read_value}
 use Rattle.html_pieces.specs.Tags.{Attribute, attributes_of, value_of}
-use Rattle.html_pieces.specs.declared.elements.TheConstants.{SVG_POINTS, MATH_POINTS}
+use Rattle.html_pieces.specs.declared.elements.TheConstants.{APART_NAMES, SVG_POINTS, MATH_POINTS}
 use Rattle.html_pieces.specs.declared.bytes.PageForm.{PageForm}
 use Rattle.html_pieces.specs.declared.groups.ElementGroup.{ElementGroup}
-use Rattle.html_pieces.specs.declared.groups.ElementGroup.TheVariants.{Ordinary, Formatting, Root}
+use Rattle.html_pieces.specs.declared.groups.ElementGroup.TheVariants.{Ordinary, Formatting, Table, Root}
 use Rattle.html_pieces.specs.declared.elements.Element as declared
 use Rattle.html_pieces.specs.declared.elements.Selection as asked
 use Rattle.html_pieces.specs.declared.tokenizer.PieceKind.TheVariants.{StartTag, EmptyTag, EndTag}
@@ -32,7 +33,8 @@ as_selection held = record { names = map (λ name. name.now) held.names.now; cla
 -- An open element: its name and group, and the language of its text. It is selected where it or an element around is of the
 -- caller's selection, and translated by the attribute `translate`. Its content may be foreign, that is, SVG or MathML. It may
 -- be one of these or `noscript` or `template` or a formatting element, or stand within one. It inherits from formatting where
--- it or an element around names a language or `translate`, and that one is a formatting element or in one.
+-- it or an element around names a language or `translate`, and that one is a formatting element or in one. It is apart where
+-- its text, or that of an element around but the page and its body, is not what the text of the body is.
 pub record Element : Type 0 where
   pub name : List ℕ
   pub group : ElementGroup
@@ -45,6 +47,7 @@ pub record Element : Type 0 where
   pub is_in_template : Bool
   pub is_in_formatting : Bool
   pub inherits_from_formatting : Bool
+  pub is_apart : Bool
 
 -- A value of more bytes is taken for a language as it is written. No tag of a language is that long.
 abbrev pub longest_language : ℕ
@@ -72,6 +75,7 @@ as_element held = record {
   is_in_template = held.is_in_template;
   is_in_formatting = held.is_in_formatting;
   inherits_from_formatting = held.inherits_from_formatting;
+  is_apart = held.is_apart;
 }
 
 -- ---- what a start tag says
@@ -141,6 +145,21 @@ abbrev pub has_inherited_attribute : PageForm → List Attribute → Bool
 has_inherited_attribute form attributes =
     is_some (language_value form attributes) || is_some (value_of form (codes "translate") attributes)
 
+-- A start tag gives its element nothing that texts in it take over: it names nothing that they inherit, and is not selected.
+abbrev pub gives_nothing : PageForm → Selection → List ℕ → Bool
+gives_nothing form selection tag =
+    not (has_inherited_attribute form (attributes_of form tag)) && not (selects form selection (name_of tag) (attributes_of form tag))
+
+-- Attributes name a language other than the one around.
+abbrev pub has_other_language : PageForm → List Attribute → List ℕ → Bool
+has_other_language form attributes around = not (pointwise nat_eq (language_of form attributes around) around)
+
+-- An element within another one is apart: in another language, selected, not to be translated, in one that is apart, or of a
+-- name whose content is not read as that of the body is. The page and its body are what others are apart from.
+abbrev pub is_apart_in : Element → ElementGroup → List ℕ → Bool → Bool → Bool → Bool
+is_apart_in around group name other_language selected translated =
+    not (is_root group) && (around.is_apart || other_language || selected || not translated || is_named APART_NAMES name)
+
 -- The content of an element is SVG or MathML.
 abbrev pub holds_foreign : Bool → List ℕ → Bool
 holds_foreign foreign name = (foreign || is_foreign_root name) && not (is_named SVG_POINTS name || is_named MATH_POINTS name)
@@ -162,6 +181,10 @@ opened form selection around tag =
       inherits_from_formatting =
           (around.is_in_formatting || is_formatting (group_in form around.is_foreign (name_of tag)))
           && (around.inherits_from_formatting || has_inherited_attribute form (attributes_of form tag));
+      is_apart = is_apart_in around (group_in form around.is_foreign (name_of tag)) (name_of tag)
+          (has_other_language form (attributes_of form tag) around.language)
+          (around.is_selected || selects form selection (name_of tag) (attributes_of form tag))
+          (is_translated form (attributes_of form tag) around.is_translated);
     }
 
 -- ---- the open elements, the innermost one first
@@ -224,6 +247,29 @@ elements_by form selection group EmptyTag tag page elements =
 elements_by form selection group EndTag tag page elements = closed_as form (name_of tag) group elements
 elements_by form selection group _ tag page elements = elements
 
+-- ---- the open elements of a loose reading, which are only some of them
+
+-- Tables and their parts.
+abbrev pub is_of_table : ElementGroup → Bool
+is_of_table group = is_table_part group || is_same_group group Table
+
+-- The elements of a loose reading, where all are open: the page and its body, tables and their parts.
+abbrev pub followed : List Element → List Element
+followed [] = []
+followed (e ∷ es) = if is_root e.group || is_of_table e.group then e ∷ followed es else followed es
+
+-- A piece is a start tag whose element is apart.
+abbrev pub opens_apart : PageForm → Selection → PieceKind → List ℕ → Element → Bool
+opens_apart form selection kind tag around = is_start kind && (opened form selection around tag).is_apart
+
+-- The open elements of a loose reading after a piece of a kind, whose element is of a group: beside tables and their parts
+-- only elements that are apart are opened, with all that they hold.
+abbrev pub loose_elements_by : PageForm → Selection → ElementGroup → PieceKind → List ℕ → Element → List Element → List Element
+loose_elements_by form selection group kind tag page elements =
+    if (innermost page elements).is_apart || is_of_table group || opens_apart form selection kind tag (innermost page elements)
+    then elements_by form selection group kind tag page elements
+    else elements
+
 -- The group of the element that a tag begins or ends, within another one.
 abbrev pub group_by : PageForm → Element → PieceKind → List ℕ → ElementGroup
 group_by form around StartTag tag = group_in form around.is_foreign (name_of tag)
@@ -245,6 +291,11 @@ abbrev pub AreThoseAfter : PageForm → asked.Selection → ElementGroup → Pie
 AreThoseAfter form selection group p page old new =
     as_elements new ≡ elements_by form (as_selection selection) group p.kind p.bytes page (as_elements old)
 
+-- Open elements, as the code holds them, became those after a piece, in a loose reading.
+abbrev pub AreThoseLooselyAfter : PageForm → asked.Selection → ElementGroup → Piece → Element → List declared.Element → List declared.Element → Type 0
+AreThoseLooselyAfter form selection group p page old new =
+    as_elements new ≡ loose_elements_by form (as_selection selection) group p.kind p.bytes page (as_elements old)
+
 -- The page as what is around all its elements.
 abbrev pub page_element : List ℕ → Element
 page_element language = record {
@@ -259,4 +310,5 @@ page_element language = record {
   is_in_template = false;
   is_in_formatting = false;
   inherits_from_formatting = false;
+  is_apart = false;
 }

@@ -1,7 +1,11 @@
 -- How far a page is read alike by all parsers: those of HTML with scripting on and off, and for XML those of XML too.
 -- Source: HTML Living Standard, 13.2.4.1 (the insertion mode), 13.2.5 and 13.2.6; Extensible Markup Language 1.0, 2.4 to 2.8.
--- From the first piece on that may be read otherwise without the whole tree, the page is uncertain up to its end.
-use Rattle.std.specs.Prelude.{ℕ, ◌-◌, ◌==◌, ◌||◌, ◌&&◌, Bool, true, false, not, List, [], ◌∷◌, length, take, drop, codes, nat_eq, nat_lt, Option, Some, None, if◌then◌else◌}
+-- A reading is loose from the first piece on that may be put elsewhere in the tree, as an element that nests wrongly. Then two
+-- facts count alone: the language of a text, and whether it is left alone. Whatever tree is made, all that may be around a text
+-- of a loose reading is as the body is, or else the text is in an element that is apart, and has none that is known. So only
+-- tables are followed, and elements that are apart with all that they hold, which must nest as it is read. From the first piece
+-- on that may change these facts, the page is uncertain up to its end.
+use Rattle.std.specs.Prelude.{ℕ, ◌-◌, ◌==◌, ◌||◌, ◌&&◌, Bool, true, false, not, List, [], ◌∷◌, length, map, take, drop, codes, nat_eq, nat_lt, Option, Some, None, if◌then◌else◌}
 use Rattle.std.specs.Option.{is_some, option_map_or}
 use Rattle.std.specs.List.{starts_with, ends_with}
 use Rattle.std.specs.Cmp.Lexicographic.{pointwise}
@@ -12,7 +16,7 @@ use Rattle.html_pieces.specs.Pieces.{Piece, as_piece, is_script}
 use Rattle.html_pieces.specs.References.{has_ampersand}
 use Rattle.html_pieces.specs.Groups.{ends, stops, bounds, is_in, is_same_group, is_table_part, is_heading, is_root, is_special, is_void}
 use Rattle.html_pieces.specs.declared.groups.TheConstants.{HEADING_NAMES, WITHOUT_TEXT, WITHOUT_END_TAGS, CHOICES, AROUND_CELLS, AROUND_ROWS, AROUND_ROW_GROUPS, AROUND_COLUMNS, CLOSING_NO_BLOCKS}
-use Rattle.html_pieces.specs.Elements.{Selection, as_selection, Element, as_element, as_elements, innermost, before_new, elements_by, group_by, depth_limit}
+use Rattle.html_pieces.specs.Elements.{Selection, as_selection, Element, as_element, as_elements, innermost, before_new, elements_by, group_by, depth_limit, opened, gives_nothing, followed, loose_elements_by}
 use Rattle.html_pieces.specs.declared.bytes.PageForm.{PageForm}
 use Rattle.html_pieces.specs.declared.groups.ElementGroup.{ElementGroup}
 use Rattle.html_pieces.specs.declared.groups.ElementGroup.TheVariants.{Ordinary, Formatting, Paragraph, Heading, Block, Item, Term, Choice, Choices, Ruby, Cell, Row, Rows, Caption, Columns, Column, Table, Scope, Root, Head, HeadContent, HeadVoid, Template}
@@ -29,11 +33,13 @@ use Rattle.html_pieces.specs.declared.tokenizer.PieceKind.TheVariants.{Text, Ref
 use Rattle.html_pieces.specs.declared.tokenizer.RawElement.{RawElement}
 
 -- The facts known of a page at a place: the open elements, how far its parts have come, and whether its document type is
--- HTML's. It is certain if all parsers have read it alike so far.
+-- HTML's. It is loose where elements may be elsewhere in the tree. It is certain if all parsers have read it alike so far, but
+-- for the places of elements in a loose reading.
 pub record Reading : Type 0 where
   pub elements : List Element
   pub phase : Phase
   pub is_standard : Bool
+  pub is_loose : Bool
   pub is_certain : Bool
 
 -- The same of a reading as the code holds it.
@@ -42,12 +48,13 @@ as_reading held = record {
   elements = as_elements held.elements.items;
   phase = held.phase;
   is_standard = held.is_standard;
+  is_loose = held.is_loose;
   is_certain = held.is_certain;
 }
 
 -- Before the first piece, where a page may be certain.
 abbrev pub started : Bool → Reading
-started certain = record { elements = []; phase = reached.Start; is_standard = false; is_certain = certain }
+started certain = record { elements = []; phase = reached.Start; is_standard = false; is_loose = false; is_certain = certain }
 
 -- ---- bytes
 
@@ -407,6 +414,84 @@ is_alike_by form page reading group kind bytes =
     && (if is_xml form then is_xml_alike (innermost page reading.elements) kind bytes
     else is_html_alike page reading group kind bytes)
 
+-- ---- pieces of a loose reading
+
+-- A start tag of HTML within an element that is apart ends only what may be left out, opens no page, and begins no raw text that
+-- a `select` would pass by.
+abbrev pub is_alike_within : Bool → Element → List Element → ElementGroup → List ℕ → Bool
+is_alike_within standard around elements new name =
+    not (is_root new) && not (is_same_group new Head) && not (is_same_name name (codes "frameset")) && is_content_alike around name
+    && ends_alike standard new elements
+    && (is_in CHOICES new || not (is_in CHOICES around.group) && not (is_same_name around.name (codes "select")))
+
+-- An element of a table is taken by one; any other one is taken by all but tables, which take scripts, styles and templates.
+abbrev pub is_taken : Element → Reading → ElementGroup → List ℕ → Bool
+is_taken page reading new name =
+    if is_table_part new
+    then is_expected reading.phase (innermost page reading.elements) (innermost page (before_new new reading.elements)) reading.elements new name
+    else is_content_here (innermost page reading.elements) || is_same_group new Template || is_same_name name (codes "script")
+    || is_same_name name (codes "style")
+
+-- A start tag of HTML outside of all elements that are apart is in its place, whatever is open there: that of a page or a body
+-- gives nothing to it. The end tag of a form closes only the form, and nothing in it, so none is apart.
+abbrev pub is_alike_outside : PageForm → Selection → Element → Reading → ElementGroup → List ℕ → Bool
+is_alike_outside form selection page reading new tag =
+    if is_root new then gives_nothing form selection tag
+    else is_taken page reading new (name_of tag) && not (is_same_name (name_of tag) (codes "frameset"))
+    && not (is_same_name (name_of tag) (codes "form") && (opened form selection (innermost page reading.elements) tag).is_apart)
+
+-- A start tag of a loose reading is read alike by all parsers. In SVG and MathML no element holds HTML.
+abbrev pub is_loose_start_alike : PageForm → Selection → Element → Reading → ElementGroup → List ℕ → Bool
+is_loose_start_alike form selection page reading new tag =
+    if (innermost page reading.elements).is_foreign
+    then not (is_named SVG_POINTS (name_of tag) || is_named MATH_POINTS (name_of tag)) && is_foreign_start_alike reading.elements (name_of tag) tag
+    else if (innermost page reading.elements).is_apart
+    then is_alike_within reading.is_standard (innermost page reading.elements) reading.elements new (name_of tag)
+    else is_alike_outside form selection page reading new tag
+
+-- An end tag in an element that is apart closes an open one, and in it only what has no end tag.
+abbrev pub is_end_within : ElementGroup → List ℕ → List Element → Bool
+is_end_within tag name elements =
+    not (is_root tag) && option_map_or (λ all. all) (closes_alike_from name tag depth_limit true elements) false
+
+-- An end tag of a loose reading is read alike by all parsers. Outside of all elements that are apart each is.
+abbrev pub is_loose_end_alike : Element → ElementGroup → List ℕ → List Element → Bool
+is_loose_end_alike around tag name elements =
+    if around.is_in_drawing then is_same_name around.name name
+    else not around.is_apart || is_end_within tag name elements
+
+-- A piece of a page in HTML is read alike by all parsers, in a loose reading.
+abbrev pub is_loose_html_alike : PageForm → Selection → Element → Reading → ElementGroup → PieceKind → List ℕ → Bool
+is_loose_html_alike form selection page reading group Text bytes = not (has_text bytes) || is_content_here (innermost page reading.elements)
+is_loose_html_alike form selection page reading group Reference bytes = is_content_here (innermost page reading.elements)
+is_loose_html_alike form selection page reading group StartTag bytes = is_loose_start_alike form selection page reading group bytes
+is_loose_html_alike form selection page reading group EmptyTag bytes = is_loose_start_alike form selection page reading group bytes
+is_loose_html_alike form selection page reading group EndTag bytes =
+    is_loose_end_alike (innermost page reading.elements) group (name_of bytes) reading.elements
+is_loose_html_alike form selection page reading group Other bytes =
+    is_html_other_alike (innermost page reading.elements) reading.phase bytes
+
+-- A piece of a loose reading is read alike by all parsers.
+abbrev pub is_loosely_alike : PageForm → Selection → Element → Reading → ElementGroup → PieceKind → List ℕ → Bool
+is_loosely_alike form selection page reading group kind bytes =
+    nat_lt (length reading.elements) depth_limit && stays_in_noscript (innermost page reading.elements) kind bytes
+    && is_loose_html_alike form selection page reading group kind bytes
+
+-- A reading may become loose: in HTML, once the page has begun, where no open element is apart.
+abbrev pub may_be_loose : PageForm → Element → Reading → Bool
+may_be_loose form page reading =
+    not (is_xml form) && not (is_before_root reading.phase) && not (innermost page reading.elements).is_apart
+
+-- The same reading as a loose one.
+abbrev pub loosened : Reading → Reading
+loosened reading = record {
+  elements = followed reading.elements;
+  phase = reading.phase;
+  is_standard = reading.is_standard;
+  is_loose = true;
+  is_certain = reading.is_certain;
+}
+
 -- ---- how far a page has come
 
 -- After text, and all that only a body has.
@@ -452,20 +537,39 @@ abbrev pub standard_after : Bool → Phase → PieceKind → List ℕ → Bool
 standard_after standard phase Other bytes = standard_after_other standard phase bytes
 standard_after standard phase _ bytes = standard
 
--- The reading after a piece of one kind, whose element is of a group.
+-- The reading after a piece of one kind, whose element is of a group, that is read alike by all parsers or makes it uncertain.
 abbrev pub read_by : PageForm → Selection → Element → Reading → ElementGroup → Piece → Reading
 read_by form selection page reading group p = record {
   elements = elements_by form selection group p.kind p.bytes page reading.elements;
   phase = phase_after (innermost page reading.elements) reading.phase group p.kind p.bytes;
   is_standard = standard_after reading.is_standard reading.phase p.kind p.bytes;
+  is_loose = false;
   is_certain = is_alike_by form page reading group p.kind p.bytes;
 }
+
+-- The same of a loose reading.
+abbrev pub read_loosely : PageForm → Selection → Element → Reading → ElementGroup → Piece → Reading
+read_loosely form selection page reading group p = record {
+  elements = loose_elements_by form selection group p.kind p.bytes page reading.elements;
+  phase = phase_after (innermost page reading.elements) reading.phase group p.kind p.bytes;
+  is_standard = standard_after reading.is_standard reading.phase p.kind p.bytes;
+  is_loose = true;
+  is_certain = is_loosely_alike form selection page reading group p.kind p.bytes;
+}
+
+-- The reading after a piece, whose element is of a group. It becomes loose at a piece that is not read alike by all parsers.
+abbrev pub read_in : PageForm → Selection → Element → Reading → ElementGroup → Piece → Reading
+read_in form selection page reading group p =
+    if reading.is_loose then read_loosely form selection page reading group p
+    else if is_alike_by form page reading group p.kind p.bytes || not (may_be_loose form page reading)
+    then read_by form selection page reading group p
+    else read_loosely form selection page (loosened reading) group p
 
 -- The reading after a piece. Once it is uncertain, it stays as it is.
 abbrev pub reading_after : PageForm → Selection → Element → Reading → Piece → Reading
 reading_after form selection page reading p =
     if reading.is_certain
-    then read_by form selection page reading (group_by form (innermost page reading.elements) p.kind p.bytes) p
+    then read_in form selection page reading (group_by form (innermost page reading.elements) p.kind p.bytes) p
     else reading
 
 -- The reading after a piece, by what the code holds.
@@ -484,20 +588,30 @@ abbrev pub is_root_start : PieceKind → List ℕ → Bool
 is_root_start kind bytes =
     is_start kind && (is_same_name (name_of bytes) (codes "html") || is_same_name (name_of bytes) (codes "body"))
 
+-- A start tag of the element of the page or of its body, that gives something to it.
+abbrev pub gives_to_root : PageForm → Selection → PieceKind → List ℕ → Bool
+gives_to_root form selection kind bytes = is_root_start kind bytes && not (gives_nothing form selection bytes)
+
 -- The start tag of the page or its body comes after text (`seen`), and gives its attributes to what is around that text.
-abbrev pub has_late_root : Bool → List Piece → Bool
-has_late_root seen [] = false
-has_late_root seen (p ∷ ps) = seen && is_root_start p.kind p.bytes || has_late_root (seen || is_read_text p.kind p.bytes) ps
+abbrev pub has_late_root : PageForm → Selection → Bool → List Piece → Bool
+has_late_root form selection seen [] = false
+has_late_root form selection seen (p ∷ ps) =
+    seen && gives_to_root form selection p.kind p.bytes || has_late_root form selection (seen || is_read_text p.kind p.bytes) ps
 
 -- Before the first of the pieces of a page.
-abbrev pub at_start : PageForm → List Piece → Reading
-at_start form pieces = started (is_xml form || not (has_late_root false pieces))
+abbrev pub at_start : PageForm → Selection → List Piece → Reading
+at_start form selection pieces = started (is_xml form || not (has_late_root form selection false pieces))
+
+-- The same, by what the code holds.
+abbrev pub start_of : PageForm → asked.Selection → List cut.Piece → Reading
+start_of form selection pieces = at_start form (as_selection selection) (map as_piece pieces)
 
 -- A text may be elsewhere in the tree than in the innermost open element: where the reading is uncertain, where that element
--- holds no text, and in XML outside of the root.
+-- holds no text or is apart in a loose reading, and in XML outside of the root.
 abbrev pub may_be_elsewhere : PageForm → Reading → Element → Bool
 may_be_elsewhere form reading around =
-    not reading.is_certain || holds_no_text around.group || is_xml form && length reading.elements == 0
+    not reading.is_certain || holds_no_text around.group || reading.is_loose && around.is_apart
+    || is_xml form && length reading.elements == 0
 
 -- The element that a text is in: the innermost open one, or the page. There is none where the text may be elsewhere.
 abbrev pub parent_of_text : PageForm → Element → Reading → Option Element

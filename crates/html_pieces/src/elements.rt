@@ -8,12 +8,16 @@ ghost use Rattle.html_pieces.specs.Elements.{as_element, as_elements, as_selecti
 ghost use Rattle.html_pieces.specs.Elements.{has_word, has_class, translated_by, is_translated, value_of_either};
 ghost use Rattle.html_pieces.specs.Elements.{language_value, held_language, language_by, language_of};
 ghost use Rattle.html_pieces.specs.Elements.{is_formatting, has_inherited_attribute, group_in, holds_foreign, opened, innermost, before_new, closed_as};
+ghost use Rattle.html_pieces.specs.Elements.{gives_nothing, has_other_language, is_apart_in, is_of_table, followed, opens_apart, AreThoseLooselyAfter};
 ghost use Rattle.html_pieces.specs.Elements.{is_closed_by_slash, group_by, AreThoseBegun, AreThoseAfter};
 ghost use Rattle.html_pieces.specs.Pieces.{as_piece};
 ghost use Rattle.html_pieces.specs.Elements.{page_element};
 
 use crate::bytes::{PageForm, is_one_of, is_same_in, is_same_name, is_white_space};
-use crate::groups::{ElementGroup, bounds, ends, group_of, is_heading, is_root, is_void, stops};
+use crate::forms::is_start;
+use crate::groups::{
+    ElementGroup, bounds, ends, group_of, is_heading, is_root, is_table_part, is_void, stops,
+};
 use crate::references::{has_ampersand, read, read_plain};
 use crate::tags::{Attribute, attributes, value_of};
 use crate::tokenizer::{Piece, PieceKind, is_foreign_root, name_of};
@@ -55,6 +59,9 @@ pub struct Element<'t> {
     pub is_in_formatting: bool,
     /// Whether a formatting element around it, or an element in one, names a language or `translate`; itself included.
     pub inherits_from_formatting: bool,
+    /// Whether its text is not what that of the body is: it is in another language, of the selection, not to be translated,
+    /// or in an element as `svg` or `select`.
+    pub is_apart: bool,
 }
 
 // A value of more bytes is taken for a language as it is written.
@@ -264,6 +271,76 @@ fn inherits_from_formatting(
     in_formatting && (around || has_inherited_attribute(form, attributes))
 }
 
+/// Reports whether a start tag gives its element nothing that texts in it take over: no language, no `translate`, and nothing
+/// by which it is of a selection.
+pub(crate) fn gives_nothing(
+    alloc: Global,
+    form: PageForm,
+    selection: &Selection<'_>,
+    tag: &[u8],
+) -> Result<bool, AllocError>
+    ensures { IfOk result (λ is. is ≡ gives_nothing form (as_selection selection.now) tag.now) }
+{
+    let attributes = attributes(alloc, form, tag)?;
+    let selects = selects(alloc, form, selection, name_of(tag), &attributes)?;
+    Ok(!has_inherited_attribute(form, &attributes) && !selects)
+}
+
+// The language of a value with its references read.
+fn read_language(
+    alloc: Global,
+    language: &[u8],
+    has_references: bool,
+) -> Result<Vec<u8>, AllocError>
+    ensures { IfOk result (λ made. made.items ≡ held_language has_references language.now) }
+{
+    if has_references {
+        read(alloc, language)
+    } else {
+        Vec::from_slice(alloc, language)
+    }
+}
+
+// Whether attributes name a language other than the one around.
+fn has_other_language(
+    alloc: Global,
+    form: PageForm,
+    attributes: &[Attribute<'_>],
+    around: Element<'_>,
+) -> Result<bool, AllocError>
+    ensures { IfOk result (λ has. has ≡ has_other_language form (map as_attribute attributes.now) (as_element around.entry).language) }
+{
+    let language = language_of(form, attributes, around);
+    if !language.has_references && !around.has_references {
+        return Ok(language.written != around.language);
+    }
+    let own = read_language(alloc, language.written, language.has_references)?;
+    let other = read_language(alloc, around.language, around.has_references)?;
+    Ok(own.as_slice() != other.as_slice())
+}
+
+/// Elements whose content is not read as that of the body is, whatever holds them.
+pub const APART_NAMES: [&[u8]; 5] = [b"math", b"noscript", b"select", b"svg", b"template"];
+
+// Whether an element within another one is apart.
+fn is_apart_in(
+    around: Element<'_>,
+    group: ElementGroup,
+    name: &[u8],
+    other_language: bool,
+    is_selected: bool,
+    is_translated: bool,
+) -> bool
+    ensures { result ≡ is_apart_in (as_element around.entry) group name.now other_language is_selected is_translated }
+{
+    !is_root(group)
+        && (around.is_apart
+            || other_language
+            || is_selected
+            || !is_translated
+            || is_one_of(name, &APART_NAMES))
+}
+
 /// Elements of SVG whose content is HTML: its integration points.
 pub const SVG_POINTS: [&[u8]; 3] = [b"desc", b"foreignObject", b"title"];
 
@@ -311,6 +388,7 @@ fn opened<'t>(
     let is_selected = around.is_selected || selects(alloc, form, selection, name, &attributes)?;
     let is_translated = is_translated(alloc, form, &attributes, around.is_translated)?;
     let language = language_of(form, &attributes, around);
+    let other_language = has_other_language(alloc, form, &attributes, around)?;
     let group = group_in(form, around.is_foreign, name);
     let is_in_formatting = is_in_formatting(around.is_in_formatting, group);
     Ok(Element {
@@ -330,6 +408,14 @@ fn opened<'t>(
             is_in_formatting,
             around.inherits_from_formatting,
             &attributes,
+        ),
+        is_apart: is_apart_in(
+            around,
+            group,
+            name,
+            other_language,
+            is_selected,
+            is_translated,
         ),
     })
 }
@@ -497,6 +583,87 @@ pub(crate) fn open_and_close<'t>(
     }
 }
 
+// Whether the elements of a group are tables or parts of them.
+fn is_of_table(group: ElementGroup) -> bool
+    ensures { result ≡ is_of_table group }
+{
+    is_table_part(group) || group == ElementGroup::Table
+}
+
+// The elements that a loose reading follows, of all that are open.
+pub(crate) fn followed<'t>(
+    alloc: Global,
+    elements: &[Element<'t>],
+) -> Result<Vec<Element<'t>>, AllocError>
+    ensures { IfOk result (λ nest. as_elements nest.items ≡ followed (as_elements elements.now)) }
+{
+    let mut nest = Vec::new(alloc);
+    for element in elements {
+        if is_root(element.group) || is_of_table(element.group) {
+            nest.push(*element)?;
+        }
+    }
+    Ok(nest)
+}
+
+// Whether the element that a start tag opens is apart.
+pub(crate) fn is_opened_apart(
+    alloc: Global,
+    form: PageForm,
+    selection: &Selection<'_>,
+    around: Element<'_>,
+    tag: &[u8],
+) -> Result<bool, AllocError>
+    ensures { IfOk result (λ is. is ≡ (opened form (as_selection selection.now) (as_element around.entry) tag.now).is_apart) }
+{
+    let element = opened(alloc, form, selection, around, tag)?;
+    Ok(element.is_apart)
+}
+
+// Whether a piece is a start tag whose element is apart.
+fn opens_apart(
+    alloc: Global,
+    form: PageForm,
+    selection: &Selection<'_>,
+    around: Element<'_>,
+    piece: Piece<'_>,
+) -> Result<bool, AllocError>
+    ensures { IfOk result (λ is. is ≡ opens_apart form (as_selection selection.now) piece.entry.kind piece.entry.text.now (as_element around.entry)) }
+{
+    if is_start(piece.kind) {
+        is_opened_apart(alloc, form, selection, around, piece.text.as_bytes())
+    } else {
+        Ok(false)
+    }
+}
+
+// Opens and closes elements of `nest` in a loose reading, as a piece says whose element is of a group.
+//
+// The only error is that memory was refused; `nest` is then unchanged.
+pub(crate) fn open_and_close_loosely<'t>(
+    nest: &mut Vec<Element<'t>>,
+    alloc: Global,
+    form: PageForm,
+    selection: &Selection<'_>,
+    page: Element<'t>,
+    group: ElementGroup,
+    piece: Piece<'t>,
+) -> Result<(), AllocError>
+    ensures changed { OnOk result (AreThoseLooselyAfter form selection.now group (as_piece piece.entry) (as_element page.entry)
+        nest.old.items nest.new.items) }
+    ensures unchanged_on_error { OnErr result (nest.new.items ≡ nest.old.items) }
+{
+    let around = innermost(page, nest);
+    if around.is_apart
+        || is_of_table(group)
+        || opens_apart(alloc, form, selection, around, piece)?
+    {
+        open_and_close(nest, alloc, form, selection, page, group, piece)
+    } else {
+        Ok(())
+    }
+}
+
 /// Returns the page as what is around all its elements.
 pub fn page_element(language: &[u8]) -> Element<'_>
     ensures { as_element result ≡ page_element language.now }
@@ -514,5 +681,6 @@ pub fn page_element(language: &[u8]) -> Element<'_>
         is_in_template: false,
         is_in_formatting: false,
         inherits_from_formatting: false,
+        is_apart: false,
     }
 }

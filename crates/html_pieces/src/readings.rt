@@ -1,8 +1,11 @@
 //! How far a page is read alike by all parsers, whatever its tree is.
+//!
+//! Elements that nest wrongly, as `<b><i></b></i>`, are put into the tree in ways of their own, and so is a link in a link. It
+//! does no harm where none of them names a language or is left alone: the reading is *loose* from there on, and certain still.
 
-ghost use Rattle.std.specs.Prelude.{◌≡◌, ◌==◌, ◌||◌, ◌&&◌, not, drop, map, Bool, OnOk, OnErr};
+ghost use Rattle.std.specs.Prelude.{◌≡◌, ◌==◌, ◌||◌, ◌&&◌, not, drop, map, Bool, IfOk, OnOk, OnErr};
 ghost use Rattle.std.specs.Option.{option_map, option_map_or};
-ghost use Rattle.html_pieces.specs.Elements.{as_element, as_elements, depth_limit};
+ghost use Rattle.html_pieces.specs.Elements.{as_element, as_elements, as_selection, depth_limit};
 ghost use Rattle.html_pieces.specs.Readings.{as_reading, at_start, has_text, may_be_adopted, is_read_text, is_root_start, has_late_root};
 ghost use Rattle.html_pieces.specs.Readings.{begins_with_word, mentions, begins_with_letter, has_content};
 ghost use Rattle.html_pieces.specs.Readings.{ends_at_first, quote_after, has_closed_quotes, is_doctype, is_html_doctype};
@@ -20,13 +23,18 @@ ghost use Rattle.html_pieces.specs.Readings.{is_html_alike, stays_raw, is_xml_st
 ghost use Rattle.html_pieces.specs.Readings.{is_xml_alike, is_in_raw_noscript, stays_in_noscript, is_alike_by, body_unless, head_from};
 ghost use Rattle.html_pieces.specs.Readings.{phase_after_start, phase_after_other, phase_after, next_reading};
 ghost use Rattle.html_pieces.specs.Readings.{standard_after_other, standard_after, may_be_elsewhere, parent_of_text};
+ghost use Rattle.html_pieces.specs.Readings.{is_alike_within, is_taken, is_alike_outside, is_loose_start_alike, is_end_within};
+ghost use Rattle.html_pieces.specs.Readings.{is_loose_end_alike, is_loose_html_alike, is_loosely_alike, may_be_loose, loosened};
+ghost use Rattle.html_pieces.specs.Readings.{gives_to_root, start_of};
+ghost use Rattle.html_pieces.specs.Private.Loose.{is_held_alike, is_held_html_alike, is_held_loosely_alike};
+ghost use Rattle.html_pieces.specs.Private.Loose.{held_read, held_read_loosely, held_read_loosened};
 ghost use Rattle.html_pieces.specs.Names.{name_of};
 ghost use Rattle.html_pieces.specs.Pieces.{as_piece, is_script};
 
 use crate::bytes::{PageForm, is_alpha, is_one_of, is_same_name, is_white_space};
 use crate::elements::{
-    DEPTH_LIMIT, Element, MATH_POINTS, SVG_POINTS, Selection, before_new, group_by, innermost,
-    open_and_close,
+    DEPTH_LIMIT, Element, MATH_POINTS, SVG_POINTS, Selection, before_new, followed, gives_nothing,
+    group_by, innermost, is_opened_apart, open_and_close, open_and_close_loosely,
 };
 use crate::forms::{after_order_mark, is_start};
 use crate::groups::ElementGroup::*;
@@ -62,21 +70,30 @@ pub struct Reading<'t> {
     pub phase: Phase,
     /// Whether the document type is that of HTML.
     pub is_standard: bool,
-    /// Whether all parsers have read the page alike so far.
+    /// Whether elements may be elsewhere in the tree than they are read. Only tables and what is apart are followed then.
+    pub is_loose: bool,
+    /// Whether all parsers have read the page alike so far, but for the places of elements in a loose reading.
     pub is_certain: bool,
 }
 
 impl<'t> Reading<'t> {
-    /// Returns what is known before the first of the pieces of a page.
-    pub fn new(alloc: Global, form: PageForm, pieces: &[Piece<'t>]) -> Reading<'t>
-        ensures { as_reading result ≡ at_start form (map as_piece pieces.now) }
+    /// Returns what is known before the first of the pieces of a page. The error says that memory was refused.
+    pub fn new(
+        alloc: Global,
+        form: PageForm,
+        selection: &Selection<'_>,
+        pieces: &[Piece<'t>],
+    ) -> Result<Reading<'t>, AllocError>
+        ensures { IfOk result (λ reading. as_reading reading ≡ start_of form selection.now pieces.now) }
     {
-        Reading {
+        let is_certain = form.is_xml() || !has_late_root(alloc, form, selection, pieces)?;
+        Ok(Reading {
             elements: Vec::new(alloc),
             phase: Phase::Start,
             is_standard: false,
-            is_certain: form.is_xml() || !has_late_root(pieces),
-        }
+            is_loose: false,
+            is_certain,
+        })
     }
 }
 
@@ -793,6 +810,190 @@ fn is_alike<'t>(
     }
 }
 
+// ---- pieces of a loose reading
+
+// Reports whether a start tag of HTML within an element that is apart is read alike by all parsers.
+fn is_alike_within(
+    standard: bool,
+    around: Element<'_>,
+    elements: &[Element<'_>],
+    new: ElementGroup,
+    name: &[u8],
+) -> bool
+    ensures { result ≡ is_alike_within standard (as_element around.entry) (as_elements elements.now) new name.now }
+{
+    !is_root(new)
+        && new != Head
+        && !is_same_name(name, b"frameset")
+        && is_content_alike(around, name)
+        && ends_alike(standard, new, elements)
+        && (CHOICES.contains(&new)
+            || !CHOICES.contains(&around.group) && !is_same_name(around.name, b"select"))
+}
+
+// Reports whether an element may begin where it does in a loose reading, by the tables that are open.
+fn is_taken<'t>(page: Element<'t>, reading: &Reading<'t>, new: ElementGroup, name: &[u8]) -> bool
+    ensures { result ≡ is_taken (as_element page.entry) (as_reading reading.now) new name.now }
+{
+    let elements = reading.elements.as_slice();
+    let around = innermost(page, elements);
+    if is_table_part(new) {
+        let kept = before_new(elements, new);
+        let within = innermost(page, &elements[..kept]);
+        is_expected(reading.phase, around, within, elements, new, name)
+    } else {
+        is_content_here(around)
+            || new == Template
+            || is_same_name(name, b"script")
+            || is_same_name(name, b"style")
+    }
+}
+
+// Reports whether a start tag of HTML outside of all elements that are apart is read alike by all parsers.
+fn is_alike_outside<'t>(
+    alloc: Global,
+    form: PageForm,
+    selection: &Selection<'_>,
+    page: Element<'t>,
+    reading: &Reading<'t>,
+    new: ElementGroup,
+    tag: &[u8],
+) -> Result<bool, AllocError>
+    ensures { IfOk result (λ is. is ≡ is_alike_outside form (as_selection selection.now) (as_element page.entry)
+        (as_reading reading.now) new tag.now) }
+{
+    let name = name_of(tag);
+    if is_root(new) {
+        return gives_nothing(alloc, form, selection, tag);
+    }
+    let around = innermost(page, &reading.elements);
+    let is_form = is_same_name(name, b"form");
+    let is_apart_form = is_form && is_opened_apart(alloc, form, selection, around, tag)?;
+    Ok(is_taken(page, reading, new, name) && !is_same_name(name, b"frameset") && !is_apart_form)
+}
+
+// Reports whether a start tag of a loose reading is read alike by all parsers.
+fn is_loose_start_alike<'t>(
+    alloc: Global,
+    form: PageForm,
+    selection: &Selection<'_>,
+    page: Element<'t>,
+    reading: &Reading<'t>,
+    new: ElementGroup,
+    tag: &[u8],
+) -> Result<bool, AllocError>
+    ensures { IfOk result (λ is. is ≡ is_loose_start_alike form (as_selection selection.now) (as_element page.entry)
+        (as_reading reading.now) new tag.now) }
+{
+    let elements = reading.elements.as_slice();
+    let around = innermost(page, elements);
+    let name = name_of(tag);
+    if around.is_foreign {
+        Ok(
+            !(is_one_of(name, &SVG_POINTS) || is_one_of(name, &MATH_POINTS))
+                && is_foreign_start_alike(elements, name, tag),
+        )
+    } else if around.is_apart {
+        Ok(is_alike_within(reading.is_standard, around, elements, new, name))
+    } else {
+        is_alike_outside(alloc, form, selection, page, reading, new, tag)
+    }
+}
+
+// Reports whether an end tag in an element that is apart is read alike by all parsers.
+fn is_end_within(tag: ElementGroup, name: &[u8], elements: &[Element<'_>]) -> bool
+    ensures { result ≡ is_end_within tag name.now (as_elements elements.now) }
+{
+    if is_root(tag) {
+        return false;
+    }
+    match closes_alike(elements, name, tag) {
+        Some(all) => all,
+        None => false,
+    }
+}
+
+// Reports whether an end tag of a loose reading is read alike by all parsers.
+fn is_loose_end_alike(
+    around: Element<'_>,
+    tag: ElementGroup,
+    name: &[u8],
+    elements: &[Element<'_>],
+) -> bool
+    ensures { result ≡ is_loose_end_alike (as_element around.entry) tag name.now (as_elements elements.now) }
+{
+    if around.is_in_drawing {
+        return is_same_name(around.name, name);
+    }
+    !around.is_apart || is_end_within(tag, name, elements)
+}
+
+// Reports whether a piece of a page in HTML is read alike by all parsers, in a loose reading.
+fn is_loose_html_alike<'t>(
+    alloc: Global,
+    form: PageForm,
+    selection: &Selection<'_>,
+    page: Element<'t>,
+    reading: &Reading<'t>,
+    group: ElementGroup,
+    piece: Piece<'_>,
+) -> Result<bool, AllocError>
+    ensures { IfOk result (λ is. is ≡ is_held_html_alike form selection.now page.entry reading.now group piece.entry) }
+{
+    let bytes = piece.text.as_bytes();
+    let elements = reading.elements.as_slice();
+    let around = innermost(page, elements);
+    match piece.kind {
+        PieceKind::Text => Ok(!has_text(bytes) || is_content_here(around)),
+        PieceKind::Reference => Ok(is_content_here(around)),
+        PieceKind::StartTag | PieceKind::EmptyTag => {
+            is_loose_start_alike(alloc, form, selection, page, reading, group, bytes)
+        }
+        PieceKind::EndTag => Ok(is_loose_end_alike(around, group, name_of(bytes), elements)),
+        PieceKind::Other => Ok(is_html_other_alike(around, reading.phase, bytes)),
+    }
+}
+
+// Reports whether a piece of a loose reading is read alike by all parsers.
+#[tactic(auto, using(crate::proofs::Limits::as_many))]
+fn is_loosely_alike<'t>(
+    alloc: Global,
+    form: PageForm,
+    selection: &Selection<'_>,
+    page: Element<'t>,
+    reading: &Reading<'t>,
+    group: ElementGroup,
+    piece: Piece<'_>,
+) -> Result<bool, AllocError>
+    ensures { IfOk result (λ is. is ≡ is_held_loosely_alike form selection.now page.entry reading.now group piece.entry) }
+{
+    let around = innermost(page, &reading.elements);
+    if !stays_in_noscript(around, piece) || reading.elements.len() >= DEPTH_LIMIT {
+        return Ok(false);
+    }
+    is_loose_html_alike(alloc, form, selection, page, reading, group, piece)
+}
+
+// Reports whether a reading may become loose.
+fn may_be_loose<'t>(form: PageForm, page: Element<'t>, reading: &Reading<'t>) -> bool
+    ensures { result ≡ may_be_loose form (as_element page.entry) (as_reading reading.now) }
+{
+    !form.is_xml() && !is_before_root(reading.phase) && !innermost(page, &reading.elements).is_apart
+}
+
+// Returns the same reading as a loose one.
+fn loosened<'t>(alloc: Global, reading: &Reading<'t>) -> Result<Reading<'t>, AllocError>
+    ensures { IfOk result (λ loose. as_reading loose ≡ loosened (as_reading reading.now)) }
+{
+    Ok(Reading {
+        elements: followed(alloc, &reading.elements)?,
+        phase: reading.phase,
+        is_standard: reading.is_standard,
+        is_loose: true,
+        is_certain: reading.is_certain,
+    })
+}
+
 // ---- how far a page has come
 
 const fn body_unless(is_kept: bool, phase: Phase) -> Phase
@@ -883,6 +1084,93 @@ fn standard_after(standard: bool, phase: Phase, piece: Piece<'_>) -> bool
     }
 }
 
+// Advances a reading that is not loose over a piece that all parsers read alike, or that makes it uncertain.
+//
+// The only error is that memory was refused; the reading is then unchanged. So it is with the next two.
+fn advance_strictly<'t>(
+    reading: &mut Reading<'t>,
+    alloc: Global,
+    form: PageForm,
+    selection: &Selection<'_>,
+    page: Element<'t>,
+    group: ElementGroup,
+    piece: Piece<'t>,
+    is_certain: bool,
+) -> Result<(), AllocError>
+    requires { is_certain ≡ is_held_alike form page reading.old group piece }
+    ensures advanced { OnOk result (as_reading reading.new
+        ≡ held_read form selection.now page.entry reading.old group piece.entry) }
+    ensures unchanged_on_error { OnErr result (as_reading reading.new ≡ as_reading reading.old) }
+{
+    let around = innermost(page, &reading.elements);
+    open_and_close(
+        &mut reading.elements,
+        alloc,
+        form,
+        selection,
+        page,
+        group,
+        piece,
+    )?;
+    reading.is_standard = standard_after(reading.is_standard, reading.phase, piece);
+    reading.phase = phase_after(around, reading.phase, group, piece);
+    reading.is_loose = false;
+    reading.is_certain = is_certain;
+    Ok(())
+}
+
+// Advances a loose reading over a piece.
+fn advance_loosely<'t>(
+    reading: &mut Reading<'t>,
+    alloc: Global,
+    form: PageForm,
+    selection: &Selection<'_>,
+    page: Element<'t>,
+    group: ElementGroup,
+    piece: Piece<'t>,
+) -> Result<(), AllocError>
+    ensures advanced { OnOk result (as_reading reading.new
+        ≡ held_read_loosely form selection.now page.entry reading.old group piece.entry) }
+    ensures unchanged_on_error { OnErr result (as_reading reading.new ≡ as_reading reading.old) }
+{
+    let around = innermost(page, &reading.elements);
+    let alike = is_loosely_alike(alloc, form, selection, page, reading, group, piece)?;
+    open_and_close_loosely(
+        &mut reading.elements,
+        alloc,
+        form,
+        selection,
+        page,
+        group,
+        piece,
+    )?;
+    reading.is_standard = standard_after(reading.is_standard, reading.phase, piece);
+    reading.phase = phase_after(around, reading.phase, group, piece);
+    reading.is_loose = true;
+    reading.is_certain = alike;
+    Ok(())
+}
+
+// Makes a reading loose, and advances it over a piece.
+fn loosen_and_advance<'t>(
+    reading: &mut Reading<'t>,
+    alloc: Global,
+    form: PageForm,
+    selection: &Selection<'_>,
+    page: Element<'t>,
+    group: ElementGroup,
+    piece: Piece<'t>,
+) -> Result<(), AllocError>
+    ensures advanced { OnOk result (as_reading reading.new
+        ≡ held_read_loosened form selection.now page.entry reading.old group piece.entry) }
+    ensures unchanged_on_error { OnErr result (as_reading reading.new ≡ as_reading reading.old) }
+{
+    let mut loose = loosened(alloc, reading)?;
+    advance_loosely(&mut loose, alloc, form, selection, page, group, piece)?;
+    *reading = loose;
+    Ok(())
+}
+
 /// Advances a reading over a piece.
 ///
 /// The elements of `selection` are noted as the caller's. The only error is that memory was refused; the reading is then
@@ -902,22 +1190,18 @@ pub fn advance<'t>(
     if !reading.is_certain {
         return Ok(());
     }
-    let around = innermost(page, &reading.elements);
-    let group = group_by(form, around, piece);
+    let group = group_by(form, innermost(page, &reading.elements), piece);
+    if reading.is_loose {
+        return advance_loosely(reading, alloc, form, selection, page, group, piece);
+    }
     let is_certain = is_alike(form, page, reading, group, piece);
-    open_and_close(
-        &mut reading.elements,
-        alloc,
-        form,
-        selection,
-        page,
-        group,
-        piece,
-    )?;
-    reading.is_standard = standard_after(reading.is_standard, reading.phase, piece);
-    reading.phase = phase_after(around, reading.phase, group, piece);
-    reading.is_certain = is_certain;
-    Ok(())
+    if is_certain || !may_be_loose(form, page, reading) {
+        advance_strictly(
+            reading, alloc, form, selection, page, group, piece, is_certain,
+        )
+    } else {
+        loosen_and_advance(reading, alloc, form, selection, page, group, piece)
+    }
 }
 
 // Reports whether a piece is text of the body, whatever is around it.
@@ -942,18 +1226,39 @@ fn is_root_start(piece: Piece<'_>) -> bool
     is_same_name(name, b"html") || is_same_name(name, b"body")
 }
 
-// Reports whether the start tag of the page or its body comes after text.
-fn has_late_root(pieces: &[Piece<'_>]) -> bool
-    ensures { result ≡ has_late_root Bool.false (map as_piece pieces.now) }
+// Reports whether a piece is a start tag of the element of the page, or of its body, that gives something to it.
+fn gives_to_root(
+    alloc: Global,
+    form: PageForm,
+    selection: &Selection<'_>,
+    piece: Piece<'_>,
+) -> Result<bool, AllocError>
+    ensures { IfOk result (λ gives. gives ≡ gives_to_root form (as_selection selection.now) piece.entry.kind piece.entry.text.now) }
+{
+    if !is_root_start(piece) {
+        return Ok(false);
+    }
+    let nothing = gives_nothing(alloc, form, selection, piece.text.as_bytes())?;
+    Ok(!nothing)
+}
+
+// Reports whether the start tag of the page or its body comes after text, and gives something to what is around it.
+fn has_late_root(
+    alloc: Global,
+    form: PageForm,
+    selection: &Selection<'_>,
+    pieces: &[Piece<'_>],
+) -> Result<bool, AllocError>
+    ensures { IfOk result (λ has. has ≡ has_late_root form (as_selection selection.now) Bool.false (map as_piece pieces.now)) }
 {
     let mut seen = false;
     for piece in pieces {
-        if seen && is_root_start(*piece) {
-            return true;
+        if seen && gives_to_root(alloc, form, selection, *piece)? {
+            return Ok(true);
         }
         seen = seen || is_read_text(*piece);
     }
-    false
+    Ok(false)
 }
 
 // Reports whether a text may be elsewhere in the tree than in the innermost open element.
@@ -962,12 +1267,14 @@ fn may_be_elsewhere(form: PageForm, reading: &Reading<'_>, around: Element<'_>) 
 {
     !reading.is_certain
         || holds_no_text(around.group)
+        || reading.is_loose && around.is_apart
         || form.is_xml() && reading.elements.is_empty()
 }
 
 /// Returns the element that a text is in: the innermost open one, or the page outside of all.
 ///
-/// There is none where the reading is uncertain, where the text is elsewhere in the tree, and in XML outside of the root.
+/// There is none where the reading is uncertain, where the text is elsewhere in the tree or in an element that is apart in a
+/// loose reading, and in XML outside of the root.
 pub fn parent_of_text<'t>(
     form: PageForm,
     page: Element<'t>,

@@ -65,13 +65,13 @@ marks_keep laws languages form class page reading before (p ∷ ps) f u =
 
 -- A page that was written with soft hyphens has the form of the page.
 pub form_kept : (laws : Laws) (leave : FormStays) (languages : List Language) (class language page output : List ℕ) → AllFit languages → AreUtf8 (pieces_of (form_of page) page)
-    → output ≡ marked_pieces languages soft_hyphen (form_of page) class (page_element language) (at_start (form_of page) (pieces_of (form_of page) page)) false (pieces_of (form_of page) page)
+    → output ≡ marked_pieces languages soft_hyphen (form_of page) class (page_element language) (at_start (form_of page) (left_alone_elements class) (pieces_of (form_of page) page)) false (pieces_of (form_of page) page)
     → form_of output ≡ form_of page
 form_kept laws leave languages class language page output f u e =
     let form = form_of page in
     let around = page_element language in
     let pieces = pieces_of form page in
-    let start = at_start form pieces in
+    let start = at_start form (left_alone_elements class) pieces in
     let others = marked_list languages form class around start false pieces in
     let joined : output ≡ joined_pieces others = e ∙ sym (marked_list-joins languages form class around start false pieces) in
     ap form_of joined
@@ -101,13 +101,13 @@ those_stay languages form class page reading before named (p ∷ ps) =
 -- A page that was written with soft hyphens names the languages that the page names.
 pub languages_kept : (laws : Laws) (languages : List Language) (class language page output : List ℕ) → AllFit languages → AreUtf8 (pieces_of (form_of page) page)
     → ((others : List Piece) → HaveOtherTexts (pieces_of (form_of page) page) others → pieces_of (form_of page) (joined_pieces others) ≡ others) → form_of output ≡ form_of page
-    → output ≡ marked_pieces languages soft_hyphen (form_of page) class (page_element language) (at_start (form_of page) (pieces_of (form_of page) page)) false (pieces_of (form_of page) page)
+    → output ≡ marked_pieces languages soft_hyphen (form_of page) class (page_element language) (at_start (form_of page) (left_alone_elements class) (pieces_of (form_of page) page)) false (pieces_of (form_of page) page)
     → languages_of output ≡ languages_of page
 languages_kept laws languages class language page output f u cut same e =
     let form = form_of page in
     let around = page_element language in
     let pieces = pieces_of form page in
-    let start = at_start form pieces in
+    let start = at_start form (left_alone_elements class) pieces in
     let others = marked_list languages form class around start false pieces in
     let joined : output ≡ joined_pieces others = e ∙ sym (marked_list-joins languages form class around start false pieces) in
     ap (λ x. with_those_of x [] (pieces_of x output)) same

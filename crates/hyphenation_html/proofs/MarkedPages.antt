@@ -65,10 +65,10 @@ pieces_marked laws languages mark form class page reading before (p ∷ ps) f u 
 
 -- A page is written with marks at its places, where its pieces join to it and are UTF-8.
 pub page_marked : (laws : Laws) (languages : List Language) (form : PageForm) (class language mark page : List ℕ) → AllFit languages → joined_pieces (pieces_of form page) ≡ page → AreUtf8 (pieces_of form page)
-    → IsMarked mark page (places_of languages form class language page) (marked_pieces languages mark form class (page_element language) (at_start form (pieces_of form page)) false (pieces_of form page))
+    → IsMarked mark page (places_of languages form class language page) (marked_pieces languages mark form class (page_element language) (at_start form (left_alone_elements class) (pieces_of form page)) false (pieces_of form page))
 page_marked laws languages form class language mark page f join u =
-    subst (λ t. IsMarked mark t (places_of languages form class language page) (marked_pieces languages mark form class (page_element language) (at_start form (pieces_of form page)) false (pieces_of form page))) join
-    (pieces_marked laws languages mark form class (page_element language) (at_start form (pieces_of form page)) false (pieces_of form page) f u)
+    subst (λ t. IsMarked mark t (places_of languages form class language page) (marked_pieces languages mark form class (page_element language) (at_start form (left_alone_elements class) (pieces_of form page)) false (pieces_of form page))) join
+    (pieces_marked laws languages mark form class (page_element language) (at_start form (left_alone_elements class) (pieces_of form page)) false (pieces_of form page) f u)
 
 -- ---- without dictionaries
 
@@ -92,4 +92,4 @@ pieces_without form class page reading before (p ∷ ps) =
     ∙ ap (shifted (length p.bytes)) (pieces_without form class page (reading_after form (left_alone_elements class) page reading p) (touched_before before p.kind p.bytes) ps)
 
 pub page_without : (languages : List Language) (form : PageForm) (class language page : List ℕ) → languages ≡ [] → places_of languages form class language page ≡ []
-page_without languages form class language page e = ap (λ ls. places_of ls form class language page) e ∙ pieces_without form class (page_element language) (at_start form (pieces_of form page)) false (pieces_of form page)
+page_without languages form class language page e = ap (λ ls. places_of ls form class language page) e ∙ pieces_without form class (page_element language) (at_start form (left_alone_elements class) (pieces_of form page)) false (pieces_of form page)

@@ -73,4 +73,4 @@ all_of P (place ∷ places) e = All-cons P place places e.0 (all_of P places e.1
 
 pub page_in_text : (laws : Laws) (languages : List Language) (form : PageForm) (class language page : List ℕ) → AllFit languages → AreUtf8 (pieces_of form page) → All (IsInText (pieces_of form page)) (places_of languages form class language page)
 page_in_text laws languages form class language page f u =
-    all_of (IsInText (pieces_of form page)) (places_of languages form class language page) (pieces_in_text laws languages form class (page_element language) (at_start form (pieces_of form page)) false (pieces_of form page) f u)
+    all_of (IsInText (pieces_of form page)) (places_of languages form class language page) (pieces_in_text laws languages form class (page_element language) (at_start form (left_alone_elements class) (pieces_of form page)) false (pieces_of form page) f u)

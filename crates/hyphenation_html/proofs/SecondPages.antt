@@ -7,8 +7,9 @@ use Rattle.std.specs.Str.{IsUtf8}
 use Rattle.html_pieces.specs.declared.bytes.PageForm.{PageForm}
 use Rattle.html_pieces.specs.Pieces.{Piece, pieces_of}
 use Rattle.html_pieces.specs.Bytes.{is_xml}
-use Rattle.html_pieces.specs.Elements.{Element, page_element, innermost, depth_limit}
-use Rattle.html_pieces.specs.Readings.{Reading, started, at_start, parent_of_text, reading_after, has_text, body_unless, is_hidden, is_content_here, is_root_start, is_read_text, has_late_root}
+use Rattle.html_pieces.specs.declared.groups.ElementGroup.TheVariants.{Ordinary}
+use Rattle.html_pieces.specs.Elements.{Element, Selection, page_element, innermost, depth_limit, is_of_table}
+use Rattle.html_pieces.specs.Readings.{Reading, started, at_start, parent_of_text, reading_after, has_text, body_unless, is_hidden, is_content_here, gives_to_root, is_read_text, has_late_root, may_be_loose, loosened}
 use Rattle.html_pieces.specs.Laws.{joined_pieces, AreUtf8, IsPlain, begins_alike, IsOtherText, HaveOtherTexts}
 use Rattle.html_pieces.specs.declared.tokenizer.PieceKind.{PieceKind}
 use Rattle.html_pieces.specs.declared.tokenizer.PieceKind.TheVariants.{Text, Reference, StartTag, EmptyTag, EndTag, Other}
@@ -137,16 +138,35 @@ still_before laws languages element before before' after kind bytes f u i =
 
 -- ---- pieces
 
+-- a loose reading after a text, by whether it has more than white space
+abbrev loosely_after_content : Element → Reading → Bool → Reading
+loosely_after_content page reading c = record {
+  elements = if (innermost page reading.elements).is_apart || is_of_table Ordinary || false then reading.elements else reading.elements;
+  phase = body_unless (is_hidden (innermost page reading.elements) || not c) reading.phase;
+  is_standard = reading.is_standard;
+  is_loose = true;
+  is_certain = nat_lt (length reading.elements) depth_limit && true && (not c || is_content_here (innermost page reading.elements));
+}
+
+-- a text is read alike by all parsers, by whether it has more than white space
+abbrev content_alike : PageForm → Element → Reading → Bool → Bool
+content_alike form page reading c =
+    nat_lt (length reading.elements) depth_limit && true && (if is_xml form then true else not c || is_content_here (innermost page reading.elements))
+
 -- the reading after a text, by whether it has more than white space
 abbrev after_content : PageForm → Element → Reading → Bool → Reading
 after_content form page reading c =
     if reading.is_certain
+    then (if reading.is_loose then loosely_after_content page reading c
+    else if content_alike form page reading c || not (may_be_loose form page reading)
     then record {
       elements = reading.elements;
       phase = body_unless (is_hidden (innermost page reading.elements) || not c) reading.phase;
       is_standard = reading.is_standard;
-      is_certain = nat_lt (length reading.elements) depth_limit && true && (if is_xml form then true else not c || is_content_here (innermost page reading.elements));
+      is_loose = false;
+      is_certain = content_alike form page reading c;
     }
+    else loosely_after_content page (loosened reading) c)
     else reading
 
 same_reading : (laws : Laws) (languages : List Language) (form : PageForm) (class : List ℕ) (page : Element) (reading : Reading) (before after : Bool) (kind : PieceKind) (bytes : List ℕ) → AllFit languages → IsUtf8 bytes
@@ -161,14 +181,14 @@ same_reading laws languages form class page reading before after EmptyTag bytes 
 same_reading laws languages form class page reading before after EndTag bytes f u = refl
 same_reading laws languages form class page reading before after Other bytes f u = refl
 
-root_as_well : (languages : List Language) (element : Option Element) (before after : Bool) (kind : PieceKind) (bytes : List ℕ)
-    → is_root_start kind (marked_piece languages soft_hyphen element before after kind bytes) ≡ is_root_start kind bytes
-root_as_well languages element before after Text bytes = refl
-root_as_well languages element before after Reference bytes = refl
-root_as_well languages element before after StartTag bytes = refl
-root_as_well languages element before after EmptyTag bytes = refl
-root_as_well languages element before after EndTag bytes = refl
-root_as_well languages element before after Other bytes = refl
+root_as_well : (form : PageForm) (selection : Selection) (languages : List Language) (element : Option Element) (before after : Bool) (kind : PieceKind) (bytes : List ℕ)
+    → gives_to_root form selection kind (marked_piece languages soft_hyphen element before after kind bytes) ≡ gives_to_root form selection kind bytes
+root_as_well form selection languages element before after Text bytes = refl
+root_as_well form selection languages element before after Reference bytes = refl
+root_as_well form selection languages element before after StartTag bytes = refl
+root_as_well form selection languages element before after EmptyTag bytes = refl
+root_as_well form selection languages element before after EndTag bytes = refl
+root_as_well form selection languages element before after Other bytes = refl
 
 read_as_well : (laws : Laws) (languages : List Language) (element : Option Element) (before after : Bool) (kind : PieceKind) (bytes : List ℕ) → AllFit languages → IsUtf8 bytes
     → is_read_text kind (marked_piece languages soft_hyphen element before after kind bytes) ≡ is_read_text kind bytes
@@ -181,15 +201,16 @@ read_as_well laws languages element before after EndTag bytes f u = refl
 read_as_well laws languages element before after Other bytes f u = refl
 
 late_as_well : (laws : Laws) (languages : List Language) (form : PageForm) (class : List ℕ) (page : Element) (reading : Reading) (before seen : Bool) (ps : List Piece) → AllFit languages → AreUtf8 ps
-    → has_late_root seen (marked_list languages form class page reading before ps) ≡ has_late_root seen ps
+    → has_late_root form (left_alone_elements class) seen (marked_list languages form class page reading before ps) ≡ has_late_root form (left_alone_elements class) seen ps
 late_as_well laws languages form class page reading before seen [] f u = refl
 late_as_well laws languages form class page reading before seen (p ∷ ps) f u =
+    let selection = left_alone_elements class in
     let element = parent_of_text form page reading in
     let bytes = marked_piece languages soft_hyphen element before (touched_after ps) p.kind p.bytes in
     let rest = marked_list languages form class page (reading_after form (left_alone_elements class) page reading p) (touched_before before p.kind p.bytes) ps in
-    ap (λ c. seen && c || has_late_root (seen || is_read_text p.kind bytes) rest) (root_as_well languages element before (touched_after ps) p.kind p.bytes)
-    ∙ ap (λ c. seen && is_root_start p.kind p.bytes || has_late_root (seen || c) rest) (read_as_well laws languages element before (touched_after ps) p.kind p.bytes f u.0)
-    ∙ ap (λ c. seen && is_root_start p.kind p.bytes || c) (late_as_well laws languages form class page (reading_after form (left_alone_elements class) page reading p) (touched_before before p.kind p.bytes) (seen || is_read_text p.kind p.bytes) ps f u.1)
+    ap (λ c. seen && c || has_late_root form selection (seen || is_read_text p.kind bytes) rest) (root_as_well form selection languages element before (touched_after ps) p.kind p.bytes)
+    ∙ ap (λ c. seen && gives_to_root form selection p.kind p.bytes || has_late_root form selection (seen || c) rest) (read_as_well laws languages element before (touched_after ps) p.kind p.bytes f u.0)
+    ∙ ap (λ c. seen && gives_to_root form selection p.kind p.bytes || c) (late_as_well laws languages form class page (reading_after form (left_alone_elements class) page reading p) (touched_before before p.kind p.bytes) (seen || is_read_text p.kind p.bytes) ps f u.1)
 
 pieces_done : (laws : Laws) (languages : List Language) (form : PageForm) (class : List ℕ) (page : Element) (reading : Reading) (before before' : Bool) (ps : List Piece) → AllFit languages → AreUtf8 ps → Implies before before'
     → pieces_places languages form class page reading before' (marked_list languages form class page reading before ps) ≡ []
@@ -261,15 +282,15 @@ other_texts laws languages form class page reading before (p ∷ ps) f u = (
 -- A page that was written with soft hyphens has no places left.
 pub page_done : (laws : Laws) (languages : List Language) (form : PageForm) (class language page output : List ℕ) → AllFit languages → AreUtf8 (pieces_of form page)
     → ((others : List Piece) → HaveOtherTexts (pieces_of form page) others → pieces_of form (joined_pieces others) ≡ others)
-    → output ≡ marked_pieces languages soft_hyphen form class (page_element language) (at_start form (pieces_of form page)) false (pieces_of form page)
+    → output ≡ marked_pieces languages soft_hyphen form class (page_element language) (at_start form (left_alone_elements class) (pieces_of form page)) false (pieces_of form page)
     → places_of languages form class language output ≡ []
 page_done laws languages form class language page output f u cut e =
     let around = page_element language in
     let pieces = pieces_of form page in
-    let start = at_start form pieces in
+    let start = at_start form (left_alone_elements class) pieces in
     let others = marked_list languages form class around start false pieces in
     let joined : output ≡ joined_pieces others = e ∙ sym (marked_list-joins languages form class around start false pieces) in
     ap (places_of languages form class language) joined
-    ∙ ap (λ ps. pieces_places languages form class around (at_start form ps) false ps) (cut others (other_texts laws languages form class around start false pieces f u))
+    ∙ ap (λ ps. pieces_places languages form class around (at_start form (left_alone_elements class) ps) false ps) (cut others (other_texts laws languages form class around start false pieces f u))
     ∙ ap (λ c. pieces_places languages form class around (started (is_xml form || not c)) false others) (late_as_well laws languages form class around start false false pieces f u)
     ∙ pieces_done laws languages form class around start false false pieces f u (λ h. h)

@@ -73,7 +73,7 @@ pieces_places languages form class page reading before (p ∷ ps) =
 -- The breaks of a page, in a language that holds where the page names none.
 abbrev pub places_of : List Language → PageForm → List ℕ → List ℕ → List ℕ → List ℕ
 places_of languages form class language page =
-    pieces_places languages form class (page_element language) (at_start form (pieces_of form page)) false (pieces_of form page)
+    pieces_places languages form class (page_element language) (at_start form (left_alone_elements class) (pieces_of form page)) false (pieces_of form page)
 
 -- The breaks of a page that is read in a form, by dictionaries and settings.
 abbrev pub places_in_form : Settings → List LanguageDictionary → PageForm → List ℕ → List ℕ → List ℕ

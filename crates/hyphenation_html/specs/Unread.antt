@@ -28,7 +28,7 @@ unread_from form class page reading line (p ∷ ps) =
 
 -- The line, counted from 1, of the first of the pieces of a page at which it becomes uncertain; none where it stays certain.
 abbrev pub unread_in : Settings → PageForm → Element → List Piece → Option ℕ
-unread_in settings form page pieces = unread_from form settings.class.now page (at_start form pieces) 1 pieces
+unread_in settings form page pieces = unread_from form settings.class.now page (at_start form (left_alone_elements settings.class.now) pieces) 1 pieces
 
 -- The line, counted from 1, from which on a page is left alone; none where it is read to its end.
 abbrev pub unread_line : Settings → List ℕ → List ℕ → Option ℕ

@@ -137,7 +137,7 @@ fn push_pieces<'t>(
         ++ marked_pieces_by settings.now languages.now form around.entry pieces.now) }
 {
     let left_alone = left_alone_by(settings);
-    let mut reading = Reading::new(output.alloc, form, pieces);
+    let mut reading = Reading::new(output.alloc, form, &left_alone, pieces)?;
     let mut before = false;
     for i in 0..pieces.len() {
         let piece = piece_at(pieces, i);

@@ -38,7 +38,7 @@ fn unread_in<'t>(
     ensures { IfOk result (λ line. line ≡ unread_in settings.now form (as_element around.entry) (map as_piece pieces.now)) }
 {
     let left_alone = left_alone_by(settings);
-    let mut reading = Reading::new(alloc, form, pieces);
+    let mut reading = Reading::new(alloc, form, &left_alone, pieces)?;
     let mut line: u64 = 1;
     for piece in pieces {
         advance(&mut reading, alloc, form, &left_alone, around, *piece)?;

@@ -120,11 +120,11 @@ marked_piece_by settings languages parent before after piece =
 abbrev pub marked_pieces_by : Settings → List LanguageDictionary → PageForm → held.Element → List cut.Piece → List ℕ
 marked_pieces_by settings languages form page pieces =
     marked_pieces (languages_by settings languages) settings.mark.now form settings.class.now (as_element page)
-    (at_start form (map as_piece pieces)) false
+    (at_start form (left_alone_elements settings.class.now) (map as_piece pieces)) false
     (map as_piece pieces)
 
 -- A page with its marks.
 abbrev pub marked_page_by : Settings → List LanguageDictionary → List ℕ → List ℕ → List ℕ
 marked_page_by settings languages language page =
     marked_pieces (languages_by settings languages) settings.mark.now (form_of page) settings.class.now
-    (page_element language) (at_start (form_of page) (pieces_of (form_of page) page)) false (pieces_of (form_of page) page)
+    (page_element language) (at_start (form_of page) (left_alone_elements settings.class.now) (pieces_of (form_of page) page)) false (pieces_of (form_of page) page)

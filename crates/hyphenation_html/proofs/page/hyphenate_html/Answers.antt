@@ -7,6 +7,7 @@ use Rattle.html_pieces.specs.Readings.{at_start}
 use Rattle.std.proofs.lemmas.Result.{IfOk-weaker}
 use Rattle.hyphenation_segments.specs.Laws.{with_marks}
 use Rattle.hyphenation_html.specs.Languages.{languages_by}
+use Rattle.hyphenation_html.specs.LeftAlone.{left_alone_elements}
 use Rattle.hyphenation_html.proofs.MarkedTexts.{Laws}
 use Rattle.hyphenation_html.proofs.MarkedPages.{page_marked, page_without}
 use Rattle.hyphenation_html.proofs.KeptForms.{form_kept, languages_kept}
@@ -52,7 +53,7 @@ returns-clause-twice c = λ e.
     IfOk-weaker c.page_with_marks.result _ _
     (λ output is.
     let bytes = string_bytes output in
-    let by_soft = is ∙ ap (λ m. marked_pieces languages m (form_of page) settings.class.now (page_element language) (at_start (form_of page) pieces) false pieces) e in
+    let by_soft = is ∙ ap (λ m. marked_pieces languages m (form_of page) settings.class.now (page_element language) (at_start (form_of page) (left_alone_elements settings.class.now) pieces) false pieces) e in
     let done = page_done laws languages (form_of page) settings.class.now language page bytes c.all_fit.ensures utf8 (c.other_texts_are_cut_alike.ensures (form_of page) page) by_soft in
     let form = form_kept laws c.other_texts_leave_the_form.ensures languages settings.class.now language page bytes c.all_fit.ensures utf8 by_soft in (
       languages_kept laws languages settings.class.now language page bytes c.all_fit.ensures utf8 (c.other_texts_are_cut_alike.ensures (form_of page) page) form by_soft,
