@@ -1,23 +1,16 @@
 -- Lists of exceptions that are added to a dictionary, and the statuses of the call that adds them.
 use Rattle.std.specs.Prelude.{◌≡◌, zero, suc, ℕ, List, Option, None, Some}
 use Rattle.any_dictionary.specs.declared.AnyDictionary.{AnyDictionary}
-use Rattle.any_dictionary.specs.declared.AnyDictionary.TheVariants as of
-use Rattle.hyphenation_grammar.specs.Reading.{break_as_listing, place_as_listing}
-use Rattle.tex_files.specs.ExceptionLists.{exceptions_listed, list_fault, with_listings}
+use Rattle.tex_files.specs.ExceptionLists.{list_fault, with_exceptions}
 use Rattle.c_calls.specs.Contents.{Held, Dictionary}
 use Rattle.c_calls.specs.Patterns.{IsFaultAt}
 use Rattle.c_calls.specs.Statuses.{Loading}
-
--- A dictionary of either kind with the exceptions of a list.
-abbrev pub with_list : AnyDictionary → List ℕ → AnyDictionary
-with_list (of.Standard standard) text = of.Standard (with_listings standard (exceptions_listed place_as_listing text))
-with_list (of.Extended extended) text = of.Extended (with_listings extended (exceptions_listed break_as_listing text))
 
 -- 0: the text is a list, and the dictionary has its exceptions. 2: out of memory. 5: the text is refused at the line and for
 -- the cause that are written. No other status comes. From 1 on the dictionary is unchanged, and the line and the cause are
 -- written only with status 5.
 abbrev pub AddsTo : AnyDictionary → AnyDictionary → List ℕ → ℕ × ℕ → ℕ × ℕ → ℕ → Type 0
-AddsTo old new text before after zero = (list_fault text ≡ None) × (new ≡ with_list old text) × (after ≡ before)
+AddsTo old new text before after zero = (list_fault text ≡ None) × (new ≡ with_exceptions old text) × (after ≡ before)
 AddsTo old new text before after (suc (suc zero)) = (new ≡ old) × (after ≡ before)
 AddsTo old new text before after (suc (suc (suc (suc (suc zero))))) = IsFaultAt (list_fault text) after × (new ≡ old)
 AddsTo old new text before after _ = ⊥

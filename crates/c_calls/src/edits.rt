@@ -5,9 +5,9 @@ ghost use Rattle.std.specs.Arc.{arc_value};
 ghost use Rattle.any_dictionary.specs.Dictionaries.{edited, kind_by};
 ghost use Rattle.hyphenation_reader.specs.Edits.{is_good_edit};
 ghost use Rattle.pattern_results.specs.Errors.{IsFileError};
-ghost use Rattle.tex_files.specs.ExceptionLists.{list_fault};
+ghost use Rattle.tex_files.specs.ExceptionLists.{list_fault, with_exceptions};
 ghost use Rattle.c_calls.specs.Contents.{dictionary_of};
-ghost use Rattle.c_calls.specs.ExceptionLists.{AddsTo, with_list};
+ghost use Rattle.c_calls.specs.ExceptionLists.{AddsTo};
 ghost use Rattle.c_calls.specs.Statuses.{EditsDictionary};
 
 use crate::content::Loaded;
@@ -18,7 +18,7 @@ use hyphenation_load::{Error, Load};
 use pattern_results::errors::FileError;
 use std::alloc::{AllocError, Global};
 use std::sync::Arc;
-use tex_files::exception_list::add_exceptions;
+use tex_files::exception_list::add_exceptions_to_any;
 
 // A copy of a dictionary, by its text. The only error is that memory was refused.
 fn copy_of(dictionary: &AnyDictionary, alloc: Global) -> Result<AnyDictionary, AllocError>
@@ -69,26 +69,6 @@ pub fn edit(loaded: &mut Loaded, alloc: Global, edit: &[u8]) -> u32
     }
 }
 
-// A dictionary of either kind with the exceptions of a list.
-fn with_list(
-    alloc: Global,
-    dictionary: AnyDictionary,
-    text: &[u8],
-) -> Result<AnyDictionary, FileError>
-    ensures no_fault { OnOk result (list_fault text.now ≡ None) }
-    ensures listed { IfOk result (λ d. d ≡ with_list dictionary text.now) }
-    ensures refused { IfErr result (λ error. IsFileError error (list_fault text.now)) }
-{
-    match dictionary {
-        AnyDictionary::Standard(standard) => Ok(AnyDictionary::Standard(add_exceptions(
-            alloc, standard, text,
-        )?)),
-        AnyDictionary::Extended(extended) => Ok(AnyDictionary::Extended(add_exceptions(
-            alloc, extended, text,
-        )?)),
-    }
-}
-
 // A copy of a dictionary with the exceptions of a list.
 fn copy_with_list(
     dictionary: &AnyDictionary,
@@ -96,11 +76,11 @@ fn copy_with_list(
     text: &[u8],
 ) -> Result<Arc<AnyDictionary>, FileError>
     ensures no_fault { OnOk result (list_fault text.now ≡ None) }
-    ensures listed { IfOk result (λ copy. arc_value copy ≡ with_list dictionary.now text.now) }
+    ensures listed { IfOk result (λ copy. arc_value copy ≡ with_exceptions dictionary.now text.now) }
     ensures refused { IfErr result (λ error. IsFileError error (list_fault text.now)) }
 {
     let copy = copy_of(dictionary, alloc)?;
-    let copy = with_list(alloc, copy, text)?;
+    let copy = add_exceptions_to_any(alloc, copy, text)?;
     match Arc::new(alloc, copy) {
         Ok(own) => Ok(own),
         Err(_) => Err(FileError::Memory),

@@ -131,6 +131,7 @@ pub first_of_argument : (bytes_of : KnownFiles) (folders : List (List ℕ)) (arg
     → paths ≡ paths_for folders argument → IsRefusedFirst bytes_of paths failure → IsFirstFailureOf bytes_of folders argument failure
 first_of_argument bytes_of folders argument paths (failed.NoDictionary language) e h = tt
 first_of_argument bytes_of folders argument paths (failed.Dictionary path cause) e h = subst (λ all. IsRefusedFirst bytes_of all (failed.Dictionary path cause)) e h
+first_of_argument bytes_of folders argument paths (failed.Exceptions list refusal) e h = subst (λ all. IsRefusedFirst bytes_of all (failed.Exceptions list refusal)) e h
 first_of_argument bytes_of folders argument paths (failed.Refused input cause) e h = subst (λ all. IsRefusedFirst bytes_of all (failed.Refused input cause)) e h
 first_of_argument bytes_of folders argument paths (failed.Reading input) e h = subst (λ all. IsRefusedFirst bytes_of all (failed.Reading input)) e h
 first_of_argument bytes_of folders argument paths (failed.Writing output) e h = subst (λ all. IsRefusedFirst bytes_of all (failed.Writing output)) e h
@@ -143,6 +144,7 @@ pub first_of_missing : (bytes_of : KnownFiles) (folders : List (List ℕ)) (argu
 first_of_missing bytes_of folders argument (failed.NoDictionary language) h = tt
 first_of_missing bytes_of folders argument failed.Memory h = memory_first bytes_of (paths_for folders argument)
 first_of_missing bytes_of folders argument (failed.Dictionary path cause) h = absurd h
+first_of_missing bytes_of folders argument (failed.Exceptions list refusal) h = absurd h
 first_of_missing bytes_of folders argument (failed.Refused input cause) h = absurd h
 first_of_missing bytes_of folders argument (failed.Reading input) h = absurd h
 first_of_missing bytes_of folders argument (failed.Writing output) h = absurd h
@@ -166,6 +168,7 @@ pub refused_among : (bytes_of : KnownFiles) (folders : List (List ℕ)) (argumen
     → paths ≡ paths_for folders argument → IsRefusedAmong bytes_of paths failure → IsFailureOf bytes_of folders argument failure
 refused_among bytes_of folders argument paths (failed.NoDictionary language) e (path, there, none) = absurd none
 refused_among bytes_of folders argument paths (failed.Dictionary path cause) e h = subst (λ all. IsRefusedAmong bytes_of all (failed.Dictionary path cause)) e h
+refused_among bytes_of folders argument paths (failed.Exceptions list refusal) e h = subst (λ all. IsRefusedAmong bytes_of all (failed.Exceptions list refusal)) e h
 refused_among bytes_of folders argument paths (failed.Refused input cause) e h = subst (λ all. IsRefusedAmong bytes_of all (failed.Refused input cause)) e h
 refused_among bytes_of folders argument paths (failed.Reading input) e h = subst (λ all. IsRefusedAmong bytes_of all (failed.Reading input)) e h
 refused_among bytes_of folders argument paths (failed.Writing output) e h = subst (λ all. IsRefusedAmong bytes_of all (failed.Writing output)) e h

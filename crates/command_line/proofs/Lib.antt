@@ -3,3 +3,4 @@ pub mod OptionTexts
 pub mod OptionsRead
 pub mod Files
 pub mod Telling
+pub mod Adjusting

@@ -9,5 +9,6 @@ pub mod Failures
 pub mod Endings
 pub mod Steps
 pub mod Dictionaries
+pub mod Adjustments
 pub mod Inputs
 pub mod Statuses

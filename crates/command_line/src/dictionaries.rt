@@ -121,7 +121,7 @@ pub fn load_first<F: NamedFiles>(
 }
 
 // Reports whether an argument is a path.
-fn is_path(argument: &str) -> bool
+pub(crate) fn is_path(argument: &str) -> bool
     ensures { result ≡ is_path argument.now }
 {
     argument

@@ -4,6 +4,7 @@ ghost use Rattle.command_line.specs.Endings.{EndsBy, Fails, Tells};
 
 use crate::messages::Messages;
 use hyphenation_load::Error;
+use pattern_results::errors::FileCause;
 use std::alloc::{AllocError, Global};
 use std::fmt;
 use std::fmt::{Display, Formatter};
@@ -18,6 +19,15 @@ pub enum InputRefusal {
     LongParagraph,
 }
 
+/// Why a list of exceptions is refused.
+#[derive(Clone, Copy)]
+pub enum ListRefusal {
+    /// Its file can't be opened or read.
+    Unread,
+    /// The first line that is refused, from 1, and why.
+    OnLine { line: usize, cause: FileCause },
+}
+
 /// Why a program wrote nothing, or not all.
 #[derive(Drop)]
 pub enum Failure {
@@ -25,6 +35,8 @@ pub enum Failure {
     Dictionary { path: String, cause: Error },
     /// No folder has a dictionary of this language.
     NoDictionary { language: String },
+    /// The list of exceptions at this path is refused.
+    Exceptions { path: String, cause: ListRefusal },
     /// The input of this name is refused.
     Refused { input: String, cause: InputRefusal },
     /// The input of this name can't be read.
@@ -65,6 +77,21 @@ impl Display for InputRefusal {
     }
 }
 
+/// Writes the words for why a list of exceptions is refused, as `line 2: not UTF-8`.
+impl Display for ListRefusal {
+    ghost use Rattle.std.specs.Prelude.{Some};
+    ghost use Rattle.command_line.specs.Failures.{list_refusal_words};
+
+    ghost output = { λ refusal. Some (list_refusal_words refusal) };
+
+    fn fmt<W: fmt::Write>(&self, f: &mut Formatter<W>) -> fmt::Result {
+        match self {
+            ListRefusal::Unread => f.write_str("can't be read"),
+            ListRefusal::OnLine { line, cause } => write!(f, "line {line}: {cause}"),
+        }
+    }
+}
+
 /// Writes why a run failed, as `de.txt: line 1: not the head of this kind of dictionary`.
 impl Display for Failure {
     ghost use Rattle.command_line.specs.Failures.{failure_text};
@@ -80,6 +107,7 @@ impl Display for Failure {
                     "{language}: there is no dictionary of this language; hyphenate-languages makes those that it can"
                 )
             }
+            Failure::Exceptions { path, cause } => write!(f, "{path}: {cause}"),
             Failure::Refused { input, cause } => write!(f, "{input}: {cause}"),
             Failure::Reading { input } => write!(f, "{input}: can't be read"),
             Failure::Writing { output } => write!(f, "{output}: can't be written"),
@@ -95,7 +123,7 @@ impl Display for Failure {
 ///
 /// | Status | When |
 /// |---|---|
-/// | 3 | a dictionary can't be opened, read or accepted, or there is none |
+/// | 3 | a dictionary or a list of exceptions can't be opened, read or accepted, or there is no dictionary |
 /// | 4 | an input is refused |
 /// | 5 | an input can't be read, or a result can't be written |
 /// | 6 | memory was refused |
@@ -113,7 +141,7 @@ pub fn report<E: Write>(
 {
     errors.write(alloc, &format_args!("{name}: {failure}\n"));
     match failure {
-        Failure::Dictionary { .. } | Failure::NoDictionary { .. } => 3,
+        Failure::Dictionary { .. } | Failure::NoDictionary { .. } | Failure::Exceptions { .. } => 3,
         Failure::Refused { .. } => 4,
         Failure::Reading { .. } | Failure::Writing { .. } | Failure::Output => 5,
         Failure::Memory => 6,

@@ -7,6 +7,7 @@ ghost use Rattle.hyphenation_load.specs.Load.{AppendsTo};
 ghost use Rattle.command_line.specs.Endings.{Tells};
 
 mod about;
+pub mod adjustments;
 pub mod dictionaries;
 mod failure;
 pub mod folders;
@@ -17,7 +18,7 @@ pub mod programs;
 mod steps;
 
 pub use about::write_help_or_version;
-pub use failure::{Failure, InputRefusal, report};
+pub use failure::{Failure, InputRefusal, ListRefusal, report};
 use hyphenation_load::is_out_of_memory;
 pub use messages::{Messages, done};
 pub use named_files::{Listed, NamedFiles};

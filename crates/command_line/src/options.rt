@@ -1,6 +1,6 @@
 //! The arguments of a program, read by the options that its usage has.
 
-ghost use Rattle.std.specs.Prelude.{◌≡◌, ◌==◌, ◌++◌, IfErr, IfOk, MatchResult, Ok, Err, OnOk, map, option_copied, option_map, position};
+ghost use Rattle.std.specs.Prelude.{◌≡◌, ◌≤◌, ◌==◌, ◌++◌, IfErr, IfOk, IfSome, MatchResult, Ok, Err, OnOk, map, option_copied, option_map, position};
 ghost use Rattle.std.specs.Option.{option_to_list};
 ghost use Rattle.hyphenation_breaks.specs.Borrowed.{texts_now};
 ghost use Rattle.hyphenation_grammar.specs.Lines.{tokens_after};
@@ -472,8 +472,9 @@ impl<'w> Arguments<'w> {
         greatest: usize,
         otherwise: usize,
     ) -> Result<usize, BadArgument<'w>>
-        ensures { IsAsWanted result
+        ensures given { IsAsWanted result
             (number_given name.now least greatest otherwise (given_options self.now)) }
+        ensures at_most { otherwise ≤ greatest → IfOk result (λ number. number ≤ greatest) }
     {
         match self.last(name) {
             None => Ok(otherwise),
@@ -492,7 +493,8 @@ impl<'w> Arguments<'w> {
 /// Returns the number from `least` to `greatest`, both included, that a text spells: `0`, or digits without a leading
 /// zero. `None` for any other text.
 pub fn number_within(least: usize, greatest: usize, text: &str) -> Option<usize>
-    ensures { result ≡ number_within least greatest text.now }
+    ensures number { result ≡ number_within least greatest text.now }
+    ensures at_most { IfSome result (λ number. number ≤ greatest) }
 {
     let number = number_of(text.as_bytes())?;
     if least <= number && number <= greatest {

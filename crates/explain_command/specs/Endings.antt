@@ -3,7 +3,8 @@ use Rattle.std.specs.Prelude.{◌≡◌, ◌⊎◌, ℕ, Bool, true, false, List
 use Rattle.std.specs.Borrow.{Bor}
 use Rattle.any_dictionary.specs.declared.AnyDictionary.{AnyDictionary}
 use Rattle.command_line.specs.About.{help_or_version}
-use Rattle.command_line.specs.Dictionaries.{KnownFiles, IsOfArgument, IsFailureOf}
+use Rattle.command_line.specs.Adjustments.{IsAdjustedOf, IsFailureOfAdjusted}
+use Rattle.command_line.specs.Dictionaries.{KnownFiles}
 use Rattle.command_line.specs.Endings.{End, Done, Refuses, Fails, IsRefusal}
 use Rattle.command_line.specs.Inputs.{IsFailureOfInput}
 use Rattle.command_line.specs.Options.{RefusedArgument}
@@ -30,17 +31,17 @@ IsFailureOfWords bytes_of left (word ∷ words) failure = failure ≡ failed.Mem
 -- The words of arguments fail so, after the dictionary that they name was loaded.
 abbrev pub IsFailureAfterLoading : ParsedArgs → KnownFiles → List (Bor (List ℕ)) → Option (List ℕ) → Failure → Type 0
 IsFailureAfterLoading parsed bytes_of folders left failure = (dictionary : AnyDictionary)
-    × IsOfArgument bytes_of (texts_now folders) parsed.dictionary dictionary × IsFailureOfWords bytes_of left parsed.words failure
+    × IsAdjustedOf bytes_of (texts_now folders) parsed.dictionary parsed.adjustments dictionary × IsFailureOfWords bytes_of left parsed.words failure
 
 -- The output can't be written, though the text that arguments ask for was made.
 abbrev pub IsFailureOfOutput : ParsedArgs → KnownFiles → List (Bor (List ℕ)) → Option (List ℕ) → Failure → Type 0
 IsFailureOfOutput parsed bytes_of folders left failure =
     (failure ≡ failed.Output) × ((text : List ℕ) × IsResult parsed bytes_of folders left text)
 
--- The program fails so for arguments: the dictionary is refused or not found; or after that the words fail; or after that
+-- The program fails so for arguments: the dictionary or a list is refused or not found; or after that the words fail; or after that
 -- the output can't be written.
 abbrev pub IsFailureFor : ParsedArgs → KnownFiles → List (Bor (List ℕ)) → Option (List ℕ) → Failure → Type 0
-IsFailureFor parsed bytes_of folders left failure = IsFailureOf bytes_of (texts_now folders) parsed.dictionary failure
+IsFailureFor parsed bytes_of folders left failure = IsFailureOfAdjusted bytes_of (texts_now folders) parsed.dictionary parsed.adjustments failure
     ⊎ IsFailureAfterLoading parsed bytes_of folders left failure
     ⊎ IsFailureOfOutput parsed bytes_of folders left failure
 

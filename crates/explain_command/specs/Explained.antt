@@ -6,7 +6,8 @@ use Rattle.std.specs.Str.Iter.{split_whitespace_rest, split_whitespace_steps}
 use Rattle.std.specs.declared.str.SplitWhitespace.{SplitWhitespace}
 use Rattle.std.specs.List.{AllZip, join_with_byte}
 use Rattle.any_dictionary.specs.declared.AnyDictionary.{AnyDictionary}
-use Rattle.command_line.specs.Dictionaries.{KnownFiles, IsOfArgument}
+use Rattle.command_line.specs.Adjustments.{IsAdjustedOf}
+use Rattle.command_line.specs.Dictionaries.{KnownFiles}
 use Rattle.command_line.specs.Inputs.{IsTextOf}
 use Rattle.hyphenation_breaks.specs.Ascii.{line_feed}
 use Rattle.hyphenation_breaks.specs.Borrowed.{texts_now}
@@ -53,7 +54,7 @@ ExplainsGiven dictionary style bytes_of left (word ∷ words) text = AreExplaine
 -- A text is what arguments ask for: it explains their words, by the dictionary that they name.
 pub record IsResult (parsed : ParsedArgs) (bytes_of : KnownFiles) (folders : List (Bor (List ℕ))) (left : Option (List ℕ)) (text : List ℕ) : Type 0 where
   pub dictionary : AnyDictionary
-  pub named : IsOfArgument bytes_of (texts_now folders) parsed.dictionary dictionary
+  pub named : IsAdjustedOf bytes_of (texts_now folders) parsed.dictionary parsed.adjustments dictionary
   pub explained : ExplainsGiven dictionary parsed.style bytes_of left parsed.words text
 
 -- The text that arguments ask for was appended to an output.

@@ -27,18 +27,21 @@ pub const NAME: &str = "hyphenate-explain";
 
 /// The usage, for `--help`. The arguments are read by the options that it has.
 pub const USAGE: &str = "\
-usage: hyphenate-explain [--plain | --svg] DICTIONARY [WORD..]
-       hyphenate-explain [--plain | --svg] --lang CODE [WORD..]
+usage: hyphenate-explain [OPTION..] DICTIONARY [WORD..]
+       hyphenate-explain [OPTION..] --lang CODE [WORD..]
        hyphenate-explain -h | --help
        hyphenate-explain --version
 Shows why words break where they do: the patterns in each word, the values that
 they give, and the fact that decides.
-  DICTIONARY       a dictionary text, by its path, which has a / or a .; or the
-                   language of one that hyphenate-languages made
-  WORD             a word; the words of standard input without WORD
-  -l, --lang CODE  the language of the dictionary; then all operands are WORDs
-  --plain          lines for programs, in place of pictures
-  --svg            a drawing in SVG, in place of pictures
+  DICTIONARY         a dictionary text, by its path, which has a / or a .; or
+                     the language of one that hyphenate-languages made
+  WORD               a word; the words of standard input without WORD
+  -l, --lang CODE    the language of the dictionary; then all operands are WORDs
+  --exceptions FILE  words of your own, with hyphens where they may break
+  --left N           at least N characters before the first break of a word
+  --right N          at least N characters after its last break
+  --plain            lines for programs, in place of pictures
+  --svg              a drawing in SVG, in place of pictures
 ";
 
 /// The message if memory was refused.
@@ -94,7 +97,7 @@ impl<'w, F: NamedFiles, I: Read, O: Write> ProgramSteps<(), I, O> for Explain<'w
 /// |---|---|
 /// | 0 | it is done |
 /// | 2 | an argument is refused |
-/// | 3 | the dictionary can't be opened, read or accepted, or there is none of the language |
+/// | 3 | the dictionary or a list of exceptions can't be opened, read or accepted, or there is no dictionary |
 /// | 4 | standard input is not UTF-8 |
 /// | 5 | standard input can't be read, or the result can't be written |
 /// | 6 | memory was refused |

@@ -14,7 +14,7 @@ ghost use Rattle.hyphenation_breaks.specs.Borrowed.{texts_now};
 
 use crate::request::Request;
 use any_dictionary::AnyDictionary;
-use command_line::dictionaries::load_dictionary;
+use command_line::adjustments::load_adjusted;
 use command_line::inputs::read_text;
 use command_line::{Failure, NamedFiles};
 use explanations::{Drawing, Style, document, drawing, explanation};
@@ -156,7 +156,13 @@ pub fn run<F: NamedFiles, I: Read, O: Write>(
     ensures dictionary_first { IfErr result (BeforeReading (input.new ≡ input.old)) }
     ensures untouched { IfErr result (λ failure. (failure ≡ Failure.Output) ⊎ (output.new ≡ output.old)) }
 {
-    let dictionary = load_dictionary(files, alloc, folders, request.dictionary)?;
+    let dictionary = load_adjusted(
+        files,
+        alloc,
+        folders,
+        request.dictionary,
+        &request.adjustments,
+    )?;
     let text = explained_words(
         files,
         alloc,

@@ -30,6 +30,7 @@ given_is_refused bytes_of given i one failed.Memory lt at is = tt
 given_is_refused bytes_of given i one (failed.Dictionary named cause) lt at is = (one.path.now, has_path given i one lt at, is)
 given_is_refused bytes_of given i one failed.Output lt at is = absurd is
 given_is_refused bytes_of given i one (failed.NoDictionary language) lt at is = absurd is
+given_is_refused bytes_of given i one (failed.Exceptions list refusal) lt at is = absurd is
 given_is_refused bytes_of given i one (failed.Refused input cause) lt at is = absurd is
 given_is_refused bytes_of given i one (failed.Reading input) lt at is = absurd is
 given_is_refused bytes_of given i one (failed.Writing output) lt at is = absurd is
@@ -41,6 +42,7 @@ found_is_refused bytes_of folders code failed.Memory is among = tt
 found_is_refused bytes_of folders code (failed.Dictionary named cause) is among = (code, is, among)
 found_is_refused bytes_of folders code failed.Output is among = absurd among.2
 found_is_refused bytes_of folders code (failed.NoDictionary language) is among = absurd among.2
+found_is_refused bytes_of folders code (failed.Exceptions list refusal) is among = absurd among.2
 found_is_refused bytes_of folders code (failed.Refused input cause) is among = absurd among.2
 found_is_refused bytes_of folders code (failed.Reading input) is among = absurd among.2
 found_is_refused bytes_of folders code (failed.Writing output) is among = absurd among.2
@@ -60,6 +62,7 @@ of_given bytes_of options usual given (failed.Dictionary named cause) are among 
 )
 of_given bytes_of options usual given failed.Output are among = absurd among.2
 of_given bytes_of options usual given (failed.NoDictionary language) are among = absurd among.2
+of_given bytes_of options usual given (failed.Exceptions list refusal) are among = absurd among.2
 of_given bytes_of options usual given (failed.Refused input cause) are among = absurd among.2
 of_given bytes_of options usual given (failed.Reading input) are among = absurd among.2
 of_given bytes_of options usual given (failed.Writing output) are among = absurd among.2
@@ -81,6 +84,7 @@ of_found bytes_of options usual folders (failed.Dictionary named cause) are foun
 )
 of_found bytes_of options usual folders failed.Output are found = absurd found.2.2
 of_found bytes_of options usual folders (failed.NoDictionary language) are found = absurd found.2.2
+of_found bytes_of options usual folders (failed.Exceptions list refusal) are found = absurd found.2.2
 of_found bytes_of options usual folders (failed.Refused input cause) are found = absurd found.2.2
 of_found bytes_of options usual folders (failed.Reading input) are found = absurd found.2.2
 of_found bytes_of options usual folders (failed.Writing output) are found = absurd found.2.2

@@ -110,6 +110,7 @@ page_fails args bytes_of usual left (failed.Reading input) among = among
 page_fails args bytes_of usual left failed.Memory among = tt
 page_fails args bytes_of usual left (failed.Dictionary path cause) among = absurd (not_among bytes_of left args.inputs _ (λ same. absurd cc) (λ l n never. never) among)
 page_fails args bytes_of usual left (failed.NoDictionary language) among = absurd (not_among bytes_of left args.inputs _ (λ same. absurd cc) (λ l n never. never) among)
+page_fails args bytes_of usual left (failed.Exceptions list refusal) among = absurd (not_among bytes_of left args.inputs _ (λ same. absurd cc) (λ l n never. never) among)
 page_fails args bytes_of usual left (failed.Writing output) among = absurd (not_among bytes_of left args.inputs _ (λ same. absurd cc) (λ l n never. never) among)
 page_fails args bytes_of usual left failed.Output among = absurd (not_among bytes_of left args.inputs _ (λ same. absurd cc) (λ l n never. never) among)
 
@@ -119,6 +120,7 @@ pub dictionary_fails : (args : ParsedArgs) (bytes_of : KnownFiles) (usual : List
 dictionary_fails args bytes_of usual left pages (failed.Dictionary path cause) read is = ((pages, read), is)
 dictionary_fails args bytes_of usual left pages failed.Memory read is = tt
 dictionary_fails args bytes_of usual left pages (failed.NoDictionary language) read is = absurd is.2
+dictionary_fails args bytes_of usual left pages (failed.Exceptions list refusal) read is = absurd is.2
 dictionary_fails args bytes_of usual left pages (failed.Refused input cause) read is = absurd is.2
 dictionary_fails args bytes_of usual left pages (failed.Reading input) read is = absurd is.2
 dictionary_fails args bytes_of usual left pages (failed.Writing output) read is = absurd is.2

@@ -7,7 +7,8 @@ use Rattle.std.proofs.lemmas.List.{append-nil, take_all}
 use Rattle.hyphenation_breaks.specs.Borrowed.{texts_now}
 use Rattle.any_dictionary.specs.declared.AnyDictionary.{AnyDictionary}
 use Rattle.named_files.specs.Files.{known_bytes}
-use Rattle.command_line.specs.Dictionaries.{KnownFiles, IsOfArgument, IsFailureOf}
+use Rattle.command_line.specs.Adjustments.{IsAdjustedOf, IsFailureOfAdjusted}
+use Rattle.command_line.specs.Dictionaries.{KnownFiles}
 use Rattle.command_line.specs.Failures.{status_of}
 use Rattle.command_line.specs.Inputs.{is_standard_input, IsTextOf, AreTextsOf}
 use Rattle.command_line.specs.declared.failure.Failure.{Failure}
@@ -37,6 +38,7 @@ failure_unknown options dictionary bytes_of left name (failed.Reading input) fai
 failure_unknown options dictionary bytes_of left name failed.Memory fails = tt
 failure_unknown options dictionary bytes_of left name (failed.Dictionary path cause) fails = absurd fails
 failure_unknown options dictionary bytes_of left name (failed.NoDictionary language) fails = absurd fails
+failure_unknown options dictionary bytes_of left name (failed.Exceptions list refusal) fails = absurd fails
 failure_unknown options dictionary bytes_of left name (failed.Writing output) fails = absurd fails
 failure_unknown options dictionary bytes_of left name failed.Output fails = absurd fails
 
@@ -150,21 +152,23 @@ first_fails options dictionary bytes_of first all left name names rest page fail
 
 -- A failure of an input is one of the program.
 pub input_fails : (parsed : ParsedArgs) (dictionary : AnyDictionary) (bytes_of : KnownFiles) (folders : List (List ℕ)) (left : Option (List ℕ)) (failure : Failure)
-    → IsOfArgument bytes_of folders parsed.dictionary dictionary → IsFailureAmong parsed.options dictionary bytes_of left parsed.inputs failure
+    → IsAdjustedOf bytes_of folders parsed.dictionary parsed.adjustments dictionary → IsFailureAmong parsed.options dictionary bytes_of left parsed.inputs failure
     → IsFailureFor parsed bytes_of folders left failure
 input_fails parsed dictionary bytes_of folders left (failed.Refused input cause) named among = (dictionary, named, among)
 input_fails parsed dictionary bytes_of folders left (failed.Reading input) named among = (dictionary, named, among)
 input_fails parsed dictionary bytes_of folders left failed.Memory named among = tt
 input_fails parsed dictionary bytes_of folders left (failed.Dictionary path cause) named among = absurd (not_among parsed.options dictionary bytes_of left parsed.inputs _ (λ l n never. never) among)
 input_fails parsed dictionary bytes_of folders left (failed.NoDictionary language) named among = absurd (not_among parsed.options dictionary bytes_of left parsed.inputs _ (λ l n never. never) among)
+input_fails parsed dictionary bytes_of folders left (failed.Exceptions list refusal) named among = absurd (not_among parsed.options dictionary bytes_of left parsed.inputs _ (λ l n never. never) among)
 input_fails parsed dictionary bytes_of folders left (failed.Writing output) named among = absurd (not_among parsed.options dictionary bytes_of left parsed.inputs _ (λ l n never. never) among)
 input_fails parsed dictionary bytes_of folders left failed.Output named among = absurd (not_among parsed.options dictionary bytes_of left parsed.inputs _ (λ l n never. never) among)
 
 -- So is one of the dictionary.
 pub dictionary_fails : (parsed : ParsedArgs) (bytes_of : KnownFiles) (folders : List (List ℕ)) (left : Option (List ℕ)) (failure : Failure)
-    → IsFailureOf bytes_of folders parsed.dictionary failure → IsFailureFor parsed bytes_of folders left failure
+    → IsFailureOfAdjusted bytes_of folders parsed.dictionary parsed.adjustments failure → IsFailureFor parsed bytes_of folders left failure
 dictionary_fails parsed bytes_of folders left (failed.Dictionary path cause) fails = fails
 dictionary_fails parsed bytes_of folders left (failed.NoDictionary language) fails = fails
+dictionary_fails parsed bytes_of folders left (failed.Exceptions list refusal) fails = fails
 dictionary_fails parsed bytes_of folders left failed.Memory fails = tt
 dictionary_fails parsed bytes_of folders left (failed.Refused input cause) fails = absurd fails.2
 dictionary_fails parsed bytes_of folders left (failed.Reading input) fails = absurd fails.2
@@ -176,6 +180,7 @@ pub after_dictionary : (P : Type 0) (options : ParsedOptions) (dictionary : AnyD
     → IsFailureAmong options dictionary bytes_of left names failure → BeforeReading P failure
 after_dictionary P options dictionary bytes_of left names (failed.Dictionary path cause) among = absurd (not_among options dictionary bytes_of left names _ (λ l n never. never) among)
 after_dictionary P options dictionary bytes_of left names (failed.NoDictionary language) among = absurd (not_among options dictionary bytes_of left names _ (λ l n never. never) among)
+after_dictionary P options dictionary bytes_of left names (failed.Exceptions list refusal) among = absurd (not_among options dictionary bytes_of left names _ (λ l n never. never) among)
 after_dictionary P options dictionary bytes_of left names (failed.Refused input cause) among = tt
 after_dictionary P options dictionary bytes_of left names (failed.Reading input) among = tt
 after_dictionary P options dictionary bytes_of left names (failed.Writing output) among = tt
@@ -185,6 +190,7 @@ after_dictionary P options dictionary bytes_of left names failed.Memory among = 
 pub before_reading : (P : Type 0) (failure : Failure) → P → BeforeReading P failure
 before_reading P (failed.Dictionary path cause) p = p
 before_reading P (failed.NoDictionary language) p = p
+before_reading P (failed.Exceptions list refusal) p = p
 before_reading P (failed.Refused input cause) p = tt
 before_reading P (failed.Reading input) p = tt
 before_reading P (failed.Writing output) p = tt
@@ -193,7 +199,7 @@ before_reading P failed.Memory p = tt
 
 -- The failure of a run over its inputs, and what it leaves.
 pub run_fails : {X : Type 0} (parsed : ParsedArgs) (dictionary : AnyDictionary) (bytes_of : KnownFiles) (folders : List (List ℕ)) (left : Option (List ℕ))
-    (failure returned : Failure) (result : Result X Failure) → IsOfArgument bytes_of folders parsed.dictionary dictionary
+    (failure returned : Failure) (result : Result X Failure) → IsAdjustedOf bytes_of folders parsed.dictionary parsed.adjustments dictionary
     → IsFailureAmong parsed.options dictionary bytes_of left parsed.inputs failure → result ≡ Err returned → returned ≡ failure
     → IfErr result (IsFailureFor parsed bytes_of folders left)
 run_fails parsed dictionary bytes_of folders left failure returned result named among is same =
@@ -211,6 +217,7 @@ run_reads_after P parsed dictionary bytes_of left failure returned result among 
 pub by_status : (P : Type 0) (failure : Failure) → BeforeReading P failure → status_of failure ≡ 3 → P
 by_status P (failed.Dictionary path cause) before three = before
 by_status P (failed.NoDictionary language) before three = before
+by_status P (failed.Exceptions list refusal) before three = before
 by_status P (failed.Refused input cause) before three = absurd cc
 by_status P (failed.Reading input) before three = absurd cc
 by_status P (failed.Writing output) before three = absurd cc

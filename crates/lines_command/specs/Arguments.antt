@@ -3,6 +3,7 @@ use Rattle.std.specs.Prelude.{ℕ, ◌==◌, ◌&&◌, not, Bool, if◌then◌el
 use Rattle.std.specs.Prelude.{codes, Option, Some, None, Result, Ok, Err, unwrap_or}
 use Rattle.std.specs.Borrow.{Bor}
 use Rattle.hyphenation_breaks.specs.Borrowed.{texts_now}
+use Rattle.command_line.specs.Adjustments.{Adjustments, adjustments_of}
 use Rattle.command_line.specs.Options.{GivenOption, ReadArguments, RefusedArgument, refused, after_step, read_arguments}
 use Rattle.command_line.specs.Options.{is_given, last_value, named_dictionary, number_given}
 use Rattle.command_line.specs.Usage.{options_in}
@@ -26,9 +27,10 @@ pub record ParsedOptions : Type 0 where
   pub first : Option (List ℕ)
   pub indent : List ℕ
 
--- Arguments: the options, the path or the language of a dictionary, and the names of the inputs.
+-- Arguments: the options, the adjustments and the path or the language of a dictionary, and the names of the inputs.
 pub record ParsedArgs : Type 0 where
   pub options : ParsedOptions
+  pub adjustments : Adjustments
   pub dictionary : List ℕ
   pub inputs : List (List ℕ)
 
@@ -65,14 +67,25 @@ options_of given =
     (number_given (codes "--last") 0 65535 0 given))
     (number_given (codes "--width") 0 65535 72 given)
 
--- The arguments of options, and of a dictionary and the names of inputs beside it, unless these are refused.
-abbrev pub args_of : ParsedOptions → Result (List ℕ × List (List ℕ)) RefusedArgument → Result ParsedArgs RefusedArgument
-args_of options named =
-    after_step (λ found. Ok (record { options = options; dictionary = found.0; inputs = inputs_of found.1 })) named
+-- The arguments of options and adjustments, and of a dictionary and the names of inputs beside it, unless these are refused.
+abbrev pub args_of : ParsedOptions → Adjustments → Result (List ℕ × List (List ℕ)) RefusedArgument
+    → Result ParsedArgs RefusedArgument
+args_of options adjustments named =
+    after_step (λ found. Ok (record {
+      options = options;
+      adjustments = adjustments;
+      dictionary = found.0;
+      inputs = inputs_of found.1;
+    })) named
+
+-- The arguments of options, and of what else is read, unless that is refused.
+abbrev pub args_with : ParsedOptions → ReadArguments → Result ParsedArgs RefusedArgument
+args_with options read =
+    after_step (λ adjustments. args_of options adjustments (named_dictionary read)) (adjustments_of read.given)
 
 -- Arguments that are read.
 abbrev pub args_as_read : ReadArguments → Result ParsedArgs RefusedArgument
-args_as_read read = after_step (λ options. args_of options (named_dictionary read)) (options_of read.given)
+args_as_read read = after_step (λ options. args_with options read) (options_of read.given)
 
 -- All arguments as they are parsed, or the first that is refused.
 abbrev pub parsed_args : List (Bor (List ℕ)) → Result ParsedArgs RefusedArgument

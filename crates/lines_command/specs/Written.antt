@@ -11,7 +11,8 @@ use Rattle.hyphenation_load.specs.Load.{AppendsTo}
 use Rattle.any_dictionary.specs.Dictionaries.{breaks_by, kind_by}
 use Rattle.any_dictionary.specs.declared.AnyDictionary.{AnyDictionary}
 use Rattle.command_line.specs.About.{help_or_version}
-use Rattle.command_line.specs.Dictionaries.{KnownFiles, IsOfArgument, IsFailureOf}
+use Rattle.command_line.specs.Adjustments.{IsAdjustedOf, IsFailureOfAdjusted}
+use Rattle.command_line.specs.Dictionaries.{KnownFiles}
 use Rattle.command_line.specs.Endings.{End, Done, Refuses, Fails, IsRefusal}
 use Rattle.command_line.specs.Inputs.{is_standard_input, shown_name, IsTextOf, AreTextsOf, IsFailureOfInput}
 use Rattle.command_line.specs.Options.{RefusedArgument}
@@ -71,7 +72,7 @@ pub record HasPages (options : ParsedOptions) (dictionary : AnyDictionary) (byte
 pub record IsResult (parsed : ParsedArgs) (bytes_of : KnownFiles) (folders : List (List ℕ)) (left : Option (List ℕ))
     (output : List ℕ) : Type 0 where
   pub dictionary : AnyDictionary
-  pub named : IsOfArgument bytes_of folders parsed.dictionary dictionary
+  pub named : IsAdjustedOf bytes_of folders parsed.dictionary parsed.adjustments dictionary
   pub plain : PlainIfStandard (kind_by dictionary) (breaks_by dictionary)
   pub pages : HasPages parsed.options dictionary bytes_of left parsed.inputs output
 
@@ -105,16 +106,18 @@ IsFailureAmong options dictionary bytes_of left (name ∷ names) failure =
 -- One of the inputs that arguments name fails so, with the dictionary that they name.
 abbrev pub IsFailureOfInputs : ParsedArgs → KnownFiles → List (List ℕ) → Option (List ℕ) → Failure → Type 0
 IsFailureOfInputs parsed bytes_of folders left failure = (dictionary : AnyDictionary)
-    × IsOfArgument bytes_of folders parsed.dictionary dictionary
+    × IsAdjustedOf bytes_of folders parsed.dictionary parsed.adjustments dictionary
     × IsFailureAmong parsed.options dictionary bytes_of left parsed.inputs failure
 
--- The program fails so for arguments: the dictionary is refused or not found, an input fails, the output can't be
+-- The program fails so for arguments: the dictionary or a list is refused or not found, an input fails, the output can't be
 -- written, or memory was refused.
 abbrev pub IsFailureFor : ParsedArgs → KnownFiles → List (List ℕ) → Option (List ℕ) → Failure → Type 0
 IsFailureFor parsed bytes_of folders left (failed.Dictionary path cause) =
-    IsFailureOf bytes_of folders parsed.dictionary (failed.Dictionary path cause)
+    IsFailureOfAdjusted bytes_of folders parsed.dictionary parsed.adjustments (failed.Dictionary path cause)
 IsFailureFor parsed bytes_of folders left (failed.NoDictionary language) =
-    IsFailureOf bytes_of folders parsed.dictionary (failed.NoDictionary language)
+    IsFailureOfAdjusted bytes_of folders parsed.dictionary parsed.adjustments (failed.NoDictionary language)
+IsFailureFor parsed bytes_of folders left (failed.Exceptions list refusal) =
+    IsFailureOfAdjusted bytes_of folders parsed.dictionary parsed.adjustments (failed.Exceptions list refusal)
 IsFailureFor parsed bytes_of folders left (failed.Writing output) = ⊥
 IsFailureFor parsed bytes_of folders left failed.Output = (page : List ℕ) × IsResult parsed bytes_of folders left page
 IsFailureFor parsed bytes_of folders left failed.Memory = ⊤

@@ -33,18 +33,21 @@ usage: hyphenate-lines [OPTION..] DICTIONARY [FILE..]
        hyphenate-lines --version
 Writes texts in lines, with words broken where a dictionary says. Quotes,
 items and heads of mails keep their form.
-  DICTIONARY       a dictionary text, by its path, which has a / or a .; or the
-                   language of one that hyphenate-languages made
-  FILE             a text; standard input for -, or without FILE
-  -l, --lang CODE  the language of the dictionary; then all operands are FILEs
-  --width N        the columns of a line, 72 without it
-  --even           lines of the least cost, in place of lines as full as can be
-  --price P        with --even, the cost of a hyphen
-  --last N         with --even, the columns that a last line must have
-  --ladder N       only with --even: the hyphens in a row, 1 to 255
-  --indent TEXT    before each line of a paragraph
-  --first TEXT     before its first line, in place of that of the others
-  --plain          texts are paragraphs alone, with an empty line between two
+  DICTIONARY         a dictionary text, by its path, which has a / or a .; or
+                     the language of one that hyphenate-languages made
+  FILE               a text; standard input for -, or without FILE
+  -l, --lang CODE    the language of the dictionary; then all operands are FILEs
+  --exceptions FILE  words of your own, with hyphens where they may break
+  --left N           at least N characters before the first break of a word
+  --right N          at least N characters after its last break
+  --width N          the columns of a line, 72 without it
+  --even             lines of the least cost, and not as full as can be
+  --price P          with --even, the cost of a hyphen
+  --last N           with --even, the columns that a last line must have
+  --ladder N         only with --even: the hyphens in a row, 1 to 255
+  --indent TEXT      before each line of a paragraph
+  --first TEXT       before its first line, in place of that of the others
+  --plain            texts are paragraphs alone, with an empty line between two
 ";
 
 /// The message if memory was refused.
@@ -102,7 +105,7 @@ impl<'w, F: NamedFiles, I: Read, O: Write> ProgramSteps<(), I, O> for Lines<'w, 
 /// |---|---|
 /// | 0 | it is done |
 /// | 2 | an argument is refused |
-/// | 3 | the dictionary can't be opened, read or accepted, or there is none of the language |
+/// | 3 | the dictionary or a list of exceptions can't be opened, read or accepted, or there is no dictionary |
 /// | 4 | an input is not UTF-8, or a paragraph of it is too long |
 /// | 5 | an input can't be read, or the result can't be written |
 /// | 6 | memory was refused |

@@ -2,14 +2,15 @@
 
 ghost use Rattle.std.specs.Prelude.{◌≡◌, [], codes, IfErr, IfOk, Ok, option_copied, option_map, unwrap_or};
 ghost use Rattle.hyphenation_breaks.specs.Borrowed.{texts_now};
-ghost use Rattle.command_line.specs.Options.{last_value, named_dictionary, number_given};
+ghost use Rattle.command_line.specs.Options.{last_value, number_given};
 ghost use Rattle.command_line.specs.Reading.{as_read, given_options, IsAsWanted, IsReadError};
-ghost use Rattle.lines_command.specs.Arguments.{limit_of, if_limit_serves, options_of, args_of, args_as_read};
+ghost use Rattle.lines_command.specs.Arguments.{limit_of, if_limit_serves, options_of, args_with, args_as_read};
 ghost use Rattle.lines_command.specs.Arguments.{style_for, aim_for, parsed_args};
-ghost use Rattle.lines_command.specs.Private.Requests.{parsed_options, parsed_request, AreAsWanted};
+ghost use Rattle.lines_command.specs.Private.Requests.{args_named, parsed_options, parsed_request, AreAsWanted};
 ghost use Rattle.paragraphs.specs.Styles.{style_of};
 
 use crate::USAGE;
+use command_line::adjustments::Adjustments;
 use command_line::options::{Arguments, BadArgument, Expected, ReadError, read};
 use paragraphs::{Aim, Style};
 use std::alloc::Global;
@@ -41,6 +42,8 @@ pub struct Options<'w> {
 pub struct Request<'w> {
     /// The options.
     pub options: Options<'w>,
+    /// The adjustments of the dictionary.
+    pub adjustments: Adjustments<'w>,
     /// The path or the language of the dictionary.
     pub dictionary: &'w str,
     /// The names of the inputs.
@@ -167,23 +170,40 @@ impl<'w> Options<'w> {
     }
 }
 
-// Returns the request of options, and of the dictionary and the inputs that arguments name.
+// Returns the request of options and adjustments, and of the dictionary and the inputs that arguments name.
 fn with_inputs<'w>(
     alloc: Global,
     options: Options<'w>,
+    adjustments: Adjustments<'w>,
     arguments: &Arguments<'w>,
 ) -> Result<Request<'w>, ReadError<'w>>
-    ensures parsed { IfOk result (λ request. args_of (parsed_options options.entry) (named_dictionary (as_read arguments.now))
-        ≡ Ok (parsed_request request)) }
-    ensures refused { IfErr result (IsReadError
-        (args_of (parsed_options options.entry) (named_dictionary (as_read arguments.now)))) }
+    ensures parsed { IfOk result (λ request.
+        args_named options.entry adjustments.entry arguments.now ≡ Ok (parsed_request request)) }
+    ensures refused { IfErr result (IsReadError (args_named options.entry adjustments.entry arguments.now)) }
 {
     match arguments.dictionary_and_rest() {
         Ok((dictionary, names)) => Ok(Request {
             options,
+            adjustments,
             dictionary,
             inputs: inputs_of(alloc, names)?,
         }),
+        Err(bad) => Err(ReadError::Bad(bad)),
+    }
+}
+
+// Returns the request of options, and of the adjustments, the dictionary and the inputs that arguments name.
+fn with_options<'w>(
+    alloc: Global,
+    options: Options<'w>,
+    arguments: &Arguments<'w>,
+) -> Result<Request<'w>, ReadError<'w>>
+    ensures parsed { IfOk result (λ request. args_with (parsed_options options.entry) (as_read arguments.now)
+        ≡ Ok (parsed_request request)) }
+    ensures refused { IfErr result (IsReadError (args_with (parsed_options options.entry) (as_read arguments.now))) }
+{
+    match Adjustments::from_arguments(arguments) {
+        Ok(adjustments) => with_inputs(alloc, options, adjustments, arguments),
         Err(bad) => Err(ReadError::Bad(bad)),
     }
 }
@@ -194,7 +214,7 @@ fn of_arguments<'w>(alloc: Global, arguments: &Arguments<'w>) -> Result<Request<
     ensures refused { IfErr result (IsReadError (args_as_read (as_read arguments.now))) }
 {
     match Options::from_arguments(arguments) {
-        Ok(options) => with_inputs(alloc, options, arguments),
+        Ok(options) => with_options(alloc, options, arguments),
         Err(bad) => Err(ReadError::Bad(bad)),
     }
 }

@@ -16,7 +16,7 @@ ghost use Rattle.paragraphs.specs.Paragraphs.{ended};
 
 use crate::request::{Options, Request};
 use any_dictionary::AnyDictionary;
-use command_line::dictionaries::load_dictionary;
+use command_line::adjustments::load_adjusted;
 use command_line::inputs::{read_text, shown_name};
 use command_line::{Failure, InputRefusal, NamedFiles};
 use hyphenation_hyphenator::hyphenator::Hyphenator;
@@ -184,7 +184,13 @@ pub fn run<F: NamedFiles, I: Read, O: Write>(
     ensures dictionary_first { IfErr result (BeforeReading (input.new ≡ input.old)) }
     ensures untouched { IfErr result (λ failure. (failure ≡ Failure.Output) ⊎ (output.new ≡ output.old)) }
 {
-    let dictionary = load_dictionary(files, alloc, folders, request.dictionary)?;
+    let dictionary = load_adjusted(
+        files,
+        alloc,
+        folders,
+        request.dictionary,
+        &request.adjustments,
+    )?;
     standard_breaks_are_plain(&dictionary);
     let page = page_of(
         files,

@@ -9,6 +9,9 @@ use Rattle.hyphenation_breaks.specs.Ascii.{hash, percent}
 use Rattle.hyphenation_breaks.specs.Break.{Break}
 use Rattle.hyphenation_breaks.specs.Dictionary.{Contents}
 use Rattle.hyphenation_grammar.specs.Lines.{is_same}
+use Rattle.hyphenation_grammar.specs.Reading.{break_as_listing, place_as_listing}
+use Rattle.any_dictionary.specs.declared.AnyDictionary.{AnyDictionary}
+use Rattle.any_dictionary.specs.declared.AnyDictionary.TheVariants as of
 use Rattle.pattern_results.specs.declared.errors.FileCause.{FileCause}
 use Rattle.pattern_results.specs.declared.errors.FileCause.TheVariants.{Command, Symbol, Unclosed}
 use Rattle.tex_files.specs.Groups.{FilePiece, pieces_of}
@@ -111,6 +114,13 @@ with_listing contents listing =
 -- A dictionary in which words are listed with their breaks, one after the other.
 abbrev pub with_listings : {C B : Type 0} → Contents C B → List (List ℕ × List B) → Contents C B
 with_listings contents listings = fold with_listing contents listings
+
+-- A dictionary of either kind with the exceptions of a list.
+abbrev pub with_exceptions : AnyDictionary → List ℕ → AnyDictionary
+with_exceptions (of.Standard standard) text =
+    of.Standard (with_listings standard (exceptions_listed place_as_listing text))
+with_exceptions (of.Extended extended) text =
+    of.Extended (with_listings extended (exceptions_listed break_as_listing text))
 
 -- The breaks of the last listing of a word; none if it is not listed.
 abbrev pub last_listing : {B : Type 0} → List ℕ → List (List ℕ × List B) → Option (List B)

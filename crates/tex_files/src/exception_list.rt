@@ -15,7 +15,7 @@ ghost use Rattle.pattern_results.specs.Errors.{IsFileError};
 ghost use Rattle.tex_files.specs.ExceptionLists.{as_comment, exceptions_listed, fault_at_end, first_unfit, list_fault};
 ghost use Rattle.tex_files.specs.ExceptionLists.{LastLineCounts, list_scan, listing_in, listings_of, nothing_listed};
 ghost use Rattle.tex_files.specs.ExceptionLists.{second_cause, with_list_piece, with_listed, with_listing, with_listings};
-ghost use Rattle.tex_files.specs.ExceptionLists.{with_piece_at, with_refused};
+ghost use Rattle.tex_files.specs.ExceptionLists.{with_exceptions, with_piece_at, with_refused};
 ghost use Rattle.tex_files.specs.Private.Views.{IsWordError, list_view, piece_view};
 ghost use Rattle.tex_files.specs.Spelling.{word_cause};
 ghost use Rattle.tex_files.specs.declared.group.Group.TheVariants.{Exceptions};
@@ -23,6 +23,7 @@ ghost use Rattle.tex_files.specs.declared.group.Group.TheVariants.{Exceptions};
 use crate::spelling::{has_command, read_exception};
 use crate::tex::{FilePiece, is_text, pieces_of};
 use crate::word_error::WordError;
+use any_dictionary::AnyDictionary;
 use hyphenation_breaks::entry::{Listing, Payload};
 use hyphenation_dictionary::dictionary::Dictionary;
 use pattern_results::errors::{FileCause, FileError};
@@ -248,6 +249,33 @@ pub fn add_exceptions<C: Payload, B: Listing>(
     match fault.or(fault_at_end(place)) {
         Some((line, cause)) => Err(FileError::OnLine(line, cause)),
         None => Ok(dictionary),
+    }
+}
+
+/// Returns a dictionary of either kind with the exceptions of a list, as [`add_exceptions`] does for one of a known kind.
+///
+/// The errors are those of [`add_exceptions`].
+///
+/// ```text
+/// let dictionary = add_exceptions_to_any(alloc, dictionary, b"Stau-becken\nUrinstinkt\n")?;
+/// dictionary.hyphenated(alloc, "Staubecken", "-")?      // Stau-becken
+/// ```
+pub fn add_exceptions_to_any(
+    alloc: Global,
+    dictionary: AnyDictionary,
+    text: &[u8],
+) -> Result<AnyDictionary, FileError>
+    ensures no_fault { OnOk result (list_fault text.now ≡ None) }
+    ensures listed { IfOk result (λ d. d ≡ with_exceptions dictionary text.now) }
+    ensures first_fault { IfErr result (λ error. IsFileError error (list_fault text.now)) }
+{
+    match dictionary {
+        AnyDictionary::Standard(standard) => Ok(AnyDictionary::Standard(add_exceptions(
+            alloc, standard, text,
+        )?)),
+        AnyDictionary::Extended(extended) => Ok(AnyDictionary::Extended(add_exceptions(
+            alloc, extended, text,
+        )?)),
     }
 }
 

@@ -2,6 +2,7 @@
 use Rattle.std.specs.Prelude.{ℕ, Bool, List, codes, Option, Some, None, Result, Ok, unwrap_or}
 use Rattle.std.specs.Borrow.{Bor}
 use Rattle.hyphenation_breaks.specs.Borrowed.{texts_now}
+use Rattle.command_line.specs.Adjustments.{Adjustments, adjustments_of}
 use Rattle.command_line.specs.Options.{GivenOption, ReadArguments, RefusedArgument, after_step, read_arguments, is_given, last_value, named_dictionary, number_given}
 use Rattle.command_line.specs.Usage.{options_in}
 use Rattle.text_results.specs.Removals.{ParsedRemoval, removal_of}
@@ -19,9 +20,11 @@ pub record ParsedOptions : Type 0 where
   pub markdown : Bool
   pub target : Target
 
--- The arguments of marks: the options, the path or the language of a dictionary, and the names of the texts.
+-- The arguments of marks: the options, the adjustments and the path or the language of a dictionary, and the names of the
+-- texts.
 pub record ParsedArgs : Type 0 where
   pub options : ParsedOptions
+  pub adjustments : Adjustments
   pub dictionary : List ℕ
   pub inputs : List (List ℕ)
 
@@ -39,19 +42,30 @@ options_of given =
     (target_of given))
     (number_given (codes "--min-word") 0 65535 0 given)
 
--- The arguments of options, a dictionary and the names of texts.
-abbrev pub args_with : ParsedOptions → List ℕ → List (List ℕ) → Result ParsedArgs RefusedArgument
-args_with options dictionary names =
-    after_step (λ inputs. Ok (record { options = options; dictionary = dictionary; inputs = inputs }))
+-- The arguments of options, adjustments, a dictionary and the names of texts.
+abbrev pub args_with : ParsedOptions → Adjustments → List ℕ → List (List ℕ) → Result ParsedArgs RefusedArgument
+args_with options adjustments dictionary names =
+    after_step (λ inputs. Ok (record {
+      options = options;
+      adjustments = adjustments;
+      dictionary = dictionary;
+      inputs = inputs;
+    }))
     (names_for options.target names)
 
--- The arguments of options, and of a dictionary and the names of texts beside it, unless these are refused.
-abbrev pub args_of : ParsedOptions → Result (List ℕ × List (List ℕ)) RefusedArgument → Result ParsedArgs RefusedArgument
-args_of options named = after_step (λ found. args_with options found.0 found.1) named
+-- The arguments of options and adjustments, and of a dictionary and the names of texts beside it, unless these are refused.
+abbrev pub args_of : ParsedOptions → Adjustments → Result (List ℕ × List (List ℕ)) RefusedArgument
+    → Result ParsedArgs RefusedArgument
+args_of options adjustments named = after_step (λ found. args_with options adjustments found.0 found.1) named
+
+-- The arguments of options, and of what else is read, unless that is refused.
+abbrev pub args_by : ParsedOptions → ReadArguments → Result ParsedArgs RefusedArgument
+args_by options read =
+    after_step (λ adjustments. args_of options adjustments (named_dictionary read)) (adjustments_of read.given)
 
 -- Arguments that are read.
 abbrev pub args_as_read : ReadArguments → Result ParsedArgs RefusedArgument
-args_as_read read = after_step (λ options. args_of options (named_dictionary read)) (options_of read.given)
+args_as_read read = after_step (λ options. args_by options read) (options_of read.given)
 
 -- The task of arguments: marks are put in, or soft hyphens are taken out.
 pub data Task : Type 0 where

@@ -5,7 +5,8 @@ use Rattle.std.specs.List.{ends_with, list_any}
 use Rattle.any_dictionary.specs.Dictionaries.{places_by}
 use Rattle.any_dictionary.specs.declared.AnyDictionary.{AnyDictionary}
 use Rattle.command_line.specs.About.{help_or_version}
-use Rattle.command_line.specs.Dictionaries.{KnownFiles, IsOfArgument, IsFailureOf}
+use Rattle.command_line.specs.Adjustments.{IsAdjustedOf, IsFailureOfAdjusted}
+use Rattle.command_line.specs.Dictionaries.{KnownFiles}
 use Rattle.command_line.specs.Endings.{End}
 use Rattle.command_line.specs.Inputs.{is_standard_input, AreTextsOf}
 use Rattle.command_line.specs.Options.{RefusedArgument}
@@ -58,24 +59,27 @@ results_of options dictionary _ _ = []
 -- Results of arguments: those of the texts that they name, in their order, by the dictionary that they name.
 pub record AreResults (args : ParsedArgs) (bytes_of : KnownFiles) (folders : List (List ℕ)) (left : Option (List ℕ)) (results : List (List ℕ)) : Type 0 where
   pub dictionary : AnyDictionary
-  pub named : IsOfArgument bytes_of folders args.dictionary dictionary
+  pub named : IsAdjustedOf bytes_of folders args.dictionary args.adjustments dictionary
   pub texts : List (List ℕ)
   pub read : AreTextsOf bytes_of left args.inputs texts
   pub each : results ≡ results_of args.options dictionary args.inputs texts
 
 -- ---- failures
 
--- The program fails so before it writes: the dictionary is refused or not found, a text is not read, or memory was refused.
+-- The program fails so before it writes: the dictionary or a list is refused or not found, a text is not read, or memory was
+-- refused.
 abbrev pub IsFailureBefore : ParsedArgs → KnownFiles → List (List ℕ) → Option (List ℕ) → Failure → Type 0
 IsFailureBefore args bytes_of folders left (failed.Dictionary path cause) =
-    IsFailureOf bytes_of folders args.dictionary (failed.Dictionary path cause)
+    IsFailureOfAdjusted bytes_of folders args.dictionary args.adjustments (failed.Dictionary path cause)
 IsFailureBefore args bytes_of folders left (failed.NoDictionary language) =
-    IsFailureOf bytes_of folders args.dictionary (failed.NoDictionary language)
+    IsFailureOfAdjusted bytes_of folders args.dictionary args.adjustments (failed.NoDictionary language)
+IsFailureBefore args bytes_of folders left (failed.Exceptions list refusal) =
+    IsFailureOfAdjusted bytes_of folders args.dictionary args.adjustments (failed.Exceptions list refusal)
 IsFailureBefore args bytes_of folders left failed.Memory = ⊤
 IsFailureBefore args bytes_of folders left (failed.Writing output) = ⊥
 IsFailureBefore args bytes_of folders left failed.Output = ⊥
 IsFailureBefore args bytes_of folders left failure = (dictionary : AnyDictionary)
-    × IsOfArgument bytes_of folders args.dictionary dictionary × IsFailureAmong bytes_of left args.inputs failure
+    × IsAdjustedOf bytes_of folders args.dictionary args.adjustments dictionary × IsFailureAmong bytes_of left args.inputs failure
 
 -- ---- how the program ends
 

@@ -49,6 +49,9 @@ Writes plain texts with soft hyphens where a dictionary breaks their words.
                      the language of one that hyphenate-languages made
   FILE               a text; standard input for -, or without FILE
   -l, --lang CODE    the language of the dictionary; then all operands are FILEs
+  --exceptions FILE  words of your own, with hyphens where they may break
+  --left N           at least N characters before the first break of a word
+  --right N          at least N characters after its last break
   --mark MARK        in place of the soft hyphen
   --min-word N       shorter words are left alone; N counts characters
   --skip-capitals    words that begin with a capital are left alone
@@ -124,7 +127,7 @@ impl<'w, F: NamedFiles, S: ReplaceFiles, I: Read, O: Write> ProgramSteps<S, I, O
 /// |---|---|
 /// | 0 | it is done |
 /// | 2 | an argument is refused |
-/// | 3 | the dictionary can't be opened, read or accepted, or there is none of the language |
+/// | 3 | the dictionary or a list of exceptions can't be opened, read or accepted, or there is no dictionary |
 /// | 4 | a text is not UTF-8 |
 /// | 5 | a text can't be read, or a result can't be written |
 /// | 6 | memory was refused |

@@ -2,14 +2,14 @@
 
 ghost use Rattle.std.specs.Prelude.{◌≡◌, IfErr, IfOk, Ok, option_map};
 ghost use Rattle.hyphenation_breaks.specs.Borrowed.{texts_now};
-ghost use Rattle.command_line.specs.Options.{named_dictionary};
 ghost use Rattle.command_line.specs.Reading.{as_read, given_options, IsReadError};
 ghost use Rattle.text_command.specs.Arguments.{options_of};
-ghost use Rattle.text_command.specs.Arguments.{args_with, args_of, args_as_read, task_by, task_as_read, parsed_args};
-ghost use Rattle.text_command.specs.Private.Requests.{parsed_options, parsed_request, parsed_task, AreAsWanted};
+ghost use Rattle.text_command.specs.Arguments.{args_by, args_as_read, task_by, task_as_read, parsed_args};
+ghost use Rattle.text_command.specs.Private.Requests.{args_for, args_named, parsed_options, parsed_request, parsed_task, AreAsWanted};
 ghost use Rattle.text_results.specs.Reading.{parsed_removal};
 
 use crate::USAGE;
+use command_line::adjustments::Adjustments;
 use command_line::options::{Arguments, BadArgument, ReadError, read};
 use std::alloc::Global;
 use text_results::removal::{Removal, Source, removal_of};
@@ -47,6 +47,8 @@ pub enum Task<'w> {
 pub struct Request<'w> {
     /// The options.
     pub options: Options<'w>,
+    /// The adjustments of the dictionary.
+    pub adjustments: Adjustments<'w>,
     /// The path or the language of the dictionary.
     pub dictionary: &'w str,
     /// The names of the texts.
@@ -70,39 +72,56 @@ impl<'w> Options<'w> {
     }
 }
 
-// Returns the request of options, a dictionary and the names of texts.
+// Returns the request of options, adjustments, a dictionary and the names of texts.
 fn with_names<'w>(
     alloc: Global,
     options: Options<'w>,
+    adjustments: Adjustments<'w>,
     dictionary: &'w str,
     names: &[&'w str],
 ) -> Result<Request<'w>, ReadError<'w>>
     ensures parsed { IfOk result (λ request.
-        args_with (parsed_options options.entry) dictionary.now (texts_now names.now) ≡ Ok (parsed_request request)) }
-    ensures refused { IfErr result
-        (IsReadError (args_with (parsed_options options.entry) dictionary.now (texts_now names.now))) }
+        args_for options.entry adjustments.entry dictionary.now names.now ≡ Ok (parsed_request request)) }
+    ensures refused { IfErr result (IsReadError (args_for options.entry adjustments.entry dictionary.now names.now)) }
 {
     let inputs = names_for(alloc, options.target, names)?;
     Ok(Request {
         options,
+        adjustments,
         dictionary,
         inputs,
     })
 }
 
-// Returns the request of options, and of the dictionary and the texts that arguments name.
+// Returns the request of options and adjustments, and of the dictionary and the texts that arguments name.
 fn with_texts<'w>(
+    alloc: Global,
+    options: Options<'w>,
+    adjustments: Adjustments<'w>,
+    arguments: &Arguments<'w>,
+) -> Result<Request<'w>, ReadError<'w>>
+    ensures parsed { IfOk result (λ one.
+        args_named options.entry adjustments.entry arguments.now ≡ Ok (parsed_request one)) }
+    ensures refused { IfErr result (IsReadError (args_named options.entry adjustments.entry arguments.now)) }
+{
+    match arguments.dictionary_and_rest() {
+        Ok((dictionary, names)) => with_names(alloc, options, adjustments, dictionary, names),
+        Err(bad) => Err(ReadError::Bad(bad)),
+    }
+}
+
+// Returns the request of options, and of the adjustments, the dictionary and the texts that arguments name.
+fn with_adjustments<'w>(
     alloc: Global,
     options: Options<'w>,
     arguments: &Arguments<'w>,
 ) -> Result<Request<'w>, ReadError<'w>>
-    ensures parsed { IfOk result (λ one. args_of (parsed_options options.entry) (named_dictionary (as_read arguments.now))
+    ensures parsed { IfOk result (λ one. args_by (parsed_options options.entry) (as_read arguments.now)
         ≡ Ok (parsed_request one)) }
-    ensures refused { IfErr result (IsReadError
-        (args_of (parsed_options options.entry) (named_dictionary (as_read arguments.now)))) }
+    ensures refused { IfErr result (IsReadError (args_by (parsed_options options.entry) (as_read arguments.now))) }
 {
-    match arguments.dictionary_and_rest() {
-        Ok((dictionary, names)) => with_names(alloc, options, dictionary, names),
+    match Adjustments::from_arguments(arguments) {
+        Ok(adjustments) => with_texts(alloc, options, adjustments, arguments),
         Err(bad) => Err(ReadError::Bad(bad)),
     }
 }
@@ -113,7 +132,7 @@ fn of_arguments<'w>(alloc: Global, arguments: &Arguments<'w>) -> Result<Request<
     ensures refused { IfErr result (IsReadError (args_as_read (as_read arguments.now))) }
 {
     match Options::from_arguments(arguments) {
-        Ok(options) => with_texts(alloc, options, arguments),
+        Ok(options) => with_adjustments(alloc, options, arguments),
         Err(bad) => Err(ReadError::Bad(bad)),
     }
 }

@@ -12,7 +12,7 @@ ghost use Rattle.text_results.specs.Texts.{IsFailureAmong};
 
 use crate::request::{Options, Request};
 use any_dictionary::AnyDictionary;
-use command_line::dictionaries::load_dictionary;
+use command_line::adjustments::load_adjusted;
 use command_line::{Failure, NamedFiles};
 use hyphenation_html::{Settings, hyphenate_markdown, hyphenate_text};
 use std::alloc::{AllocError, Global};
@@ -107,7 +107,13 @@ fn results_of<F: NamedFiles, I: Read>(
     ensures unread { list_any is_standard_input (texts_now request.now.inputs.items) ≡ false → input.new ≡ input.old }
     ensures dictionary_first { IfErr result (BeforeReading (input.new ≡ input.old)) }
 {
-    match load_dictionary(files, alloc, folders, request.dictionary) {
+    match load_adjusted(
+        files,
+        alloc,
+        folders,
+        request.dictionary,
+        &request.adjustments,
+    ) {
         Ok(dictionary) => results_by(files, alloc, request, &dictionary, input),
         Err(failure) => Err(failure),
     }

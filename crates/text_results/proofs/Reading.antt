@@ -33,6 +33,7 @@ failure_unknown bytes_of left name (failed.Reading input) fails = fails
 failure_unknown bytes_of left name failed.Memory fails = tt
 failure_unknown bytes_of left name (failed.Dictionary path cause) fails = absurd fails
 failure_unknown bytes_of left name (failed.NoDictionary language) fails = absurd fails
+failure_unknown bytes_of left name (failed.Exceptions list refusal) fails = absurd fails
 failure_unknown bytes_of left name (failed.Writing output) fails = absurd fails
 failure_unknown bytes_of left name failed.Output fails = absurd fails
 

@@ -45,6 +45,7 @@ pub never_of_texts : (bytes_of : KnownFiles) (left : Option (List ℕ)) (names :
     → IsFailureAmong bytes_of left names failure → status_of failure ≡ 3 → ⊥
 never_of_texts bytes_of left names (failed.Dictionary path cause) among three = not_among bytes_of left names _ (λ same. absurd cc) (λ l n never. never) among
 never_of_texts bytes_of left names (failed.NoDictionary language) among three = not_among bytes_of left names _ (λ same. absurd cc) (λ l n never. never) among
+never_of_texts bytes_of left names (failed.Exceptions list refusal) among three = not_among bytes_of left names _ (λ same. absurd cc) (λ l n never. never) among
 never_of_texts bytes_of left names (failed.Refused input cause) among three = absurd cc
 never_of_texts bytes_of left names (failed.Reading input) among three = absurd cc
 never_of_texts bytes_of left names (failed.Writing output) among three = absurd cc
@@ -56,6 +57,7 @@ pub never_of_writing : (target : Target) (names results : List (List ℕ)) (old 
     → IsFailureOfWriting target names results old new failure → status_of failure ≡ 3 → ⊥
 never_of_writing target names results old new (failed.Dictionary path cause) fails three = fails
 never_of_writing target names results old new (failed.NoDictionary language) fails three = fails
+never_of_writing target names results old new (failed.Exceptions list refusal) fails three = fails
 never_of_writing target names results old new (failed.Refused input cause) fails three = fails
 never_of_writing target names results old new (failed.Reading input) fails three = fails
 never_of_writing target names results old new (failed.Writing output) fails three = absurd cc

@@ -84,6 +84,7 @@ replaced_not old middle new all results names others name one failed.Memory so_f
 replaced_not old middle new all results names others name one failed.Output so_far none is = absurd is
 replaced_not old middle new all results names others name one (failed.Dictionary path cause) so_far none is = absurd is
 replaced_not old middle new all results names others name one (failed.NoDictionary language) so_far none is = absurd is
+replaced_not old middle new all results names others name one (failed.Exceptions list refusal) so_far none is = absurd is
 replaced_not old middle new all results names others name one (failed.Refused input cause) so_far none is = absurd is
 replaced_not old middle new all results names others name one (failed.Reading input) so_far none is = absurd is
 
@@ -96,5 +97,6 @@ file_not old new names results path failed.Memory none is = tt
 file_not old new names results path failed.Output none is = absurd is
 file_not old new names results path (failed.Dictionary p cause) none is = absurd is
 file_not old new names results path (failed.NoDictionary language) none is = absurd is
+file_not old new names results path (failed.Exceptions list refusal) none is = absurd is
 file_not old new names results path (failed.Refused input cause) none is = absurd is
 file_not old new names results path (failed.Reading input) none is = absurd is

@@ -1,6 +1,7 @@
 -- How requests in code correspond to parsed arguments, and the steps of a run.
 use Rattle.std.specs.Prelude.{⊤}
 use Rattle.hyphenation_breaks.specs.Borrowed.{texts_now}
+use Rattle.command_line.specs.Adjustments.{as_adjustments}
 use Rattle.command_line.specs.declared.failure.Failure.{Failure}
 use Rattle.command_line.specs.declared.failure.Failure.TheVariants as failed
 use Rattle.explain_command.specs.Arguments.{ParsedArgs}
@@ -10,6 +11,7 @@ use Rattle.explain_command.specs.declared.request.Request.{Request}
 abbrev pub parsed_request : Request → ParsedArgs
 parsed_request request = record {
   style = request.style;
+  adjustments = as_adjustments request.adjustments;
   dictionary = request.dictionary.now;
   words = texts_now request.words.items;
 }
@@ -18,4 +20,5 @@ parsed_request request = record {
 abbrev pub BeforeReading : Type 0 → Failure → Type 0
 BeforeReading P (failed.Dictionary path cause) = P
 BeforeReading P (failed.NoDictionary language) = P
+BeforeReading P (failed.Exceptions list refusal) = P
 BeforeReading P _ = ⊤

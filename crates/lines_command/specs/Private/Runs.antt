@@ -66,6 +66,7 @@ IsLongParagraph name _ = ⊥
 abbrev pub BeforeReading : Type 0 → Failure → Type 0
 BeforeReading P (failed.Dictionary path cause) = P
 BeforeReading P (failed.NoDictionary language) = P
+BeforeReading P (failed.Exceptions list refusal) = P
 BeforeReading P _ = ⊤
 
 -- Where the inputs that are left have their pages, all have theirs on a page that goes on with these. Where one of them

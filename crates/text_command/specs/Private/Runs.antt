@@ -56,4 +56,5 @@ IsFailureOfRequest request bytes_of folders left =
 abbrev pub BeforeReading : Type 0 → Failure → Type 0
 BeforeReading P (failed.Dictionary path cause) = P
 BeforeReading P (failed.NoDictionary language) = P
+BeforeReading P (failed.Exceptions list refusal) = P
 BeforeReading P _ = ⊤
