@@ -94,6 +94,12 @@ int LLVMFuzzerTestOneInput(const uint8_t *data, size_t size) {
   need(status == HYPHENATION_REFUSED || is_known(status));
   status = hyphenation_add_exceptions(&o, word, rest, &line, &cause);
   need(status == HYPHENATION_REFUSED || status == HYPHENATION_DONE || status == HYPHENATION_OUT_OF_MEMORY);
+  size_t left, right;
+  uint8_t least = (uint8_t)rest;
+  status = hyphenation_raise_minima(&o, least, least / 2);
+  need(status == HYPHENATION_DONE || status == HYPHENATION_OUT_OF_MEMORY);
+  need(hyphenation_minima(&o, &left, &right) == HYPHENATION_DONE);
+  need(status != HYPHENATION_DONE || (left >= least && right >= least / 2u));
   /* The canonical text is accepted, and is its own canonical text. */
   if (hyphenation_write(&h, page, ROOM, &count) == HYPHENATION_DONE) {
     need(hyphenation_load(kind, page, count, &o, &line, &cause) == HYPHENATION_DONE);

@@ -22,8 +22,8 @@
 
 #define CALLS(EACH)                                                                                                        \
   EACH(kind_of) EACH(load) EACH(load_dic) EACH(load_patterns) EACH(free) EACH(share) EACH(edit) EACH(add_exceptions)       \
-  EACH(language) EACH(minima) EACH(breaks) EACH(breaks_of_words) EACH(values) EACH(changes) EACH(exception) EACH(text)     \
-  EACH(fill) EACH(write) EACH(paths) EACH(exception_paths) EACH(cause_message)
+  EACH(raise_minima) EACH(language) EACH(minima) EACH(breaks) EACH(breaks_of_words) EACH(values) EACH(changes)             \
+  EACH(exception) EACH(text) EACH(fill) EACH(write) EACH(paths) EACH(exception_paths) EACH(cause_message)
 static struct {
 #define DECLARE(name) __typeof__(&hyphenation_##name) name;
   CALLS(DECLARE)
@@ -603,6 +603,14 @@ static PyObject *add_exceptions(PyObject *self, PyObject *arguments) {
   return loaded(status, 0, line, cause);
 }
 
+static PyObject *raise_minima(PyObject *self, PyObject *arguments) {
+  unsigned char left, right;
+  if (!PyArg_ParseTuple(arguments, "bb", &left, &right)) return NULL;
+  uint32_t status = calls.raise_minima(OF(self), left, right);
+  if (status != HYPHENATION_DONE) return fail(self, status);
+  Py_RETURN_NONE;
+}
+
 static PyObject *minima(PyObject *self, PyObject *Py_UNUSED(none)) {
   size_t left = 0, right = 0;
   uint32_t status = calls.minima(OF(self), &left, &right);
@@ -645,6 +653,7 @@ static PyMethodDef methods[] = {
     {"close", close_handle, METH_NOARGS, NULL},
     {"edit", edit, METH_VARARGS, NULL},
     {"add_exceptions", add_exceptions, METH_VARARGS, NULL},
+    {"raise_minima", raise_minima, METH_VARARGS, NULL},
     {"language", language, METH_NOARGS, NULL},
     {"minima", minima, METH_NOARGS, NULL},
     {"places", places, METH_O, NULL},

@@ -131,6 +131,7 @@ extern "C" {
         line: *mut usize,
         cause: *mut u32,
     ) -> u32;
+    fn hyphenation_raise_minima(handle: *mut Raw, left: u8, right: u8) -> u32;
     fn hyphenation_language(handle: *mut Raw, code: *mut u8, capacity: usize, count: *mut usize) -> u32;
     fn hyphenation_minima(handle: *mut Raw, left: *mut usize, right: *mut usize) -> u32;
     fn hyphenation_values(
@@ -490,6 +491,12 @@ impl Raw {
             hyphenation_add_exceptions(self, text.as_ptr(), text.len(), &mut fault.line, &mut fault.cause)
         };
         checked(status, fault)
+    }
+
+    /// Raises the minima to at least these.
+    pub fn raise_minima(&mut self, left: u8, right: u8) -> Result<(), Failure> {
+        // SAFETY: the handle is as the last call left it, and is lent only to this call.
+        checked(unsafe { hyphenation_raise_minima(self, left, right) }, RawFault::default())
     }
 
     /// The code of the language.

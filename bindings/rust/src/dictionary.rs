@@ -167,6 +167,13 @@ impl<E: Listed> Inner<E> {
         Ok(())
     }
 
+    /// Raises the minima to at least these.
+    pub(crate) fn raise_minima(&mut self, left: u8, right: u8) {
+        done(self.shared.change(|raw| raw.raise_minima(left, right)));
+        // No break refers to these any more.
+        self.known = OnceLock::new();
+    }
+
     /// Lists breaks for a word, and returns those that were listed.
     pub(crate) fn list(&mut self, word: String, breaks: Vec<E>) -> Option<Vec<E>> {
         let tokens: Vec<String> = std::iter::once(escaped(&word)).chain(breaks.iter().map(E::to_token)).collect();
@@ -243,6 +250,29 @@ macro_rules! dictionary {
             /// [`Error::IO`](crate::load::Error::IO) where memory is refused. With either nothing is changed.
             pub fn add_exceptions(&mut self, list: &[u8]) -> $crate::load::Result<()> {
                 self.0.add_exceptions(list)
+            }
+
+            /// Raises the minima to at least these numbers of characters: before the first break of a word, and after its last
+            /// one. Greater ones stay.
+            ///
+            /// Soft hyphens of a word are its breaks, whatever the minima are. Clones stay as they are.
+            ///
+            /// ```
+            /// use hyphenation::{Hyphenator, Load, Standard};
+            ///
+            /// let mut text = &b"hyphenation 1 standard\nlanguage en-us\nminima 2 3\ne hyphenation 2 6 7\n"[..];
+            /// let mut english = Standard::any_from_reader(&mut text)?;
+            /// english.raise_minima(4, 2);
+            /// assert_eq!(english.unbreakable_chars(), (4, 3));
+            /// assert_eq!(english.hyphenate_text("Hyphenation", "-"), "Hyphen-a-tion");
+            /// # Ok::<(), hyphenation::load::Error>(())
+            /// ```
+            ///
+            /// # Panics
+            ///
+            /// Where memory is refused. The dictionary is then as it was.
+            pub fn raise_minima(&mut self, left: u8, right: u8) {
+                self.0.raise_minima(left, right);
             }
 
             /// The language whose words it breaks.

@@ -10,7 +10,7 @@ use Rattle.hyphenation_grammar.specs.declared.form.Kind.{Kind}
 use Rattle.hyphenation_grammar.specs.declared.form.Kind.TheVariants.{Standard, Extended}
 use Rattle.hyphenation_hyphenator.specs.Hyphenated.{hyphenated_text}
 use Rattle.linefill.specs.Lines.{lines_by}
-use Rattle.any_dictionary.specs.Dictionaries.{all_places_by, breaks_by, canonical_text, contents_as, edited, kind_by, language_by, minima_by, values_by}
+use Rattle.any_dictionary.specs.Dictionaries.{all_places_by, breaks_by, canonical_text, contents_as, edited, kind_by, language_by, minima_by, raised, values_by}
 use Rattle.any_dictionary.specs.Kinds as kinds
 use Rattle.any_dictionary.specs.declared.AnyDictionary.{AnyDictionary}
 use Rattle.any_dictionary.specs.declared.AnyDictionary.TheVariants as of
@@ -248,3 +248,17 @@ abbrev pub Edits : Option Held → Option Held → List ℕ → ℕ → Type 0
 Edits (Some (Dictionary old)) (Some (Dictionary new)) edit status = EditsDictionary old new edit status
 Edits (Some (Dictionary old)) _ edit status = ⊥
 Edits old new edit status = (status ≡ 3) × (new ≡ old)
+
+-- 0: the dictionary has the greater ones of its minima and these. 2: out of memory, and the dictionary is unchanged. No
+-- other status comes.
+abbrev pub RaisesMinimaOf : AnyDictionary → AnyDictionary → ℕ → ℕ → ℕ → Type 0
+RaisesMinimaOf old new left right zero = new ≡ raised left right old
+RaisesMinimaOf old new left right (suc (suc zero)) = new ≡ old
+RaisesMinimaOf old new left right _ = ⊥
+
+-- 3: the handle holds no dictionary, and is unchanged. A dictionary has the statuses above, and the handle still holds
+-- one.
+abbrev pub RaisesMinima : Option Held → Option Held → ℕ → ℕ → ℕ → Type 0
+RaisesMinima (Some (Dictionary old)) (Some (Dictionary new)) left right status = RaisesMinimaOf old new left right status
+RaisesMinima (Some (Dictionary old)) _ left right status = ⊥
+RaisesMinima old new left right status = (status ≡ 3) × (new ≡ old)

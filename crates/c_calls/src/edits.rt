@@ -1,14 +1,14 @@
-//! Edits of the exceptions of a dictionary that is loaded.
+//! Edits of the exceptions of a dictionary that is loaded, and minima that are raised.
 
 ghost use Rattle.std.specs.Prelude.{◌≡◌, IfErr, IfOk, IsTrue, None, OnErr, OnOk, not};
 ghost use Rattle.std.specs.Arc.{arc_value};
-ghost use Rattle.any_dictionary.specs.Dictionaries.{edited, kind_by};
+ghost use Rattle.any_dictionary.specs.Dictionaries.{edited, kind_by, raised};
 ghost use Rattle.hyphenation_reader.specs.Edits.{is_good_edit};
 ghost use Rattle.pattern_results.specs.Errors.{IsFileError};
 ghost use Rattle.tex_files.specs.ExceptionLists.{list_fault, with_exceptions};
 ghost use Rattle.c_calls.specs.Contents.{dictionary_of};
 ghost use Rattle.c_calls.specs.ExceptionLists.{AddsTo};
-ghost use Rattle.c_calls.specs.Statuses.{EditsDictionary};
+ghost use Rattle.c_calls.specs.Statuses.{EditsDictionary, RaisesMinimaOf};
 
 use crate::content::Loaded;
 use crate::patterns::pattern_cause_number;
@@ -110,5 +110,42 @@ pub fn add_list(
             REFUSED
         }
         Err(FileError::Memory) => OUT_OF_MEMORY,
+    }
+}
+
+// Raises the minima of a dictionary: if it has another owner, a copy with them takes its place. The only error is that memory
+// was refused.
+fn raise(
+    counted: &mut Arc<AnyDictionary>,
+    alloc: Global,
+    left: u8,
+    right: u8,
+) -> Result<(), AllocError>
+    ensures raised { OnOk result (arc_value counted.new ≡ raised left right (arc_value counted.old)) }
+    ensures unchanged_on_error { OnErr result (arc_value counted.new ≡ arc_value counted.old) }
+{
+    if let Some(dictionary) = Arc::get_mut(counted) {
+        dictionary.raise_minima(left, right);
+        return Ok(());
+    }
+    let mut dictionary = copy_of(&**counted, alloc)?;
+    dictionary.raise_minima(left, right);
+    match Arc::new(alloc, dictionary) {
+        Ok(raised) => {
+            *counted = raised;
+            Ok(())
+        }
+        Err(_) => Err(AllocError),
+    }
+}
+
+/// Raises the minima of a dictionary to at least these, and returns the status. With each status but `DONE` the dictionary is
+/// unchanged.
+pub fn raise_minima(loaded: &mut Loaded, alloc: Global, left: u8, right: u8) -> u32
+    ensures { RaisesMinimaOf (dictionary_of loaded.old) (dictionary_of loaded.new) left right result }
+{
+    match raise(&mut loaded.dictionary, alloc, left, right) {
+        Ok(()) => DONE,
+        Err(_) => OUT_OF_MEMORY,
     }
 }

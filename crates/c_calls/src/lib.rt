@@ -16,7 +16,7 @@ ghost use Rattle.c_calls.specs.Numbered.{WritesListed, WritesScores};
 ghost use Rattle.c_calls.specs.Paths.{WritesExceptionPaths, WritesPaths};
 ghost use Rattle.c_calls.specs.Patterns.{LoadsDic};
 ghost use Rattle.c_calls.specs.Statuses.{kind_numbered, Loads, Shares, Edits, WritesLanguage, WritesMinima};
-ghost use Rattle.c_calls.specs.Statuses.{kind_named, WritesBreaks, WritesValues, Changes, into, loading};
+ghost use Rattle.c_calls.specs.Statuses.{kind_named, WritesBreaks, WritesValues, Changes, RaisesMinima, into, loading};
 ghost use Rattle.c_calls.specs.Statuses.{WritesMarkedText, WritesLines, WritesCanonicalText};
 ghost use Rattle.c_calls.specs.TexFiles.{LoadsPatterns, PlacesFault};
 
@@ -263,6 +263,25 @@ pub fn add_exceptions(
     };
     let status = if let Content::Dictionary(loaded) = &mut *content {
         edits::add_list(loaded, alloc, text, line, cause)
+    } else {
+        NO_DICTIONARY
+    };
+    *handle = Handle::of(content);
+    status
+}
+
+/// Raises the minima to at least these numbers of characters. Greater ones stay, and nothing else changes.
+///
+/// Other handles with the same dictionary are unchanged: if there are any, this handle holds a copy with the raised minima
+/// afterwards. With each status but `DONE` the dictionary is unchanged.
+pub fn raise_minima(alloc: Global, handle: &mut Handle, left: u8, right: u8) -> u32
+    ensures raises { RaisesMinima (holds handle.old) (holds handle.new) left right result }
+{
+    let Some(mut content) = handle.take(alloc) else {
+        return NO_DICTIONARY;
+    };
+    let status = if let Content::Dictionary(loaded) = &mut *content {
+        edits::raise_minima(loaded, alloc, left, right)
     } else {
         NO_DICTIONARY
     };

@@ -12,7 +12,7 @@ ghost use Rattle.c_calls.specs.Numbered.{WritesListed, WritesScores};
 ghost use Rattle.c_calls.specs.Paths.{WritesExceptionPaths, WritesPaths};
 ghost use Rattle.c_calls.specs.Patterns.{LoadsDic};
 ghost use Rattle.c_calls.specs.Statuses.{kind_numbered, Loads, Shares, Edits, WritesLanguage, WritesMinima};
-ghost use Rattle.c_calls.specs.Statuses.{kind_named, WritesBreaks, WritesValues, Changes, into, loading};
+ghost use Rattle.c_calls.specs.Statuses.{kind_named, WritesBreaks, WritesValues, Changes, RaisesMinima, into, loading};
 ghost use Rattle.c_calls.specs.Statuses.{WritesMarkedText, WritesLines, WritesCanonicalText};
 ghost use Rattle.c_calls.specs.TexFiles.{LoadsPatterns, PlacesFault};
 ghost use Rattle.level_calls.specs.Levels.{Loads as LoadsLevels, minima_given, answer_by};
@@ -135,6 +135,19 @@ pub extern "C" fn hyphenation_add_exceptions(
         (loading (holds handle.old) (holds handle.new) (line.old, cause.old) (line.new, cause.new)) result }
 {
     c_calls::add_exceptions(alloc, handle, text, line, cause)
+}
+
+/// Raises the minima to at least these numbers of characters. Greater ones stay, and nothing else changes.
+#[unsafe(no_mangle)]
+pub extern "C" fn hyphenation_raise_minima(
+    alloc: Global,
+    handle: &mut Handle,
+    left: u8,
+    right: u8,
+) -> u32
+    ensures raises { RaisesMinima (holds handle.old) (holds handle.new) left right result }
+{
+    c_calls::raise_minima(alloc, handle, left, right)
 }
 
 /// Writes the code of the dictionary's language to the front of a buffer: at most 32 bytes.

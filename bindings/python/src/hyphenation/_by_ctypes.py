@@ -7,7 +7,7 @@ run, and so have a handle of their own, which shares the dictionary. So it is wi
 
 import ctypes
 from array import array
-from ctypes import POINTER, addressof, byref, c_bool, c_char_p, c_size_t, c_uint32, c_void_p
+from ctypes import POINTER, addressof, byref, c_bool, c_char_p, c_size_t, c_uint8, c_uint32, c_void_p
 from itertools import accumulate
 from typing import Any, Callable, List, Optional, Tuple
 
@@ -54,6 +54,7 @@ _free = _declare(_SHORT, "free", _HANDLE, result=None)
 _share = _declare(_SHORT, "share", _HANDLE, _HANDLE)
 _edit = _declare(_SHORT, "edit", _HANDLE, *_TEXT)
 _add_exceptions = _declare(_SHORT, "add_exceptions", _HANDLE, *_TEXT, POINTER(c_size_t), POINTER(c_uint32))
+_raise_minima = _declare(_SHORT, "raise_minima", _HANDLE, c_uint8, c_uint8)
 _language = _declare(_SHORT, "language", _HANDLE, *_BUFFER)
 _minima = _declare(_SHORT, "minima", _HANDLE, POINTER(c_size_t), POINTER(c_size_t))
 # These two are called for each word. Their arguments have types of C already, so none is converted.
@@ -186,6 +187,9 @@ class Handle:
         line, cause = c_size_t(), c_uint32()
         status = _add_exceptions(self._at, text, len(text), byref(line), byref(cause))
         return status, 0, line.value, cause.value
+
+    def raise_minima(self, left: int, right: int) -> None:
+        _check(_raise_minima(self._at, left, right))
 
     def language(self) -> str:
         return _written(32, _language, self._at).decode()
