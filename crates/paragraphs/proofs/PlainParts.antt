@@ -4,13 +4,14 @@ use Rattle.std.specs.List.{All, flat_map}
 use Rattle.std.proofs.lemmas.List.{get_or-map, length-map}
 use Rattle.std.proofs.lemmas.List.Elements.{All-head, All-tail}
 use Rattle.unicode_segmentation.specs.Segments.{with_offsets}
+use Rattle.composed_words.specs.Composed.{carried, composed, is_composed}
 use Rattle.text_words.specs.Names.{is_name}
 use Rattle.text_words.specs.Words.{is_mixed, text_words, unless_mixed}
-use Rattle.hyphenation_breaks.specs.Break.{Break, end_of, after_of}
+use Rattle.hyphenation_breaks.specs.Break.{Break, end_of, after_of, plain_break}
 use Rattle.line_division.specs.Greedy.{IsOrderly}
 use Rattle.line_division.specs.Lines.{no_stretch, stretch_at}
 use Rattle.paragraphs.specs.Settings.{Setting, no_setting, setting_at, stretch_of, columns_of}
-use Rattle.paragraphs.specs.Parts.{Style, set_off, breaks_in, piece_breaks, word_breaks, parts_it, part_at, parts_from, word_parts, parts_of, IsPlain, ArePlain}
+use Rattle.paragraphs.specs.Parts.{Style, set_off, breaks_in, composed_breaks, piece_breaks, unchanged_places, word_breaks, parts_it, part_at, parts_from, word_parts, parts_of, IsPlain, ArePlain}
 
 -- Each of the breaks is plain.
 abbrev EachPlain : List Break → Type 0
@@ -34,10 +35,23 @@ plain_unless_mixed breaks_of plain word = elim (is_mixed word) as (λ t. All IsP
   | false ↦ plain word
 ]
 
+all_unchanged : (places : List ℕ) → All IsPlain (map plain_break places)
+all_unchanged [] k d lt = absurd (omega (arith, lt))
+all_unchanged (p ∷ ps) zero d lt = refl
+all_unchanged (p ∷ ps) (suc k) d lt = all_unchanged ps k d (omega (arith, lt))
+
+plain_composed : (breaks_of : List ℕ → List Break) → ArePlain breaks_of → ArePlain (composed_breaks breaks_of)
+unfolding composed_breaks
+plain_composed breaks_of plain piece =
+    elim (is_composed piece) as (λ t. All IsPlain (cond t (breaks_of piece) (map plain_break (carried piece (unchanged_places (breaks_of (composed piece))))))) [
+      | true ↦ plain piece
+      | false ↦ all_unchanged (carried piece (unchanged_places (breaks_of (composed piece))))
+    ]
+
 plain_word : (breaks_of : List ℕ → List Break) (word : List ℕ) → ArePlain breaks_of → EachPlain (word_breaks breaks_of word)
 plain_word breaks_of word plain = elim (is_name word) as (λ t. EachPlain (cond t [] (piece_breaks breaks_of word))) [
   | true ↦ tt
-  | false ↦ plain_pieces (unless_mixed breaks_of) (with_offsets 0 (text_words word)) (plain_unless_mixed breaks_of plain)
+  | false ↦ plain_pieces (composed_breaks (unless_mixed breaks_of)) (with_offsets 0 (text_words word)) (plain_composed (unless_mixed breaks_of) (plain_unless_mixed breaks_of plain))
 ]
 
 -- Each of the parts has this opening.

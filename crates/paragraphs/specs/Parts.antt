@@ -1,12 +1,13 @@
 -- The words of a paragraph, and where they may be broken.
-use Rattle.std.specs.Prelude.{◌≡◌, ℕ, ◌+◌, ◌&&◌, nat_lt, Bool, None, All, if◌then◌else◌, List, [], ◌∷◌, ◌++◌, length}
-use Rattle.std.specs.Prelude.{map, drop, slice_range}
+use Rattle.std.specs.Prelude.{◌≡◌, ℕ, ◌+◌, ◌&&◌, nat_lt, not, Bool, None, All, if◌then◌else◌, List, [], ◌∷◌, ◌++◌, length}
+use Rattle.std.specs.Prelude.{map, filter, drop, slice_range}
 use Rattle.std.specs.List.{flat_map}
 use Rattle.unicode_segmentation.specs.Segments.{with_offsets}
+use Rattle.composed_words.specs.Composed.{carried, composed, is_composed}
 use Rattle.text_words.specs.Names.{is_name}
 use Rattle.text_words.specs.Words.{text_words, unless_mixed}
 use Rattle.hyphenation_breaks.specs.Ascii.{space, hyphen}
-use Rattle.hyphenation_breaks.specs.Break.{Break, begin_of, end_of, before_of, after_of}
+use Rattle.hyphenation_breaks.specs.Break.{Break, begin_of, end_of, before_of, after_of, is_changed, plain_break}
 use Rattle.paragraphs.specs.Settings.{Setting, joined_text}
 
 -- A break of a piece that is after an offset, counted from the beginning of the word.
@@ -17,9 +18,19 @@ set_off offset b = record { place = offset + b.place; change = b.change }
 abbrev pub breaks_in : (List ℕ → List Break) → ℕ × List ℕ → List Break
 breaks_in breaks_of piece = map (set_off piece.0) (breaks_of piece.1)
 
+-- The places of breaks that change no letters.
+abbrev pub unchanged_places : List Break → List ℕ
+unchanged_places breaks = map (λ b. b.place) (filter (λ b. not (is_changed b)) breaks)
+
+-- The breaks of a piece, by those of texts in NFC. A piece in another form has the breaks of its NFC that change no letters.
+unfoldable pub composed_breaks : (List ℕ → List Break) → List ℕ → List Break
+composed_breaks breaks_of piece =
+    if is_composed piece then breaks_of piece
+    else map plain_break (carried piece (unchanged_places (breaks_of (composed piece))))
+
 -- The breaks of the pieces of a word, which are what a text has for words. A piece with a letter beside a digit has none.
 abbrev pub piece_breaks : (List ℕ → List Break) → List ℕ → List Break
-piece_breaks breaks_of word = flat_map (breaks_in (unless_mixed breaks_of)) (with_offsets 0 (text_words word))
+piece_breaks breaks_of word = flat_map (breaks_in (composed_breaks (unless_mixed breaks_of))) (with_offsets 0 (text_words word))
 
 -- The breaks of a word: those of its pieces. An address, a path, an identifier or the name of a file has none.
 abbrev pub word_breaks : (List ℕ → List Break) → List ℕ → List Break

@@ -1,7 +1,7 @@
 use Rattle.std.proofs.Common.{◌+◌, ◌^◌, ◌<◌, ◌≤◌, rules, arith, ◌++◌, length, refl, sym, ap, subst, ◌∙◌, append_assoc}
 use Rattle.std.specs.List.{flat_map}
 use Rattle.paragraphs.specs.Private.Open.{settings_with, word_of}
-use Rattle.paragraphs.specs.Parts.{breaks_in}
+use Rattle.paragraphs.specs.Parts.{breaks_in, composed_breaks}
 use Rattle.unicode_segmentation.specs.Segments.{with_offsets}
 use Rattle.text_words.specs.Left.{words_left}
 use Rattle.text_words.specs.Words.{unless_mixed}
@@ -11,7 +11,7 @@ use Rattle.paragraphs.proofs.word.pass_each_piece.Goals as goal
 
 pub loop-piece-init : goal.loop-piece-init
 loop-piece-init g c =
-    let breaks_of = unless_mixed (g.H.Hyphenator.breaks_of c.args.dictionary.now) in
+    let breaks_of = composed_breaks (unless_mixed (g.H.Hyphenator.breaks_of c.args.dictionary.now)) in
     let current = c.args.current.now in
     let left = ap (with_offsets 0) c.new-pieces.ensures.left in
     record {
@@ -23,10 +23,10 @@ loop-piece-init g c =
 pub loop-piece-preserved : goal.loop-piece-preserved
 unfolding with_offsets
 loop-piece-preserved g c =
-    let breaks_of = unless_mixed (g.H.Hyphenator.breaks_of c.args.dictionary.now) in
+    let breaks_of = composed_breaks (unless_mixed (g.H.Hyphenator.breaks_of c.args.dictionary.now)) in
     let at = c.loop-piece.offset in
     let next = ap (with_offsets at) c.in-Some.ensures.pieces in
-    let passed = c.in_ok-pass_unless_mixed.ensures in
+    let passed = c.in_ok-pass_composed.ensures in
     let rest = with_offsets (at + length c.in-Some.piece.now) (words_left c.next_piece.new.pieces) in
     let left = flat_map (breaks_in breaks_of) rest in
     let here = breaks_in breaks_of (at, c.in-Some.piece.now) in
@@ -49,16 +49,16 @@ overflow_add-end g c =
     let short : length (word_of c.loop-piece.current) < 2 ^ 63 = c.loop-piece.current.word.now.short in
     search (rules, arith)
 
-pub pass_unless_mixed-requires : goal.pass_unless_mixed-requires
+pub pass_composed-requires : goal.pass_composed-requires
 unfolding with_offsets
-pass_unless_mixed-requires g c =
+pass_composed-requires g c =
     let slice : IsSlice (word_of c.loop-piece.current) (c.loop-piece.offset, c.in-Some.piece.now) = (subst (AreSlices (word_of c.loop-piece.current)) (ap (with_offsets c.loop-piece.offset) c.in-Some.ensures.pieces) c.loop-piece.invariant.pieces).0 in
     search rules
 
 pub returns : goal.returns
 unfolding with_offsets
 returns g c =
-    let breaks_of = unless_mixed (g.H.Hyphenator.breaks_of c.args.dictionary.now) in
+    let breaks_of = composed_breaks (unless_mixed (g.H.Hyphenator.breaks_of c.args.dictionary.now)) in
     let none = ap (with_offsets c.loop-piece.offset) (c.in_default.ensures.pieces ∙ c.in_default.ensures.end refl) in
     record {
       word = c.loop-piece.invariant.word;

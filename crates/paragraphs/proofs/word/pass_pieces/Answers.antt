@@ -1,6 +1,6 @@
 use Rattle.std.proofs.Common.{refl, sym, subst, ◌∙◌}
 use Rattle.paragraphs.specs.Private.Open.{Passes, word_of}
-use Rattle.paragraphs.proofs.OnePiece.{whole_breaks}
+use Rattle.paragraphs.proofs.OnePiece.{letters_are_ascii, whole_breaks}
 use Rattle.paragraphs.proofs.WordBreaks.{name_breaks, other_breaks}
 use Rattle.paragraphs.proofs.word.pass_pieces.Goals as goal
 
@@ -10,7 +10,7 @@ returns-then-word g c =
     let word = word_of c.args.current.now in
     let are = c.args.current.now.word.now.alphabetic c.if-word.true in
     let one = c.letters_are_one_word.ensures word are.0 are.1 in
-    let same = whole_breaks breaks_of word one.0 one.1 ∙ other_breaks breaks_of word (c.letters_are_no_name.ensures word are.1) in
+    let same = whole_breaks breaks_of word one.0 one.1 (c.ascii_is_composed.ensures word (letters_are_ascii word are.1)) ∙ other_breaks breaks_of word (c.letters_are_no_name.ensures word are.1) in
     subst (λ bs. Passes bs c.args.parts.now.items c.args.current.now c.pass_piece.new.parts.items c.pass_piece.new.current) same c.in_ok-pass_piece.ensures
 
 pub returns-then-is_name : goal.returns-then-is_name
