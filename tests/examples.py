@@ -169,7 +169,7 @@ def folder_for(scratch, number):
     (texts / "en-us.txt").write_text(firkin.replace("language en-gb", "language en-us"))
     page = '<!DOCTYPE html>\n<html lang="en"><head><title>Ale</title></head><body><p>Two firkins of ale.</p></body></html>\n'
     for name, text in (("notes.txt", "Two firkins of ale.\n"), ("mail.txt", "Subject: ale\n\n> Two firkins of ale.\n\nNone.\n"),
-                       ("paragraph.txt", "Two firkins\nof ale\n"), ("page.html", page), ("chapter1.xhtml", page), ("chapter2.xhtml", page)):
+                       ("paragraph.txt", "Two firkins\nof ale\n"), ("mine.txt", "fir-kins\n"), ("page.html", page), ("chapter1.xhtml", page), ("chapter2.xhtml", page)):
         (folder / name).write_text(text)
     one = {"one.xhtml": ("book/one.xhtml", epub.page("Two firkins of ale."))}
     epub.write(folder / "book.epub", epub.files(one, "<dc:language>en</dc:language>"))
