@@ -9,3 +9,4 @@ pub mod Codes
 pub mod Loaded
 pub mod Served
 pub mod Telling
+pub mod Unread

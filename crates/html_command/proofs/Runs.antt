@@ -16,7 +16,7 @@ use Rattle.text_results.specs.Texts.{IsFailureAmong, left_after}
 use Rattle.text_results.specs.Written.{IsFailureFor}
 use Rattle.html_command.specs.Arguments.{ParsedArgs}
 use Rattle.html_command.specs.Dictionaries.{AreDictionariesFor, HasCodesOf, IsRefusedFor, code_of, tags_for}
-use Rattle.html_command.specs.Notes.{MarkedPage, note_at, note_on, notes_from}
+use Rattle.html_command.specs.Notes.{MarkedPage, note_at, note_on, note_told, notes_from}
 use Rattle.html_command.specs.Private.Requests.{parsed_options}
 use Rattle.html_command.specs.Private.Runs.{AreOf}
 use Rattle.html_command.specs.Written.{AreHyphenated, AreResults, AreTextsOfResults, IsFailureBefore, IsHyphenatedPage}
@@ -32,7 +32,7 @@ pub hyphenated_so : (options : Options) (bytes_of : KnownFiles) (usual : List (L
     → cut ≡ page → shown ≡ dictionaries → again ≡ dictionaries → HasCodesOf (parsed_options options) (map code_of dictionaries)
     → AreDictionariesFor bytes_of (parsed_options options) usual (tags_for (parsed_options options) cut) dictionaries
     → text ≡ marked_page options.settings shown options.language.now cut → IsPageWithMarks options.settings.mark.now cut text
-    → (options.settings.mark.now ≡ soft_hyphen → IsDone options.settings shown options.language.now cut text) → note ≡ note_on again options.language.now options.settings cut
+    → (options.settings.mark.now ≡ soft_hyphen → IsDone options.settings shown options.language.now cut text) → note ≡ note_told options.quiet (note_on again options.language.now options.settings cut)
     → IsHyphenatedPage (parsed_options options) bytes_of usual page (record { text = text; note = note })
 hyphenated_so options bytes_of usual page cut text why dictionaries shown again same are alike codes files marked kept twice noted = record {
   settings = options.settings;
@@ -44,7 +44,7 @@ hyphenated_so options bytes_of usual page cut text why dictionaries shown again 
   kept = subst (λ (p : List ℕ). IsPageWithMarks options.settings.mark.now p text) same kept;
   twice = λ soft. subst (λ (p : List ℕ). IsDone options.settings dictionaries options.language.now p text) same
       (subst (λ (ds : List LanguageDictionary). IsDone options.settings ds options.language.now cut text) are (twice soft));
-  noted = noted ∙ ap (λ ds. note_on ds options.language.now options.settings cut) alike ∙ ap (note_on dictionaries options.language.now options.settings) same;
+  noted = noted ∙ ap (note_told options.quiet) (ap (λ ds. note_on ds options.language.now options.settings cut) alike ∙ ap (note_on dictionaries options.language.now options.settings) same);
 }
 
 -- ---- results, one more
@@ -120,7 +120,7 @@ pub dictionary_fails : (args : ParsedArgs) (bytes_of : KnownFiles) (usual : List
 dictionary_fails args bytes_of usual left pages (failed.Dictionary path cause) read is = ((pages, read), is)
 dictionary_fails args bytes_of usual left pages failed.Memory read is = tt
 dictionary_fails args bytes_of usual left pages (failed.NoDictionary language) read is = absurd is.2
-dictionary_fails args bytes_of usual left pages (failed.Exceptions list refusal) read is = absurd is.2
+dictionary_fails args bytes_of usual left pages (failed.Exceptions list refusal) read is = ((pages, read), is)
 dictionary_fails args bytes_of usual left pages (failed.Refused input cause) read is = absurd is.2
 dictionary_fails args bytes_of usual left pages (failed.Reading input) read is = absurd is.2
 dictionary_fails args bytes_of usual left pages (failed.Writing output) read is = absurd is.2

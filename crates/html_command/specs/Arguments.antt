@@ -1,6 +1,7 @@
 -- How the program `hyphenate-html` reads its arguments.
 use Rattle.std.specs.Prelude.{ℕ, ◌+◌, ◌==◌, Bool, List, [], ◌∷◌, ◌++◌, codes, take, drop, if◌then◌else◌, Option, Some, None, option_and_then, position, is_some, Result, Ok, Err, unwrap_or}
 use Rattle.std.specs.Borrow.{Bor}
+use Rattle.command_line.specs.Adjustments.{Adjustments, adjustments_of}
 use Rattle.command_line.specs.Options.{GivenOption, ReadArguments, RefusedArgument, refused, after_step, read_arguments, is_given, last_value, values_of, number_given}
 use Rattle.command_line.specs.Usage.{options_in}
 use Rattle.command_line.specs.declared.options.Expected.TheVariants.{CodeAlone, CodeAndPath}
@@ -13,13 +14,14 @@ use Rattle.text_results.specs.Targets.{Target, target_of, names_for}
 use Rattle.html_command.specs.declared.TheConstants.{USAGE}
 
 -- The options: the codes of languages with the paths of their dictionaries; the folder in which others are searched, if one
--- is given; the language of text for which the page names none; the mark; the class of elements that are left alone; the
--- least number of characters of a word; whether words with a first capital are left alone; whether
--- no notes are written; where results go.
+-- is given; the language of text for which the page names none; the adjustments of dictionaries; the mark; the class of
+-- elements that are left alone; the least number of characters of a word; whether words with a first capital are left alone;
+-- whether no notes are written; where results go.
 pub record ParsedOptions : Type 0 where
   pub given : List (List ℕ × List ℕ)
   pub folder : Option (List ℕ)
   pub language : List ℕ
+  pub adjustments : Adjustments
   pub mark : List ℕ
   pub class : List ℕ
   pub min_word : ℕ
@@ -68,10 +70,11 @@ language_given given = language_or_refused (last_value (codes "--lang") given)
 -- refused decides, in this order.
 abbrev pub options_with : List (List ℕ × List ℕ) → List GivenOption → Result ParsedOptions RefusedArgument
 options_with dictionaries given =
-    after_step (λ language. after_step (λ min_word. after_step (λ target. Ok (record {
+    after_step (λ language. after_step (λ adjustments. after_step (λ min_word. after_step (λ target. Ok (record {
       given = dictionaries;
       folder = last_value (codes "--dictionaries") given;
       language = language;
+      adjustments = adjustments;
       mark = unwrap_or (last_value (codes "--mark") given) soft_hyphen;
       class = unwrap_or (last_value (codes "--class") given) (codes "donthyphenate");
       min_word = min_word;
@@ -81,6 +84,7 @@ options_with dictionaries given =
     }))
     (target_of given))
     (number_given (codes "--min-word") 0 65535 0 given))
+    (adjustments_of given))
     (language_given given)
 
 -- The dictionaries that options give, each by a `--dictionary`.

@@ -28,6 +28,10 @@ abbrev pub note_on : List LanguageDictionary → List ℕ → Settings → List 
 note_on [] language settings page = Some (why_none language (languages_of page))
 note_on (one ∷ more) language settings page = option_map (λ line. LeftAlone line) (unread_line settings language page)
 
+-- The note that a page gets: none where the arguments ask for none.
+abbrev pub note_told : Bool → Option Note → Option Note
+note_told quiet note = if quiet then None else note
+
 -- The note on the page of a number, if there is one.
 abbrev pub note_at : ℕ → Option Note → List PageNote
 note_at page None = []
@@ -66,7 +70,3 @@ note_line program names note = line_on program (slice_index_or names note.page [
 -- All notes, each in its line.
 abbrev pub notes_text : List ℕ → List (List ℕ) → List PageNote → List ℕ
 notes_text program names notes = flat_map (note_line program names) notes
-
--- The notes that are told: all, each in its line, or none where the arguments ask for none.
-abbrev pub notes_told : List ℕ → Bool → List (List ℕ) → List PageNote → List ℕ
-notes_told program quiet names notes = if quiet then [] else notes_text program names notes

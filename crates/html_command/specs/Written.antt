@@ -21,7 +21,7 @@ use Rattle.text_results.specs.Texts.{IsFailureAmong}
 use Rattle.text_results.specs.Written.{EndsFailed, EndsRefused, WritesResults}
 use Rattle.html_command.specs.declared.TheConstants.{NAME, USAGE}
 use Rattle.html_command.specs.Arguments.{ParsedArgs, ParsedOptions, Task, Marks, Removes, parsed_args}
-use Rattle.html_command.specs.Notes.{MarkedPage, note_on, notes_of, notes_told, texts_of}
+use Rattle.html_command.specs.Notes.{MarkedPage, note_on, note_told, notes_of, notes_text, texts_of}
 use Rattle.html_command.specs.Dictionaries.{code_of, AreDictionariesFor, HasCodesOf, IsRefusedFor, tags_for}
 
 -- The text that the arguments ask for by `--help` or `--version`, if they do.
@@ -37,9 +37,10 @@ HasSettingsOf options settings = (settings.mark.now ≡ options.mark) × (settin
 
 -- The text of a result is the page with the mark at each break of its words, by some dictionaries. Their languages begin
 -- with those of the arguments. First come those of the paths that the arguments give. Then come those of the folders, for
--- the language of the arguments and for those that the page names. Without the marks it is the page, byte for byte. With
+-- the language of the arguments and for those that the page names. All have the adjustments of the arguments, and those of
+-- the folders before these the exceptions of their language. Without the marks it is the page, byte for byte. With
 -- soft hyphens it is done: read again as a page, it names the same languages and stays as it is. The note says why there is
--- no dictionary, or from which line on the page is left alone.
+-- no dictionary, or from which line on the page is left alone. With `--quiet` there is none.
 pub record IsHyphenatedPage (options : ParsedOptions) (bytes_of : KnownFiles) (usual : List (List ℕ)) (page : List ℕ) (result : MarkedPage) : Type 0 where
   pub settings : Settings
   pub dictionaries : List LanguageDictionary
@@ -49,7 +50,7 @@ pub record IsHyphenatedPage (options : ParsedOptions) (bytes_of : KnownFiles) (u
   pub marked : result.text ≡ marked_page settings dictionaries options.language page
   pub kept : IsPageWithMarks options.mark page result.text
   pub twice : options.mark ≡ soft_hyphen → IsDone settings dictionaries options.language page result.text
-  pub noted : result.note ≡ note_on dictionaries options.language settings page
+  pub noted : result.note ≡ note_told options.quiet (note_on dictionaries options.language settings page)
 
 -- Each of some pages has its result.
 abbrev pub AreHyphenated : ParsedOptions → KnownFiles → List (List ℕ) → List (List ℕ) → List MarkedPage → Type 0
@@ -67,7 +68,8 @@ AreTextsOfResults args bytes_of usual left texts =
 
 -- ---- failures
 
--- The program fails so before it writes: a page is not read; or all are, and a dictionary is refused; or memory was refused.
+-- The program fails so before it writes: a page is not read; or all are, and a dictionary or a list of exceptions is refused;
+-- or memory was refused.
 abbrev pub IsFailureBefore : ParsedArgs → KnownFiles → List (List ℕ) → Option (List ℕ) → Failure → Type 0
 IsFailureBefore args bytes_of usual left (failed.Refused input cause) =
     IsFailureAmong bytes_of left args.inputs (failed.Refused input cause)
@@ -76,18 +78,20 @@ IsFailureBefore args bytes_of usual left (failed.Reading input) =
 IsFailureBefore args bytes_of usual left (failed.Dictionary path cause) =
     ((pages : List (List ℕ)) × AreTextsOf bytes_of left args.inputs pages)
     × IsRefusedFor bytes_of args.options usual (failed.Dictionary path cause)
+IsFailureBefore args bytes_of usual left (failed.Exceptions list refusal) =
+    ((pages : List (List ℕ)) × AreTextsOf bytes_of left args.inputs pages)
+    × IsRefusedFor bytes_of args.options usual (failed.Exceptions list refusal)
 IsFailureBefore args bytes_of usual left failed.Memory = ⊤
 IsFailureBefore args bytes_of usual left _ = ⊥
 
 -- ---- how the program ends
 
--- The program is done: the texts of its results were written, and these are exactly the notes on its pages, each in its line,
--- or none with `--quiet`.
+-- The program is done: the texts of its results were written, and these are exactly the notes on its pages, each in its line.
 abbrev pub EndsNoted : {W S : Type 0} → ParsedArgs → KnownFiles → List (List ℕ) → Option (List ℕ)
     → (W → Option (List ℕ)) → W → W → (S → Option WrittenFiles) → S → S → List ℕ → Type 0
 EndsNoted args bytes_of usual left contents old new written old_files new_files notes =
     (results : List MarkedPage) × AreResults args bytes_of usual left results
-    × (notes ≡ notes_told NAME.now args.options.quiet args.inputs (notes_of results))
+    × (notes ≡ notes_text NAME.now args.inputs (notes_of results))
     × WritesResults (λ texts. texts ≡ texts_of results) args.options.target args.inputs contents old new
     written old_files new_files
 

@@ -4,25 +4,24 @@
 ghost use Rattle.std.specs.Prelude.{◌≡◌, ◌≤◌, ◌∷◌, ◌++◌, [], IfErr, IfOk, IfSome, OnOk, map, length, take, drop, position};
 ghost use Rattle.hyphenation_breaks.specs.Borrowed.{texts_now};
 ghost use Rattle.std.specs.List.{list_any};
-ghost use Rattle.std.specs.Option.{option_map};
 ghost use Rattle.std.specs.Str.{bytes_eq};
 ghost use Rattle.html_pieces.specs.Languages.{languages_of};
-ghost use Rattle.language_search.specs.Paths.{paths_of_code};
 ghost use Rattle.language_search.specs.Tags.{codes_of};
 ghost use Rattle.html_command.specs.Dictionaries.{code_of, BeginsWith, HasCodesOf, AreGiven, AddsFound, AreDictionariesFor};
-ghost use Rattle.html_command.specs.Dictionaries.{IsFoundFor, IsServed, AreServed, folders_for, tags_for};
-ghost use Rattle.html_command.specs.Private.Found.{codes_with, AddsFoundFor, AreFirst, AreLoaded, Takes};
+ghost use Rattle.html_command.specs.Dictionaries.{IsAt, IsFoundFor, IsServed, AreServed, tags_for};
+ghost use Rattle.html_command.specs.Private.Found.{codes_with, AddsFoundFor, AreFirst, AreLoaded, IsFirstFound, Takes};
 ghost use Rattle.html_command.specs.Private.Requests.{parsed_dictionary, parsed_options};
-ghost use Rattle.html_command.specs.Private.Runs.{FailsOver, IsRefusedFound};
-ghost use Rattle.command_line.specs.Dictionaries.{IsOfFirst, IsRefusedAmong};
+ghost use Rattle.html_command.specs.Private.Runs.{AreFirstBy, FailsOver, IsRefusedAt, IsRefusedFound, IsRefusedGiven};
+ghost use Rattle.command_line.specs.Adjustments.{as_adjustments};
 
 use crate::request::{GivenDictionary, Options};
 use any_dictionary::AnyDictionary;
+use command_line::adjustments::{Adjustments, adjust};
 use command_line::dictionaries::{load_file, load_first};
 use command_line::{Failure, NamedFiles};
 use hyphenation_breaks::language::Language;
 use hyphenation_html::{HtmlPage, LanguageDictionary};
-use language_search::{codes_of, paths_of_code};
+use language_search::{codes_of, exception_paths_of_code, paths_of_code};
 use std::alloc::{AllocError, Global};
 
 // A dictionary with the code of its language.
@@ -47,20 +46,38 @@ fn push(all: &mut Vec<LanguageDictionary>, language: LanguageDictionary) -> Resu
     Ok(())
 }
 
-/// Returns the dictionaries that the arguments give, in their order.
+// Loads the dictionary at a path, with adjustments.
+#[tactic(auto, using(crate::proofs::Refused::at_path))]
+fn load_at<F: NamedFiles>(
+    files: &F,
+    alloc: Global,
+    path: &str,
+    adjustments: &Adjustments<'_>,
+) -> Result<AnyDictionary, Failure>
+    ensures loaded { IfOk result (IsAt (F.bytes files.now) (as_adjustments adjustments.now) path.now) }
+    ensures failure { IfErr result (IsRefusedAt (F.bytes files.now) (as_adjustments adjustments.now) path.now) }
+{
+    let dictionary = load_file(files, alloc, path)?;
+    let no_lists = Vec::new(alloc);
+    adjust(files, alloc, &no_lists, adjustments, dictionary)
+}
+
+/// Returns the dictionaries that the arguments give, in their order, with adjustments.
 #[tactic(auto, using(crate::proofs::Refused::given_is_refused))]
 pub(crate) fn load_given<F: NamedFiles>(
     files: &F,
     alloc: Global,
     given: &[GivenDictionary<'_>],
+    adjustments: &Adjustments<'_>,
 ) -> Result<Vec<LanguageDictionary>, Failure>
-    ensures given { IfOk result (λ all. AreGiven (F.bytes files.now) (map parsed_dictionary given.now) all.items) }
-    ensures failure { IfErr result
-        (IsRefusedAmong (F.bytes files.now) (map (λ one. one.path.now) given.now)) }
+    ensures given { IfOk result (λ all. AreGiven (F.bytes files.now) (as_adjustments adjustments.now)
+        (map parsed_dictionary given.now) all.items) }
+    ensures failure { IfErr result (IsRefusedGiven (F.bytes files.now) (as_adjustments adjustments.now)
+        (map (λ one. one.path.now) given.now)) }
 {
     let mut all = Vec::new(alloc);
     for one in given {
-        let dictionary = load_file(files, alloc, one.path)?;
+        let dictionary = load_at(files, alloc, one.path, adjustments)?;
         let language = with_code(alloc, one.language.code(), dictionary)?;
         push(&mut all, language)?;
     }
@@ -90,47 +107,54 @@ fn take_code(others: &mut Vec<LanguageDictionary>, code: &str) -> Option<Languag
     Some(others.remove(place))
 }
 
-// Loads the dictionary of a code, from the folders.
+// Loads the dictionary of a code, from the folders, with the exceptions of its language and with adjustments.
 #[tactic(auto, using(crate::proofs::Refused::found_is_refused))]
 fn load_code<F: NamedFiles>(
     files: &F,
     alloc: Global,
     folders: &[&str],
+    adjustments: &Adjustments<'_>,
     language: &Language,
 ) -> Result<Option<LanguageDictionary>, Failure>
-    ensures first { IfOk result (λ found. IsOfFirst (F.bytes files.now) (paths_of_code (texts_now folders.now) language.now)
-        (option_map (λ one. one.dictionary) found)) }
+    ensures first { IfOk result (IsFirstFound (F.bytes files.now) (texts_now folders.now)
+        (as_adjustments adjustments.now) language.now) }
     ensures code { IfOk result (λ found. IfSome found (λ one. code_of one ≡ language.now)) }
-    ensures failure { IfErr result (IsRefusedFound (F.bytes files.now) (texts_now folders.now)) }
+    ensures failure { IfErr result (IsRefusedFound (F.bytes files.now) (texts_now folders.now)
+        (as_adjustments adjustments.now)) }
 {
     language.invariant();
     let paths = paths_of_code(alloc, folders, language)?;
-    let Some(dictionary) = load_first(files, alloc, &paths)? else {
+    let Some(named) = load_first(files, alloc, &paths)? else {
         return Ok(None);
     };
+    let lists = exception_paths_of_code(alloc, folders, language)?;
+    let dictionary = adjust(files, alloc, &lists, adjustments, named)?;
     Ok(Some(with_code(alloc, language.code(), dictionary)?))
 }
 
 // Returns the dictionary of a code, which is one of the others or else is loaded.
-#[tactic(auto, using(crate::proofs::Loaded::first_left, crate::proofs::Loaded::first_taken))]
 fn find_code<F: NamedFiles>(
     files: &F,
     alloc: Global,
     folders: &[&str],
+    adjustments: &Adjustments<'_>,
     language: &Language,
     others: &mut Vec<LanguageDictionary>,
 ) -> Result<Option<LanguageDictionary>, Failure>
-    requires { AreFirst (F.bytes files.now) (texts_now folders.now) others.old.items }
-    ensures first { IfOk result (λ found. IsOfFirst (F.bytes files.now) (paths_of_code (texts_now folders.now) language.now)
-        (option_map (λ one. one.dictionary) found)) }
+    requires { AreFirst (F.bytes files.now) (texts_now folders.now)
+        (as_adjustments adjustments.now) others.old.items }
+    ensures first { IfOk result (IsFirstFound (F.bytes files.now) (texts_now folders.now)
+        (as_adjustments adjustments.now) language.now) }
     ensures code { IfOk result (λ found. IfSome found (λ one. code_of one ≡ language.now)) }
-    ensures others { OnOk result (AreFirst (F.bytes files.now) (texts_now folders.now) others.new.items) }
-    ensures failure { IfErr result (IsRefusedFound (F.bytes files.now) (texts_now folders.now)) }
+    ensures others { OnOk result (AreFirst (F.bytes files.now) (texts_now folders.now)
+        (as_adjustments adjustments.now) others.new.items) }
+    ensures failure { IfErr result (IsRefusedFound (F.bytes files.now) (texts_now folders.now)
+        (as_adjustments adjustments.now)) }
 {
     if let Some(found) = take_code(others, language.code()) {
         return Ok(Some(found));
     }
-    load_code(files, alloc, folders, language)
+    load_code(files, alloc, folders, adjustments, language)
 }
 
 // Returns the dictionary of a language, from the folders: that of the longest of its codes that has one. `None` if there is
@@ -139,23 +163,28 @@ fn find_language<F: NamedFiles>(
     files: &F,
     alloc: Global,
     folders: &[&str],
+    adjustments: &Adjustments<'_>,
     tag: &str,
     all: &[LanguageDictionary],
     others: &mut Vec<LanguageDictionary>,
 ) -> Result<Option<LanguageDictionary>, Failure>
-    requires { AreFirst (F.bytes files.now) (texts_now folders.now) others.old.items }
-    ensures found { IfOk result (λ found. IfSome found (IsFoundFor (F.bytes files.now) (texts_now folders.now) tag.now)) }
+    requires { AreFirst (F.bytes files.now) (texts_now folders.now)
+        (as_adjustments adjustments.now) others.old.items }
+    ensures found { IfOk result (λ found. IfSome found (IsFoundFor (F.bytes files.now) (texts_now folders.now)
+        (as_adjustments adjustments.now) tag.now)) }
     ensures served { IfOk result (λ found. IsServed (F.bytes files.now) (texts_now folders.now) (codes_with all.now found)
         (codes_of tag.now)) }
-    ensures others { OnOk result (AreFirst (F.bytes files.now) (texts_now folders.now) others.new.items) }
-    ensures failure { IfErr result (IsRefusedFound (F.bytes files.now) (texts_now folders.now)) }
+    ensures others { OnOk result (AreFirst (F.bytes files.now) (texts_now folders.now)
+        (as_adjustments adjustments.now) others.new.items) }
+    ensures failure { IfErr result (IsRefusedFound (F.bytes files.now) (texts_now folders.now)
+        (as_adjustments adjustments.now)) }
 {
     let languages = codes_of(alloc, tag)?;
     for language in &languages {
         if has_code(all, language.code()) {
             return Ok(None);
         }
-        if let Some(found) = find_code(files, alloc, folders, language, others)? {
+        if let Some(found) = find_code(files, alloc, folders, adjustments, language, others)? {
             return Ok(Some(found));
         }
     }
@@ -168,18 +197,23 @@ fn add_found<F: NamedFiles>(
     files: &F,
     alloc: Global,
     folders: &[&str],
+    adjustments: &Adjustments<'_>,
     tag: &str,
     all: &mut Vec<LanguageDictionary>,
     others: &mut Vec<LanguageDictionary>,
 ) -> Result<(), Failure>
-    requires { AreFirst (F.bytes files.now) (texts_now folders.now) others.old.items }
-    ensures found { OnOk result (AddsFoundFor (F.bytes files.now) (texts_now folders.now) tag.now all.old.items all.new.items) }
+    requires { AreFirst (F.bytes files.now) (texts_now folders.now)
+        (as_adjustments adjustments.now) others.old.items }
+    ensures found { OnOk result (AddsFoundFor (F.bytes files.now) (texts_now folders.now)
+        (as_adjustments adjustments.now) tag.now all.old.items all.new.items) }
     ensures served { OnOk result (IsServed (F.bytes files.now) (texts_now folders.now) (map code_of all.new.items)
         (codes_of tag.now)) }
-    ensures others { OnOk result (AreFirst (F.bytes files.now) (texts_now folders.now) others.new.items) }
-    ensures failure { IfErr result (IsRefusedFound (F.bytes files.now) (texts_now folders.now)) }
+    ensures others { OnOk result (AreFirst (F.bytes files.now) (texts_now folders.now)
+        (as_adjustments adjustments.now) others.new.items) }
+    ensures failure { IfErr result (IsRefusedFound (F.bytes files.now) (texts_now folders.now)
+        (as_adjustments adjustments.now)) }
 {
-    let Some(language) = find_language(files, alloc, folders, tag, all, others)? else {
+    let Some(language) = find_language(files, alloc, folders, adjustments, tag, all, others)? else {
         return Ok(());
     };
     push(all, language)?;
@@ -191,24 +225,29 @@ fn add_named<F: NamedFiles>(
     files: &F,
     alloc: Global,
     folders: &[&str],
+    adjustments: &Adjustments<'_>,
     language: &str,
     page: &HtmlPage<'_>,
     all: &mut Vec<LanguageDictionary>,
     others: &mut Vec<LanguageDictionary>,
 ) -> Result<(), Failure>
-    requires { AreFirst (F.bytes files.now) (texts_now folders.now) others.old.items }
+    requires { AreFirst (F.bytes files.now) (texts_now folders.now)
+        (as_adjustments adjustments.now) others.old.items }
     ensures added { OnOk result (BeginsWith (map code_of all.new.items) (map code_of all.old.items)) }
-    ensures found { OnOk result (AddsFound (F.bytes files.now) (texts_now folders.now) (language.now ∷ languages_of page.now)
+    ensures found { OnOk result (AddsFound (F.bytes files.now) (texts_now folders.now)
+        (as_adjustments adjustments.now) (language.now ∷ languages_of page.now)
         all.old.items all.new.items) }
     ensures served { OnOk result (AreServed (F.bytes files.now) (texts_now folders.now) (map code_of all.new.items)
         (language.now ∷ languages_of page.now)) }
-    ensures others { OnOk result (AreFirst (F.bytes files.now) (texts_now folders.now) others.new.items) }
-    ensures failure { IfErr result (IsRefusedFound (F.bytes files.now) (texts_now folders.now)) }
+    ensures others { OnOk result (AreFirst (F.bytes files.now) (texts_now folders.now)
+        (as_adjustments adjustments.now) others.new.items) }
+    ensures failure { IfErr result (IsRefusedFound (F.bytes files.now) (texts_now folders.now)
+        (as_adjustments adjustments.now)) }
 {
     let languages = page.languages(alloc)?;
-    add_found(files, alloc, folders, language, all, others)?;
+    add_found(files, alloc, folders, adjustments, language, all, others)?;
     for named in &languages {
-        add_found(files, alloc, folders, named, all, others)?;
+        add_found(files, alloc, folders, adjustments, named, all, others)?;
     }
     Ok(())
 }
@@ -224,23 +263,40 @@ fn add_searched<F: NamedFiles>(
     all: &mut Vec<LanguageDictionary>,
     others: &mut Vec<LanguageDictionary>,
 ) -> Result<(), Failure>
-    requires given { AreGiven (F.bytes files.now) (parsed_options options.now).given all.old.items }
-    requires others { AreFirst (F.bytes files.now) (folders_for (parsed_options options.now) (texts_now folders.now))
-        others.old.items }
+    requires given { AreGiven (F.bytes files.now) (parsed_options options.now).adjustments (parsed_options options.now).given
+        all.old.items }
+    requires others { AreFirstBy options.now (F.bytes files.now) folders.now others.old.items }
     ensures codes { OnOk result (HasCodesOf (parsed_options options.now) (map code_of all.new.items)) }
     ensures dictionaries { OnOk result (AreDictionariesFor (F.bytes files.now) (parsed_options options.now)
         (texts_now folders.now) (tags_for (parsed_options options.now) page.now) all.new.items) }
-    ensures others { OnOk result (AreFirst (F.bytes files.now)
-        (folders_for (parsed_options options.now) (texts_now folders.now)) others.new.items) }
+    ensures others { OnOk result (AreFirstBy options.now (F.bytes files.now) folders.now others.new.items) }
     ensures failure { IfErr result (FailsOver options.now (F.bytes files.now) folders.now) }
 {
     let language = options.language;
     if let Some(folder) = options.folder {
-        add_named(files, alloc, &[folder], language, page, all, others)?;
+        add_named(
+            files,
+            alloc,
+            &[folder],
+            &options.adjustments,
+            language,
+            page,
+            all,
+            others,
+        )?;
         return Ok(());
     }
     if options.given.is_empty() {
-        add_named(files, alloc, folders, language, page, all, others)?;
+        add_named(
+            files,
+            alloc,
+            folders,
+            &options.adjustments,
+            language,
+            page,
+            all,
+            others,
+        )?;
         return Ok(());
     }
     Ok(())

@@ -52,6 +52,9 @@ Writes HTML or XHTML pages with soft hyphens in the words of their text.
   --dictionary CODE=PATH  the dictionary of a language, once for each. Without
                           it, those that hyphenate-languages made
   --dictionaries FOLDER   the folder in which these are
+  --exceptions FILE       words of your own, with hyphens where they may break
+  --left N                at least N characters before the first break of a word
+  --right N               at least N characters after its last break
   --mark MARK             in place of the soft hyphen
   --class CLASS           elements of this class are left alone, in place of
                           those of the class donthyphenate
@@ -86,9 +89,7 @@ impl<'w> Notes for Noted<'w> {
     fn tell<E: Write>(&self, alloc: Global, errors: &mut Messages<E>) {
         match self {
             Noted::Marked { request, notes } => {
-                if !request.options.quiet {
-                    write_notes(alloc, NAME, &request.inputs, notes, errors);
-                }
+                write_notes(alloc, NAME, &request.inputs, notes, errors);
             }
             Noted::Removed => {}
         }
@@ -162,7 +163,7 @@ impl<'w, F: NamedFiles, S: ReplaceFiles, I: Read, O: Write> ProgramSteps<S, I, O
 /// |---|---|
 /// | 0 | it is done |
 /// | 2 | an argument is refused |
-/// | 3 | a dictionary can't be opened, read or accepted |
+/// | 3 | a dictionary or a list of exceptions can't be opened, read or accepted |
 /// | 4 | a page is not UTF-8 |
 /// | 5 | a page can't be read, or a result can't be written |
 /// | 6 | memory was refused |

@@ -10,6 +10,7 @@ ghost use Rattle.html_command.specs.Private.Requests.{parsed_dictionary, parsed_
 ghost use Rattle.text_results.specs.Reading.{parsed_removal};
 
 use crate::USAGE;
+use command_line::adjustments::Adjustments;
 use command_line::options::{Arguments, BadArgument, Expected, ReadError, read};
 use hyphenation_breaks::language::Language;
 use hyphenation_html::Settings;
@@ -35,6 +36,8 @@ pub struct Options<'w> {
     pub folder: Option<&'w str>,
     /// The language of text for which the page names none; empty if it has none.
     pub language: &'w str,
+    /// The adjustments of dictionaries.
+    pub adjustments: Adjustments<'w>,
     /// The mark, and which words are left alone.
     pub settings: Settings<'w>,
     /// Whether no notes are written.
@@ -144,6 +147,7 @@ fn options_with<'w>(
     ensures { AreAsWanted result (options_with (map parsed_dictionary given.entry.items) (given_options arguments.now)) }
 {
     let language = language_given(arguments)?;
+    let adjustments = Adjustments::from_arguments(arguments)?;
     let min_word = arguments.number("--min-word", 0, 65535, 0)?;
     let target = target_of(arguments)?;
     let usual = Settings::new();
@@ -151,6 +155,7 @@ fn options_with<'w>(
         given,
         folder: arguments.last("--dictionaries"),
         language,
+        adjustments,
         settings: Settings {
             mark: arguments.last("--mark").unwrap_or(usual.mark),
             class: arguments.last("--class").unwrap_or(usual.class),

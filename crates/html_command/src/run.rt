@@ -6,20 +6,20 @@ ghost use Rattle.std.specs.String.{string_bytes};
 ghost use Rattle.command_line.specs.Inputs.{is_standard_input};
 ghost use Rattle.hyphenation_breaks.specs.Borrowed.{texts_now};
 ghost use Rattle.html_command.specs.Private.Runs.{AreLoadedBy, AreResultsBy, FailsBefore, FailsOver, HasResults, IsResultBy};
-ghost use Rattle.html_command.specs.Private.Runs.{IsFailureOfRequest, WritesRequest};
+ghost use Rattle.html_command.specs.Private.Runs.{IsFailureOfRequest, IsNoteBy, WritesRequest};
 
 use crate::dictionaries::{load_for_page, load_given};
 use crate::notes::{Note, PageNote, note_on, push_note};
 use crate::request::{Options, Request};
 use command_line::{Failure, NamedFiles};
 use hyphenation_html::{HtmlPage, LanguageDictionary, hyphenate_html};
-use std::alloc::Global;
+use std::alloc::{AllocError, Global};
 use std::io::{Read, Write};
 use text_results::files::ReplaceFiles;
 use text_results::results::write_results;
 use text_results::texts::{push, read_texts};
 
-// A page with its marks, and a note if no dictionary served it, or it is not read to its end.
+// A page with its marks, and a note if no dictionary served it, or it is not read to its end, unless none is asked for.
 #[derive(Drop)]
 struct Marked {
     text: String,
@@ -31,6 +31,27 @@ struct Marked {
 struct Results {
     texts: Vec<String>,
     notes: Vec<PageNote>,
+}
+
+// Returns the note on a page. Where the options ask for none, the page is not read for it.
+fn note_for(
+    alloc: Global,
+    options: &Options<'_>,
+    dictionaries: &[LanguageDictionary],
+    page: &HtmlPage<'_>,
+) -> Result<Option<Note>, AllocError>
+    ensures { IfOk result (IsNoteBy options.now dictionaries.now page.now) }
+{
+    if options.quiet {
+        return Ok(None);
+    }
+    note_on(
+        alloc,
+        dictionaries,
+        options.language,
+        &options.settings,
+        page,
+    )
 }
 
 // Returns the result of a page. The dictionaries of the page before become its own, and all that are loaded are kept.
@@ -52,7 +73,7 @@ fn result_of<F: NamedFiles>(
     let cut = HtmlPage::new(alloc, page)?;
     load_for_page(files, alloc, options, folders, &cut, all, others)?;
     let text = hyphenate_html(alloc, all, options.language, &options.settings, &cut)?;
-    let note = note_on(alloc, all, options.language, &options.settings, &cut)?;
+    let note = note_for(alloc, options, all, &cut)?;
     Ok(Marked { text, note })
 }
 
@@ -69,7 +90,7 @@ fn results_of_pages<F: NamedFiles>(
         AreResultsBy options.now (F.bytes files.now) folders.now pages.now results.texts.items results.notes.items) }
     ensures failure { IfErr result (FailsOver options.now (F.bytes files.now) folders.now) }
 {
-    let mut all = load_given(files, alloc, &options.given)?;
+    let mut all = load_given(files, alloc, &options.given, &options.adjustments)?;
     let mut others = Vec::new(alloc);
     let mut texts = Vec::new(alloc);
     let mut notes = Vec::new(alloc);

@@ -1,12 +1,13 @@
 -- How a request in code corresponds to parsed arguments.
 use Rattle.std.specs.Prelude.{◌≡◌, ℕ, List, [], map, option_copied, Result, Ok, Err}
 use Rattle.hyphenation_breaks.specs.Borrowed.{texts_now}
+use Rattle.command_line.specs.Adjustments.{as_adjustments}
 use Rattle.command_line.specs.Options.{RefusedArgument}
 use Rattle.command_line.specs.Reading.{as_refused}
 use Rattle.command_line.specs.declared.options.BadArgument.{BadArgument}
 use Rattle.text_results.specs.Reading.{as_target, parsed_removal}
 use Rattle.html_command.specs.Arguments.{ParsedArgs, ParsedOptions, Task, Marks, Removes}
-use Rattle.html_command.specs.Notes.{notes_told}
+use Rattle.html_command.specs.Notes.{notes_text}
 use Rattle.html_command.specs.declared.Noted.{Noted}
 use Rattle.html_command.specs.declared.Noted.TheVariants.{Marked, Removed}
 use Rattle.html_command.specs.declared.TheConstants.{NAME}
@@ -26,6 +27,7 @@ parsed_options options = record {
   given = map parsed_dictionary options.given.items;
   folder = option_copied options.folder;
   language = options.language.now;
+  adjustments = as_adjustments options.adjustments;
   mark = options.settings.mark.now;
   class = options.settings.class.now;
   min_word = options.settings.min_word;
@@ -45,7 +47,7 @@ parsed_task (Remove removal) = Removes (parsed_removal removal)
 
 -- The text of the notes of a task that is done.
 abbrev pub noted_text : Noted → List ℕ
-noted_text (Marked request notes) = notes_told NAME.now request.options.quiet (texts_now request.inputs.items) notes.items
+noted_text (Marked request notes) = notes_text NAME.now (texts_now request.inputs.items) notes.items
 noted_text Removed = []
 
 -- Options are as wanted, or the wanted refusal.

@@ -1,9 +1,11 @@
 -- The steps of a run.
-use Rattle.std.specs.Prelude.{◌≡◌, ℕ, List, map, Option, ⊤}
+use Rattle.std.specs.Prelude.{◌≡◌, ℕ, List, [], map, Option, ⊤}
 use Rattle.std.specs.Borrow.{Bor}
 use Rattle.std.specs.String.{string_bytes}
 use Rattle.std.specs.declared.string.String.{String}
-use Rattle.command_line.specs.Dictionaries.{KnownFiles, IsRefusedAmong}
+use Rattle.any_dictionary.specs.declared.AnyDictionary.{AnyDictionary}
+use Rattle.command_line.specs.Adjustments.{Adjustments, IsFailureOfAdjusting, as_adjustments}
+use Rattle.command_line.specs.Dictionaries.{KnownFiles, IsOfFile, IsRefusedAmong, IsRefusedFile}
 use Rattle.command_line.specs.declared.failure.Failure.{Failure}
 use Rattle.command_line.specs.declared.failure.Failure.TheVariants as failed
 use Rattle.hyphenation_breaks.specs.Borrowed.{texts_now}
@@ -13,29 +15,53 @@ use Rattle.language_search.specs.Paths.{paths_of_code}
 use Rattle.text_results.specs.Files.{WrittenFiles}
 use Rattle.text_results.specs.Written.{WritesResults, IsFailureFor}
 use Rattle.html_command.specs.Arguments.{ParsedArgs}
-use Rattle.html_command.specs.Dictionaries.{IsRefusedFor}
-use Rattle.html_command.specs.Private.Found.{AreLoaded}
+use Rattle.html_command.specs.Dictionaries.{IsFailureOfFound, IsFailureOfGiven, IsRefusedFor, folders_for}
+use Rattle.html_command.specs.Private.Found.{AreFirst, AreLoaded}
 use Rattle.html_command.specs.Private.Requests.{parsed_options, parsed_request}
-use Rattle.html_command.specs.Notes.{MarkedPage, notes_of, texts_of}
+use Rattle.html_command.specs.Notes.{MarkedPage, note_on, note_told, notes_of, texts_of}
 use Rattle.html_command.specs.Written.{AreHyphenated, AreResults, AreTextsOfResults, IsFailureBefore, IsHyphenatedPage}
 use Rattle.html_command.specs.declared.notes.Note.{Note}
 use Rattle.html_command.specs.declared.notes.PageNote.{PageNote}
 use Rattle.html_command.specs.declared.request.Options.{Options}
 use Rattle.html_command.specs.declared.request.Request.{Request}
 
--- One of the dictionaries that folders have for codes of languages is refused so, or memory was.
-abbrev pub IsRefusedFound : KnownFiles → List (List ℕ) → Failure → Type 0
-IsRefusedFound bytes_of folders failed.Memory = ⊤
-IsRefusedFound bytes_of folders failure =
+-- The dictionary at a path is refused so, or a list that it gets, or memory was.
+abbrev pub IsRefusedAt : KnownFiles → Adjustments → List ℕ → Failure → Type 0
+IsRefusedAt bytes_of adjustments path (failed.Exceptions list refusal) = (named : AnyDictionary)
+    × IsOfFile (bytes_of path) named × IsFailureOfAdjusting bytes_of [] adjustments named (failed.Exceptions list refusal)
+IsRefusedAt bytes_of adjustments path failure = IsRefusedFile (bytes_of path) path failure
+
+-- One of the dictionaries at some paths is refused so, or a list that it gets, or memory was.
+abbrev pub IsRefusedGiven : KnownFiles → Adjustments → List (List ℕ) → Failure → Type 0
+IsRefusedGiven bytes_of adjustments paths (failed.Exceptions list refusal) =
+    IsFailureOfGiven bytes_of adjustments paths (failed.Exceptions list refusal)
+IsRefusedGiven bytes_of adjustments paths failure = IsRefusedAmong bytes_of paths failure
+
+-- One of the dictionaries that folders have for codes of languages is refused so, or a list that it gets, or memory was.
+abbrev pub IsRefusedFound : KnownFiles → List (List ℕ) → Adjustments → Failure → Type 0
+IsRefusedFound bytes_of folders adjustments failed.Memory = ⊤
+IsRefusedFound bytes_of folders adjustments (failed.Exceptions list refusal) =
+    IsFailureOfFound bytes_of folders adjustments (failed.Exceptions list refusal)
+IsRefusedFound bytes_of folders adjustments failure =
     (code : List ℕ) × IsCode code × IsRefusedAmong bytes_of (paths_of_code folders code) failure
 
 -- The dictionaries of options fail so.
 abbrev pub FailsOver : Options → KnownFiles → List (Bor (List ℕ)) → Failure → Type 0
 FailsOver options bytes_of folders = IsRefusedFor bytes_of (parsed_options options) (texts_now folders)
 
+-- These dictionaries are the first that the folders of these options have.
+abbrev pub AreFirstBy : Options → KnownFiles → List (Bor (List ℕ)) → List LanguageDictionary → Type 0
+AreFirstBy options bytes_of folders =
+    AreFirst bytes_of (folders_for (parsed_options options) (texts_now folders)) (as_adjustments options.adjustments)
+
 -- The dictionaries of a page of a run with these options, and others that are loaded.
 abbrev pub AreLoadedBy : Options → KnownFiles → List (Bor (List ℕ)) → List LanguageDictionary → List LanguageDictionary → Type 0
 AreLoadedBy options bytes_of folders = AreLoaded bytes_of (parsed_options options) (texts_now folders)
+
+-- This is the note that a page with these dictionaries gets.
+abbrev pub IsNoteBy : Options → List LanguageDictionary → List ℕ → Option Note → Type 0
+IsNoteBy options dictionaries page note =
+    note ≡ note_told options.quiet (note_on dictionaries options.language.now options.settings page)
 
 -- This string with this note is the result of a page.
 abbrev pub IsResultBy : {Z : Type 0} → Options → KnownFiles → List (Bor (List ℕ)) → List ℕ → String Z → Option Note → Type 0

@@ -15,13 +15,13 @@ returns-in-Some-clause-codes g c =
     with_folder (parsed_options c.args.options.now) c.args.options.now.given.items
     (map code_of c.add_named.new.all.items) (map code_of c.args.all.now.items) c.in-Some.folder.now refl
     (ap (λ (folder : Option (Bor (List ℕ))). option_map (λ path. path.now) folder) c.in-Some.is)
-    (codes_of_given (g.F.NamedFiles.bytes c.args.files.now) c.args.options.now.given.items c.args.all.now.items c.requires.given)
+    (codes_of_given (g.F.NamedFiles.bytes c.args.files.now) (parsed_options c.args.options.now).adjustments c.args.options.now.given.items c.args.all.now.items c.requires.given)
     c.in_ok-add_named.ensures.added
 
 pub returns-clause-codes : goal.returns-clause-codes
 returns-clause-codes g c =
     given_alone (parsed_options c.args.options.now) c.args.options.now.given.items (map code_of c.args.all.now.items) refl
-    (codes_of_given (g.F.NamedFiles.bytes c.args.files.now) c.args.options.now.given.items c.args.all.now.items c.requires.given)
+    (codes_of_given (g.F.NamedFiles.bytes c.args.files.now) (parsed_options c.args.options.now).adjustments c.args.options.now.given.items c.args.all.now.items c.requires.given)
 
 pub returns-in-Some-clause-dictionaries : goal.returns-in-Some-clause-dictionaries
 returns-in-Some-clause-dictionaries g c =

@@ -1,4 +1,5 @@
 use Rattle.std.proofs.Common.{ℕ, List, drop}
+use Rattle.command_line.specs.Adjustments.{as_adjustments}
 use Rattle.hyphenation_breaks.specs.Borrowed.{texts_now}
 use Rattle.language_search.specs.Tags.{codes_of}
 use Rattle.html_command.specs.Dictionaries.{IsServed}
@@ -10,4 +11,4 @@ abbrev pub invariant-loop-language : goal.invariant-loop-language
 invariant-loop-language g l =
     ((there : List (List ℕ)) → IsServed (g.F.NamedFiles.bytes l.files) (texts_now l.folders) there (drop l.language-index l.language-items)
     → IsServed (g.F.NamedFiles.bytes l.files) (texts_now l.folders) there (codes_of l.tag))
-    × AreFirst (g.F.NamedFiles.bytes l.files) (texts_now l.folders) l.others.items
+    × AreFirst (g.F.NamedFiles.bytes l.files) (texts_now l.folders) (as_adjustments l.adjustments) l.others.items
