@@ -3,7 +3,7 @@
 use crate::support::dictionaries::load;
 use crate::support::expect;
 use any_dictionary::AnyDictionary;
-use hyphenation_load::Load;
+use hyphenation::Load;
 use std::alloc::Global;
 use std::test::Fail;
 

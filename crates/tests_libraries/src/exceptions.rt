@@ -2,10 +2,10 @@
 
 use crate::support::dictionaries::{FIRKIN, extended, load};
 use crate::support::{expect, expect_equal, expect_equal_in};
-use hyphenation_dictionary::dictionary::{Extended, Standard};
-use hyphenation_hyphenator::hyphenator::Hyphenator;
-use hyphenation_segments::Word;
-use hyphenation_segments::iter::Iter;
+use hyphenation::Standard;
+use hyphenation::extended::Extended;
+use hyphenation::hyphenator::{Hyphenator, Word};
+use hyphenation::iter::Iter;
 use std::alloc::{AllocError, Global};
 use std::borrow::CowStr;
 use std::test::Fail;

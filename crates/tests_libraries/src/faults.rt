@@ -4,8 +4,8 @@
 use crate::support::dictionaries::AMERICAN;
 use crate::support::expect;
 use crate::support::io_errors::{BROKEN_PIPE, CONNECTION_RESET, INTERRUPTED, OUT_OF_MEMORY};
-use crate::support::readers::failing_once;
-use crate::support::writers::failing_at;
+use crate::support::readers::FailingReader;
+use crate::support::writers::FailingWriter;
 use hyphenation::Language;
 use hyphenation::engine::{Kind, Marking, RunError, run, run_score};
 use hyphenation::load::Error;
@@ -42,6 +42,17 @@ fn told(end: &Result<(), RunError>) -> End {
     }
 }
 
+// A reader of two bytes a read, of which only the read of this number fails, with this code.
+fn failing_once(left: &[u8], until: usize, code: i32) -> FailingReader<'_> {
+    FailingReader {
+        left,
+        most: 2,
+        until,
+        stays: false,
+        code,
+    }
+}
+
 // Whether a run ends so, and its writer takes these bytes. Reads give two bytes, and writes take one.
 fn ends_so(
     alloc: Global,
@@ -53,7 +64,11 @@ fn ends_so(
     let lang = Language::english_us();
     let mut dictionary = failing_once(AMERICAN.as_bytes(), faults.0, code);
     let mut input = failing_once(bytes, faults.1, code);
-    let mut output = failing_at(alloc, faults.2, code);
+    let mut output = FailingWriter {
+        until: faults.2,
+        code,
+        taken: Vec::new(alloc),
+    };
     let found = match task {
         Task::Text => {
             let marking = Marking {
@@ -106,25 +121,24 @@ const TASKS: [(&str, Task, &[u8]); 3] = [
     ("values", Task::Values, b"0 2 5 2 0\n"),
 ];
 
-// The faults after the one that is named first don't show.
+// Whether a run ends by the read of that number of the dictionary, and by that of the input where the task reads one. The faults
+// after that don't show.
+fn ends_by_read(alloc: Global, task: Task, number: usize, code: i32) -> bool {
+    let end = (end_of_read(code, "dictionary"), &b""[..]);
+    let by_dictionary = ends_so(alloc, task, NO_TEXT, ((number, 1, 1), code), end);
+    if matches!(task, Task::Values) {
+        return by_dictionary;
+    }
+    let end = (end_of_read(code, "input"), &b""[..]);
+    by_dictionary & ends_so(alloc, task, NO_TEXT, ((0, number, 1), code), end)
+}
+
 #[test]
 fn a_read_that_fails_ends_a_run_with_its_error(rt: HostRuntime) -> Result<(), Fail> {
-    let alloc = rt.alloc();
     for (shows, task, _) in &TASKS {
         for number in 1..=9 {
             for code in [CONNECTION_RESET, OUT_OF_MEMORY] {
-                let end = (end_of_read(code, "dictionary"), &b""[..]);
-                let faults = ((number, 1, 1), code);
-                expect(ends_so(alloc, *task, NO_TEXT, faults, end), shows)?;
-            }
-        }
-    }
-    for (shows, task, _) in &TASKS[..2] {
-        for number in 1..=9 {
-            for code in [CONNECTION_RESET, OUT_OF_MEMORY] {
-                let end = (end_of_read(code, "input"), &b""[..]);
-                let faults = ((0, number, 1), code);
-                expect(ends_so(alloc, *task, NO_TEXT, faults, end), shows)?;
+                expect(ends_by_read(rt.alloc(), *task, number, code), shows)?;
             }
         }
     }

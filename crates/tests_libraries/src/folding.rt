@@ -1,7 +1,7 @@
 //! Words in small letters, with the way back to the word as it is written.
 
 use crate::support::{expect, expect_equal, expect_equal_in};
-use hyphenation_hyphenator::case_folding::{Shift, realign, refold};
+use hyphenation::case_folding::{Shift, realign, refold};
 use std::alloc::{AllocError, Global};
 use std::borrow::CowStr;
 use std::test::Fail;

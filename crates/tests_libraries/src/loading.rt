@@ -2,16 +2,15 @@
 
 use crate::support::dictionaries::SMALLEST;
 use crate::support::files::new_file;
-use crate::support::io_errors::{CONNECTION_RESET, INTERRUPTED, OUT_OF_MEMORY, has_code, io_error};
-use crate::support::readers::{failing_from, failing_once};
+use crate::support::io_errors::{CONNECTION_RESET, INTERRUPTED, OUT_OF_MEMORY};
+use crate::support::readers::FailingReader;
 use crate::support::{expect_equal, expect_equal_in};
-use hyphenation_breaks::language::Language;
-use hyphenation_dictionary::dictionary::{Extended, Standard};
-use hyphenation_load::{Error, Load};
+use hyphenation::extended::Extended;
+use hyphenation::load::{Error, Load};
+use hyphenation::{Language, Standard};
 use std::alloc::Global;
 use std::fs::remove_file;
 use std::io;
-use std::io::Read;
 use std::test::Fail;
 
 // An extended text of 61 bytes.
@@ -33,58 +32,45 @@ fn end_of<D: Drop>(loaded: Result<D, Error>) -> &'static str {
         Err(Error::Memory(_)) => "no memory",
         Err(Error::Deserialization { .. }) => "refused",
         Err(Error::LanguageMismatch { .. }) => "another language",
-        Err(Error::IO(error)) if has_code(&error, CONNECTION_RESET) => "reset",
-        Err(Error::IO(error)) if has_code(&error, NO_FILE) => "no file",
-        Err(Error::IO(error)) if has_code(&error, FOLDER) => "a folder",
-        Err(Error::IO(_)) => "another error",
+        Err(Error::IO(error)) => {
+            match error.raw_os_error() {
+                Some(CONNECTION_RESET) => "reset",
+                Some(NO_FILE) => "no file",
+                Some(FOLDER) => "a folder",
+                _ => "another error",
+            }
+        }
     }
-}
-
-// How loading from a reader ends, in this language.
-fn end_from<D: Load + Drop, R: Read>(alloc: Global, code: &str, reader: &mut R) -> &'static str {
-    let language = Language::from_code(code).unwrap_or(Language::turkish());
-    end_of(D::from_reader(alloc, language, reader))
 }
 
 // A text, the code of its language, and the end of loading it where no read fails.
 type Row = (&'static [u8], &'static str, &'static str);
 
-// Fails unless loading from a reader of one byte a read, of which the read of a number and all later ones fail, ends so
-// for each number up to that of the read that finds the end. Nothing is read after that.
-fn expect_failing_from<D: Load + Drop>(
+// Fails unless loading a text ends so with `fails` for each number of a read that fails, up to that of the read that finds
+// the end. Nothing is read after that. Reads give at most so many bytes.
+fn expect_failing<D: Load + Drop>(
     alloc: Global,
     row: &Row,
+    (most, stays): (usize, bool),
     error: i32,
     fails: &'static str,
 ) -> Result<(), Fail> {
     let (text, code, whole) = *row;
-    let bytes = text.len().saturating_add(1);
-    for number in 1..=bytes.saturating_add(1) {
-        let wanted = if number <= bytes { fails } else { whole };
-        let end = end_from::<D, _>(alloc, code, &mut failing_from(text, number, error));
+    let language = Language::from_code(code).unwrap_or(Language::turkish());
+    for number in 1..=text.len().saturating_add(2) {
+        let mut reader = FailingReader {
+            left: text,
+            most,
+            until: number,
+            stays,
+            code: error,
+        };
+        let end = end_of(D::from_reader(alloc, language, &mut reader));
+        let is_reached = number.saturating_sub(1).saturating_mul(most)
+            < text.len().saturating_add(most);
+        let wanted = if is_reached { fails } else { whole };
         expect_equal_in(
-            format_args!("{whole} in {code}, read {number}"),
-            &end,
-            &wanted,
-        )?;
-    }
-    Ok(())
-}
-
-// Fails unless that is true of a reader of two bytes a read, of which only the read of a number fails.
-fn expect_failing_once<D: Load + Drop>(
-    alloc: Global,
-    row: &Row,
-    error: i32,
-    fails: &'static str,
-) -> Result<(), Fail> {
-    let (text, code, whole) = *row;
-    let reads = (text.len().saturating_add(1) / 2).saturating_add(1);
-    for number in 1..=reads.saturating_add(1) {
-        let wanted = if number <= reads { fails } else { whole };
-        let end = end_from::<D, _>(alloc, code, &mut failing_once(text, number, error));
-        expect_equal_in(
-            format_args!("{whole} in {code}, read {number}"),
+            format_args!("{whole} in {code}, {most} bytes a read, read {number}"),
             &end,
             &wanted,
         )?;
@@ -95,11 +81,11 @@ fn expect_failing_once<D: Load + Drop>(
 // Fails unless each read of a text may fail. An error comes before any line is judged, and an interrupted read is tried
 // again.
 fn expect_reads<D: Load + Drop>(alloc: Global, row: &Row) -> Result<(), Fail> {
-    expect_failing_from::<D>(alloc, row, CONNECTION_RESET, "reset")?;
-    expect_failing_from::<D>(alloc, row, OUT_OF_MEMORY, "no memory")?;
-    expect_failing_once::<D>(alloc, row, CONNECTION_RESET, "reset")?;
-    expect_failing_once::<D>(alloc, row, OUT_OF_MEMORY, "no memory")?;
-    expect_failing_once::<D>(alloc, row, INTERRUPTED, row.2)
+    expect_failing::<D>(alloc, row, (1, true), CONNECTION_RESET, "reset")?;
+    expect_failing::<D>(alloc, row, (1, true), OUT_OF_MEMORY, "no memory")?;
+    expect_failing::<D>(alloc, row, (2, false), CONNECTION_RESET, "reset")?;
+    expect_failing::<D>(alloc, row, (2, false), OUT_OF_MEMORY, "no memory")?;
+    expect_failing::<D>(alloc, row, (2, false), INTERRUPTED, row.2)
 }
 
 // Texts that are loaded as standard ones, and as extended ones.
@@ -128,7 +114,10 @@ fn the_error_of_a_read_is_passed_on(rt: HostRuntime) -> Result<(), Fail> {
     let denied = io::Error::new(io::ErrorKind::PermissionDenied, "the door is locked");
     let end = end_of(Standard::from_read(rt.alloc(), Err(denied)));
     expect_equal(&end, &"another error")?;
-    let end = end_of(Standard::from_read(rt.alloc(), Err(io_error(OUT_OF_MEMORY))));
+    let end = end_of(Standard::from_read(
+        rt.alloc(),
+        Err(io::Error::from_raw_os_error(OUT_OF_MEMORY)),
+    ));
     expect_equal(&end, &"no memory")
 }
 

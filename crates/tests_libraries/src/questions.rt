@@ -3,10 +3,9 @@
 use crate::questions::Question::{Allowed, Exception, Listed, Opportunities};
 use crate::support::dictionaries::extended;
 use crate::support::expect;
+use hyphenation::Hyphenator;
+use hyphenation::extended::{Extended, Subregion};
 use hyphenation_breaks::breaks::Break;
-use hyphenation_breaks::extended::Subregion;
-use hyphenation_dictionary::dictionary::Extended;
-use hyphenation_hyphenator::hyphenator::Hyphenator;
 use std::alloc::{AllocError, Global};
 use std::test::Fail;
 

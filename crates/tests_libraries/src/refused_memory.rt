@@ -12,7 +12,7 @@ use hyphenation::Standard;
 use hyphenation::extended::Extended;
 use hyphenation::hyphenator::Hyphenator;
 use hyphenation::iter::{Hyphenating, Iter, Texts};
-use std::alloc::AllocError;
+use std::alloc::{AllocError, Global};
 use std::test::Fail;
 
 // A dictionary of exceptions, whose list has room for one more.
@@ -83,15 +83,30 @@ fn a_word_is_copied(rt: HostRuntime) -> Result<(), Fail> {
     copy(&rt, &load(rt.alloc(), WORDS)?)
 }
 
-// Takes all segments, with a new mark after the first, and tells each with the number of those to come. A cross stands for one
-// that was refused.
+// A segment, and the number of those to come.
+type Taken = (Result<String, AllocError>, usize);
+
+// Each segment with its number. A cross stands for one that was refused.
+fn line_of(alloc: Global, taken: &[Taken]) -> Result<String, AllocError> {
+    let mut line = String::new(alloc);
+    for (item, left) in taken {
+        let text = match item {
+            Ok(item) => item.as_str(),
+            Err(_) => "x",
+        };
+        line = format!(in alloc; "{line}{text}{left} ")?;
+    }
+    Ok(line)
+}
+
+// Takes all segments, with a new mark after the first, and tells each with the number of those to come.
 fn take<'m, I: Texts>(
     rt: &HostRuntime,
     mut items: Hyphenating<'m, I>,
     wanted: &str,
 ) -> Result<(), Fail> {
     // It has room for all of them, so that keeping them requests no memory.
-    let mut kept: Vec<(Result<String, AllocError>, usize)> = Vec::with_capacity(rt.alloc(), 8)?;
+    let mut kept: Vec<Taken> = Vec::with_capacity(rt.alloc(), 8)?;
     pass_gate(rt);
     for _ in 0..8 {
         if let Some(item) = items.next() {
@@ -100,16 +115,8 @@ fn take<'m, I: Texts>(
         items.mark_with("=");
     }
     pass_gate(rt);
-    let mut line = String::new(rt.alloc());
-    let mut is_refused = false;
-    for (item, left) in &kept {
-        let text = match item {
-            Ok(item) => item.as_str(),
-            Err(_) => "x",
-        };
-        is_refused = is_refused || item.is_err();
-        line = format!(in rt.alloc(); "{line}{text}{left} ")?;
-    }
+    let is_refused = kept.iter().any(|(item, _)| item.is_err());
+    let mut line = line_of(rt.alloc(), &kept)?;
     let end = if items.next().is_none() {
         "none"
     } else {

@@ -9,11 +9,9 @@ ghost use Rattle.hyphenation_segments.specs.Segments.{segments, marked_segments}
 ghost use Rattle.hyphenation_segments.specs.Laws.{with_marks};
 
 use crate::support::dictionaries::extended;
-use crate::support::{CallError, expect, expect_equal};
-use hyphenation_dictionary::dictionary::Extended;
-use hyphenation_hyphenator::hyphenator::Hyphenator;
-use hyphenation_segments::Word;
-use hyphenation_segments::iter::{Hyphenating, Iter, Segments, Texts, laws};
+use crate::support::{expect, expect_equal, is_item};
+use hyphenation::hyphenator::{Hyphenator, Word};
+use hyphenation::iter::{Hyphenating, Iter, Segments, Texts, laws};
 use std::alloc::{AllocError, Global};
 use std::iter::Copied;
 use std::slice;
@@ -106,15 +104,11 @@ fn left_unmarked<'t>(alloc: Global, word: Word<'t, usize>) -> Result<Vec<&'t str
     word.into_iter().segments().collect(alloc)
 }
 
-fn word_of<'t>(
-    alloc: Global,
-    text: &'t str,
-    breaks: &[usize],
-) -> Result<Word<'t, usize>, CallError> {
+fn word_of<'t>(alloc: Global, text: &'t str, breaks: &[usize]) -> Result<Word<'t, usize>, Fail> {
     if Word::fits(text, breaks) {
         Ok(Word::new(text, Vec::from_slice(alloc, breaks)?))
     } else {
-        Err(CallError::from("the breaks do not fit"))
+        Err(Fail::new("the breaks do not fit"))
     }
 }
 
@@ -124,7 +118,7 @@ fn has_segments(
     text: &str,
     breaks: &[usize],
     wanted: &[&str],
-) -> Result<bool, CallError> {
+) -> Result<bool, Fail> {
     Ok(left_unmarked(alloc, word_of(alloc, text, breaks)?)?.as_slice() == wanted)
 }
 
@@ -135,7 +129,7 @@ fn has_marks(
     breaks: &[usize],
     mark: &str,
     wanted: &str,
-) -> Result<bool, CallError> {
+) -> Result<bool, Fail> {
     Ok(marked_word(alloc, word_of(alloc, text, breaks)?, mark)?.as_str() == wanted)
 }
 
@@ -144,47 +138,25 @@ fn counts_down(mut segments: Segments<'_, Copied<slice::Iter<'_, usize>>>, numbe
     let mut is_so = true;
     for taken in 0..number.saturating_add(2) {
         let left = number.saturating_sub(taken);
-        is_so = is_so && segments.size_hint() == (left, Some(left));
-        is_so = is_so && segments.next().is_some() == (left > 0);
+        is_so &= segments.size_hint() == (left, Some(left));
+        is_so &= segments.next().is_some() == (left > 0);
     }
     is_so
-}
-
-// Whether an item is this text.
-fn is_text(item: Option<Result<String, AllocError>>, wanted: &str) -> bool {
-    match item {
-        Some(Ok(text)) => text.as_str() == wanted,
-        _ => false,
-    }
 }
 
 // Whether the items of a word are these, where the mark is `=` after the first one.
 fn has_new_mark<I: Texts>(mut items: Hyphenating<'_, I>, wanted: &[&str]) -> bool {
     let mut is_so = items.len() == wanted.len();
     for text in wanted {
-        is_so = is_so && is_text(items.next(), text);
+        is_so &= is_item(&items.next(), text);
         items.mark_with("=");
     }
-    is_so && items.next().is_none() && items.next().is_none()
-}
-
-// Whether the items of a word of an extended dictionary are these, with a new mark after the first one.
-fn changed_has_new_mark(
-    alloc: Global,
-    dictionary: &Extended,
-    word: &str,
-    wanted: &[&str],
-) -> Result<bool, AllocError> {
-    Ok(has_new_mark(dictionary.hyphenate(alloc, word)?.into_iter(), wanted))
+    is_so &= items.next().is_none();
+    is_so & items.next().is_none()
 }
 
 // Whether a copy that is made after the first item of a word has this text.
-fn copy_goes_on(
-    alloc: Global,
-    text: &str,
-    breaks: &[usize],
-    wanted: &str,
-) -> Result<bool, CallError> {
+fn copy_goes_on(alloc: Global, text: &str, breaks: &[usize], wanted: &str) -> Result<bool, Fail> {
     let word = word_of(alloc, text, breaks)?;
     let mut items = word.iter();
     let _first = items.next();
@@ -206,11 +178,6 @@ fn join_and_count(
     let counted = number_of_segments(text, Vec::from_slice(alloc, breaks)?);
     let joined = joined_segments(alloc, text, breaks)?;
     Ok(joined.as_str() == text && all == number && counted == number)
-}
-
-// The number of the items of a word.
-fn number_of_items(alloc: Global, text: &str, breaks: &[usize]) -> Result<usize, CallError> {
-    Ok(all_marked(alloc, word_of(alloc, text, breaks)?)?.len())
 }
 
 // Each row has its sentence, the text, its breaks, and its segments.
@@ -284,9 +251,9 @@ fn a_new_mark_holds_for_the_segments_to_come(rt: HostRuntime) -> Result<(), Fail
         "of a word",
     )?;
     let dictionary = extended(alloc, "2 2", "e asszonnyal 2,1,2,2,szsz 6,1,2,2,nyny")?;
-    let wanted = ["asz-", "szony=", "nyal"];
+    let changed = dictionary.hyphenate(alloc, "asszonnyal")?.into_iter();
     expect(
-        changed_has_new_mark(alloc, &dictionary, "asszonnyal", &wanted)?,
+        has_new_mark(changed, &["asz-", "szony=", "nyal"]),
         "of a word with changes",
     )
 }
@@ -295,7 +262,7 @@ fn a_new_mark_holds_for_the_segments_to_come(rt: HostRuntime) -> Result<(), Fail
 fn copies_go_on_and_segments_join(rt: HostRuntime) -> Result<(), Fail> {
     let copied = copy_goes_on(rt.alloc(), TEXT, BREAKS, "phen-a-tion")?;
     let joined = join_and_count(rt.alloc(), TEXT, BREAKS, 4)?;
-    let items = number_of_items(rt.alloc(), TEXT, BREAKS)?;
+    let items = all_marked(rt.alloc(), word_of(rt.alloc(), TEXT, BREAKS)?)?.len();
     let counted = Word::fits(TEXT, BREAKS)
         && counts_down(Segments::new(TEXT, BREAKS.iter().copied()), 4);
     expect_equal(&(copied, joined, counted, items), &(true, true, true, 4))

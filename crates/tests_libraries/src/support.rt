@@ -7,31 +7,9 @@ pub mod io_errors;
 pub mod readers;
 pub mod writers;
 
-use core::fmt::InlineText;
+use std::alloc::AllocError;
 use std::fmt::{Debug, Display};
 use std::test::Fail;
-
-/// Why a call failed, as a text of at most 256 bytes. Each error with a text for debugging converts to it.
-///
-/// The kit's `Fail` does so too, but no call returns its text.
-#[derive(Clone, Copy)]
-pub struct CallError {
-    text: InlineText<256>,
-}
-
-impl<E: Debug + Drop> From<E> for CallError {
-    fn from(error: E) -> CallError {
-        CallError {
-            text: InlineText::of(format_args!("error: {error:?}")),
-        }
-    }
-}
-
-impl From<CallError> for Fail {
-    fn from(error: CallError) -> Fail {
-        Fail::new(error.text.as_str())
-    }
-}
 
 /// Fails, with both values, unless they are equal. A test that ends with this call is proved sooner than one with an
 /// assertion of the kit's.
@@ -61,6 +39,14 @@ pub fn expect_text<E: Into<Fail>>(found: Result<String, E>, wanted: &str) -> Res
     match found {
         Ok(found) => expect_equal(&found.as_str(), &wanted),
         Err(error) => Err(error.into()),
+    }
+}
+
+/// Whether an item of a word is this text.
+pub fn is_item(item: &Option<Result<String, AllocError>>, wanted: &str) -> bool {
+    match item {
+        Some(Ok(text)) => text.as_str() == wanted,
+        _ => false,
     }
 }
 

@@ -1,14 +1,13 @@
 //! Dictionaries that are written: to writers that fail, after edits, and as `Debug` shows their parts.
 
 use crate::support::dictionaries::{SMALLEST, load};
-use crate::support::io_errors::{BROKEN_PIPE, OUT_OF_MEMORY, has_code};
-use crate::support::writers::failing_at;
+use crate::support::io_errors::{BROKEN_PIPE, OUT_OF_MEMORY};
+use crate::support::writers::FailingWriter;
 use crate::support::{expect, expect_text};
 use any_dictionary::AnyDictionary;
-use hyphenation_breaks::language::Language;
-use hyphenation_dictionary::dictionary::Standard;
+use hyphenation::load::{Error, Load};
+use hyphenation::{Language, Standard};
 use hyphenation_dictionary::search::automaton_of;
-use hyphenation_load::{Error, Load};
 use std::alloc::Global;
 use std::test::Fail;
 
@@ -20,16 +19,24 @@ fn stops_at_write(
     number: usize,
     code: i32,
 ) -> bool {
-    let mut output = failing_at(alloc, number, code);
+    let mut output = FailingWriter {
+        until: number,
+        code,
+        taken: Vec::new(alloc),
+    };
     let end = dictionary.to_writer(alloc, &mut output);
-    matches!(end, Err(Error::IO(e)) if has_code(&e, code))
+    matches!(end, Err(Error::IO(e)) if e.raw_os_error() == Some(code))
         && output.taken.len() + 1 == number
         && text.starts_with(&output.taken)
 }
 
 // Whether a writer of one byte a write that does not fail gets the whole text of a dictionary.
 fn takes_whole_text(alloc: Global, dictionary: &AnyDictionary, text: &[u8]) -> Result<bool, Error> {
-    let mut output = failing_at(alloc, text.len() + 1, BROKEN_PIPE);
+    let mut output = FailingWriter {
+        until: text.len() + 1,
+        code: BROKEN_PIPE,
+        taken: Vec::new(alloc),
+    };
     dictionary.to_writer(alloc, &mut output)?;
     Ok(output.taken.as_slice() == text)
 }

@@ -1,8 +1,9 @@
 //! Dictionaries that several tests use, loaded from their texts.
 
-use hyphenation_dictionary::dictionary::{Extended, Standard};
-use hyphenation_load::{Error, Load};
-use std::alloc::{AllocError, Global};
+use hyphenation::extended::Extended;
+use hyphenation::load::{Error, Load};
+use std::alloc::Global;
+use std::test::Fail;
 
 /// The shortest text with a pattern that is accepted.
 pub const SMALLEST: &[u8] = b"hyphenation 1 standard\nlanguage en-us\nminima 2 3\np a1b";
@@ -25,25 +26,10 @@ pub fn load<D: Load>(alloc: Global, text: &str) -> Result<D, Error> {
     D::any_from_reader(alloc, &mut reader)
 }
 
-// The dictionary of a text that was made, if there was memory for it.
-fn load_made<D: Load>(alloc: Global, text: Result<String, AllocError>) -> Result<D, Error> {
-    match text {
-        Ok(text) => load(alloc, &text),
-        Err(error) => Err(Error::Memory(error)),
-    }
-}
-
-/// The standard dictionary of this text.
-pub fn dictionary(alloc: Global, text: &str) -> Result<Standard, Error> {
-    load(alloc, text)
-}
-
 /// The extended dictionary of a text with these minima and lines.
-pub fn extended(alloc: Global, minima: &str, lines: &str) -> Result<Extended, Error> {
-    load_made(alloc, extended_text(alloc, minima, lines))
-}
-
-// An extended text with these minima and lines.
-fn extended_text(alloc: Global, minima: &str, lines: &str) -> Result<String, AllocError> {
-    format!(in alloc; "hyphenation 1 extended\nlanguage hu\nminima {minima}\n{lines}\n")
+pub fn extended(alloc: Global, minima: &str, lines: &str) -> Result<Extended, Fail> {
+    let text = format!(in alloc;
+        "hyphenation 1 extended\nlanguage hu\nminima {minima}\n{lines}\n"
+    )?;
+    Ok(load(alloc, &text)?)
 }

@@ -1,6 +1,4 @@
-//! I/O errors by the system's codes, so that a test compares a whole error, and not only its kind.
-
-use std::io;
+//! Codes of I/O errors of the system, so that a test compares a whole error, and not only its kind.
 
 /// The code of a call that was interrupted.
 pub const INTERRUPTED: i32 = 4;
@@ -13,13 +11,3 @@ pub const BROKEN_PIPE: i32 = 32;
 
 /// The code of a read from a connection that was reset.
 pub const CONNECTION_RESET: i32 = 104;
-
-/// The I/O error of this code.
-pub fn io_error(code: i32) -> io::Error {
-    io::Error::from_raw_os_error(code)
-}
-
-/// Whether an error is the I/O error of this code.
-pub fn has_code(error: &io::Error, code: i32) -> bool {
-    error.raw_os_error() == Some(code)
-}

@@ -1,15 +1,15 @@
 //! Writers that take one byte a write, and fail once.
 
-use crate::support::io_errors::io_error;
-use std::alloc::Global;
 use std::io;
 use std::io::Write;
 
 /// Takes one byte a write. The write of a number, counted from 1, fails; later ones succeed.
 #[derive(Drop)]
 pub struct FailingWriter {
-    until: usize,
-    code: i32,
+    /// The number of the write that fails.
+    pub until: usize,
+    /// The code of the error.
+    pub code: i32,
     /// The bytes that were taken.
     pub taken: Vec<u8>,
 }
@@ -19,7 +19,7 @@ impl Write for FailingWriter {
         self.until = self.until.saturating_sub(1);
         if self.until == 0 {
             self.until = usize::MAX;
-            return Err(io_error(self.code));
+            return Err(io::Error::from_raw_os_error(self.code));
         }
         match buf.first() {
             Some(first) => {
@@ -32,14 +32,5 @@ impl Write for FailingWriter {
 
     fn flush(&mut self) -> io::Result<()> {
         Ok(())
-    }
-}
-
-/// A writer whose write of this number fails with this code.
-pub fn failing_at(alloc: Global, until: usize, code: i32) -> FailingWriter {
-    FailingWriter {
-        until,
-        code,
-        taken: Vec::new(alloc),
     }
 }
