@@ -3,7 +3,7 @@ tests/long-texts runs it.
 
 Usage: long_texts.py PROGRAMS FOLDER. PROGRAMS is a folder with the programs. The last line is `N passed, M failed`.
 
-The input of a run and the output that it must have are made here of the same pieces, or by trying each division into lines. A
+The input of a run and the output that it must have are made here of the same pieces, or all divisions are tried. A
 run of more than a minute fails, so the time can't grow with the square of such lengths.
 """
 
@@ -98,7 +98,7 @@ def long_words(runs):
 
 
 def long_keys(runs):
-    """Keys of 1,000 and 10,000 letters are found in words of as many letters or one more, and one of 20,000 has its changes."""
+    """Keys of 1,000 and 10,000 letters are found in words of as many letters or one more. One of 20,000 has its changes."""
     for kind, letters, more in itertools.product(KINDS, (1_000, 10_000), (-1, 0, 1)):
         half = letters // 2
         path = runs.dictionary(kind, "1 1", f"p {'a' * half}1{'a' * half}")

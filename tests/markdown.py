@@ -7,8 +7,8 @@ The texts are the pages of this repository, or those that are named, and N texts
 breaks words before each consonant that a vowel follows. For each text:
 
 - Without the marks the result is the text, byte for byte, and a second run changes nothing.
-- Two parsers of CommonMark find the same in both, in the same order, except for marks in texts: markdown-it (Debian's package
-  python3-markdown-it), for pages with tables too, and the program cmark. So code, targets, titles, labels, images and
+- Two parsers of CommonMark find the same in both, in the same order, except for marks in texts. They are markdown-it (Debian's
+  package python3-markdown-it), for pages with tables too, and the program cmark. So code, targets, titles, labels, images and
   HTML are the same. Each mark is in a text that they find.
 
 In all pages together four fifths of the marks are there that the same words get in plain texts. FOLDER is for files.
