@@ -3,11 +3,11 @@ random_dictionaries.py takes its dictionaries and facts.
 
 Usage: explanations.py PROGRAM FOLDER. The last line is `N passed, M failed`.
 
-Each dictionary is asked about many words at once, as lines for programs and as pictures. The lines must be exactly those
-of this script, which looks each text between two places up among the keys. Some words and keys have control characters,
-which lines have escaped. Each letter of a picture must be below the same
-letter of the frame. Without spaces a picture must have the texts of this script. A document in SVG must be XML with the
-rows of each word and an empty one. Its letters and values must be at the columns and in the classes of this script.
+Each dictionary is asked about many words at once, some of them in NFD, as lines for programs and as pictures. The lines
+must be exactly those of this script, which looks each text between two places up among the keys. Some words and keys have
+control characters, which lines have escaped. Each letter of a picture must be below the same letter of the frame. Without
+spaces a picture must have the texts of this script. A document in SVG must be XML with the rows of each word and an empty
+one. Its letters and values must be at the columns and in the classes of this script.
 """
 
 import pathlib
@@ -48,6 +48,11 @@ def escaped(text):
 def token(text):
     """A text in a dictionary text. A brace is escaped only in patterns."""
     return "\\e" if not text else text.replace("\\", "\\\\").replace("\n", "\\n").replace("\r", "\\r")
+
+
+def explained(dictionary, words):
+    """The facts that the program shows of words: those of their NFC."""
+    return [Facts(dictionary, unicodedata.normalize("NFC", word)) for word in words]
 
 
 def random_text(random_of, letters, least, most):
@@ -384,7 +389,7 @@ def main():
         path = folder / f"controls-{number}.txt"
         path.write_text(dictionary.text())
         words = [random_text(random_of, letters, 1, 9) for _ in range(WORDS)] + list(dictionary.exceptions)
-        check_lines(number, path, [Facts(dictionary, word) for word in words], words)
+        check_lines(number, path, explained(dictionary, words), words)
 
     for number in range(DICTIONARIES):
         random_of = random.Random(number)
@@ -395,7 +400,8 @@ def main():
         words = [random_text(random_of, letters, 0, 9) for _ in range(WORDS)]
         words += [random_text(random_of, letters + SOFT_HYPHEN, 1, 9) for _ in range(4)]
         words += list(dictionary.exceptions)
-        all_facts = [Facts(dictionary, word) for word in words]
+        words += [unicodedata.normalize("NFD", word) for word in words if not unicodedata.is_normalized("NFD", word)]
+        all_facts = explained(dictionary, words)
 
         check_lines(number, path, all_facts, words)
         pictures = run(number, path, words=words).split("\n\n")
@@ -406,7 +412,7 @@ def main():
             for line in misplaced(facts, picture):
                 check(False, number, facts.word, "a letter is not below itself:", line)
         drawn = words + [random_text(random_of, letters + DRAWN, 1, 9) for _ in range(WORDS)]
-        wrong = [*undrawn([Facts(dictionary, word) for word in drawn], run(number, path, "--svg", words=drawn))]
+        wrong = [*undrawn(explained(dictionary, drawn), run(number, path, "--svg", words=drawn))]
         check(not wrong, number, "drawing:", *wrong[:3])
     check(passed > DICTIONARIES * WORDS, "too few checks")
     print(f"{passed} passed, {failed} failed")

@@ -9,6 +9,7 @@ use Rattle.any_dictionary.specs.declared.AnyDictionary.{AnyDictionary}
 use Rattle.command_line.specs.Adjustments.{IsAdjustedOf}
 use Rattle.command_line.specs.Dictionaries.{KnownFiles}
 use Rattle.command_line.specs.Inputs.{IsTextOf}
+use Rattle.composed_words.specs.Composed.{composed}
 use Rattle.hyphenation_breaks.specs.Ascii.{line_feed}
 use Rattle.hyphenation_breaks.specs.Borrowed.{texts_now}
 use Rattle.hyphenation_load.specs.Load.{AppendsTo}
@@ -27,11 +28,19 @@ AreJoined explains words text =
 abbrev pub AreDrawn : (List ℕ → List ℕ → Type 0) → List (List ℕ) → List ℕ → Type 0
 AreDrawn draws words text = (drawings : List (List ℕ)) × AllZip draws words drawings × IsDocument drawings text
 
--- The text explains the words in this style, by a dictionary.
+-- The text explains the NFC of a word in this style, by a dictionary. A word in NFC is its own.
+abbrev pub IsExplanationOfNfc : AnyDictionary → Style → List ℕ → List ℕ → Type 0
+IsExplanationOfNfc dictionary style word text = IsExplanation dictionary style (composed word) text
+
+-- The drawing explains the NFC of a word, by a dictionary.
+abbrev pub IsDrawingOfNfc : AnyDictionary → List ℕ → List ℕ → Type 0
+IsDrawingOfNfc dictionary word drawing = IsDrawingOf dictionary (composed word) drawing
+
+-- The text explains the NFC of each word in this style, by a dictionary.
 abbrev pub AreExplained : AnyDictionary → Style → List (List ℕ) → List ℕ → Type 0
-AreExplained dictionary Picture words text = AreJoined (IsExplanation dictionary Picture) words text
-AreExplained dictionary Lines words text = AreJoined (IsExplanation dictionary Lines) words text
-AreExplained dictionary Svg words text = AreDrawn (IsDrawingOf dictionary) words text
+AreExplained dictionary Picture words text = AreJoined (IsExplanationOfNfc dictionary Picture) words text
+AreExplained dictionary Lines words text = AreJoined (IsExplanationOfNfc dictionary Lines) words text
+AreExplained dictionary Svg words text = AreDrawn (IsDrawingOfNfc dictionary) words text
 
 -- The words of a text: its parts between white space.
 abbrev pub AreWordsOf : List ℕ → List (Bor (List ℕ)) → Type 0

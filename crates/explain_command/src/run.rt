@@ -4,12 +4,11 @@ ghost use Rattle.std.specs.Prelude.{◌≡◌, ◌⊎◌, ◌++◌, codes, true,
 ghost use Rattle.std.specs.List.{AllZip};
 ghost use Rattle.command_line.specs.Inputs.{IsFailureOfInput};
 ghost use Rattle.explain_command.specs.Endings.{has_words, IsFailureFor, IsFailureOfWords};
-ghost use Rattle.explain_command.specs.Explained.{AreDrawn, AreExplained, AreJoined};
-ghost use Rattle.explain_command.specs.Explained.{ExplainsGiven, ExplainsInput, Writes};
+ghost use Rattle.explain_command.specs.Explained.{AreDrawn, AreExplained, AreJoined, ExplainsGiven, ExplainsInput};
+ghost use Rattle.explain_command.specs.Explained.{IsDrawingOfNfc, IsExplanationOfNfc, Writes};
 ghost use Rattle.explain_command.specs.Private.Joined.{gap_before};
 ghost use Rattle.explain_command.specs.Private.Requests.{parsed_request, BeforeReading};
 ghost use Rattle.explanations.specs.Svg.{drawn};
-ghost use Rattle.explanations.specs.Words.{IsDrawingOf, IsExplanation};
 ghost use Rattle.hyphenation_breaks.specs.Borrowed.{texts_now};
 
 use crate::request::Request;
@@ -20,6 +19,7 @@ use command_line::{Failure, NamedFiles};
 use explanations::{Drawing, Style, document, drawing, explanation};
 use std::alloc::{AllocError, Global};
 use std::io::{Read, Write};
+use unicode_normalization::to_nfc;
 
 // Appends the text of a word, after an empty line unless it is the first.
 fn push_after(text: &mut Vec<u8>, index: usize, explanation: &[u8]) -> Result<(), AllocError>
@@ -31,6 +31,31 @@ fn push_after(text: &mut Vec<u8>, index: usize, explanation: &[u8]) -> Result<()
     text.extend_from_slice(explanation)
 }
 
+// Returns the text that explains the NFC of a word. The only error is out of memory.
+#[tactic(auto, unfolding(composed_words::specs::Composed::composed))]
+fn nfc_explanation(
+    alloc: Global,
+    dictionary: &AnyDictionary,
+    style: Style,
+    word: &str,
+) -> Result<Vec<u8>, AllocError>
+    ensures { IfOk result (λ text. IsExplanationOfNfc dictionary.now style word.now text.items) }
+{
+    let nfc = to_nfc(alloc, word)?;
+    let text = explanation(alloc, dictionary, style, nfc.as_str())?;
+    Ok(text)
+}
+
+// Returns the drawing that explains the NFC of a word. The only error is out of memory.
+#[tactic(auto, unfolding(composed_words::specs::Composed::composed))]
+fn nfc_drawing(alloc: Global, dictionary: &AnyDictionary, word: &str) -> Result<Drawing, AllocError>
+    ensures { IfOk result (λ drawing. IsDrawingOfNfc dictionary.now word.now (drawn drawing)) }
+{
+    let nfc = to_nfc(alloc, word)?;
+    let drawing = drawing(alloc, dictionary, nfc.as_str())?;
+    Ok(drawing)
+}
+
 // Returns the texts that explain words, with an empty line between two. The only error is out of memory.
 fn joined(
     alloc: Global,
@@ -38,11 +63,11 @@ fn joined(
     style: Style,
     words: &[&str],
 ) -> Result<Vec<u8>, AllocError>
-    ensures { IfOk result (λ text. AreJoined (IsExplanation dictionary.now style) (texts_now words.now) text.items) }
+    ensures { IfOk result (λ text. AreJoined (IsExplanationOfNfc dictionary.now style) (texts_now words.now) text.items) }
 {
     let mut text = Vec::new(alloc);
     for (index, word) in words.iter().enumerate() {
-        let explained = explanation(alloc, dictionary, style, word)?;
+        let explained = nfc_explanation(alloc, dictionary, style, word)?;
         push_after(&mut text, index, &explained)?;
     }
     Ok(text)
@@ -55,11 +80,11 @@ fn drawings_of(
     words: &[&str],
 ) -> Result<Vec<Drawing>, AllocError>
     ensures { IfOk result (λ drawings.
-        AllZip (IsDrawingOf dictionary.now) (texts_now words.now) (map drawn drawings.items)) }
+        AllZip (IsDrawingOfNfc dictionary.now) (texts_now words.now) (map drawn drawings.items)) }
 {
     let mut drawings = Vec::new(alloc);
     for word in words {
-        drawings.push(drawing(alloc, dictionary, word)?)?;
+        drawings.push(nfc_drawing(alloc, dictionary, word)?)?;
     }
     Ok(drawings)
 }
@@ -70,13 +95,13 @@ fn drawn_words(
     dictionary: &AnyDictionary,
     words: &[&str],
 ) -> Result<Vec<u8>, AllocError>
-    ensures { IfOk result (λ text. AreDrawn (IsDrawingOf dictionary.now) (texts_now words.now) text.items) }
+    ensures { IfOk result (λ text. AreDrawn (IsDrawingOfNfc dictionary.now) (texts_now words.now) text.items) }
 {
     let drawings = drawings_of(alloc, dictionary, words)?;
     document(alloc, &drawings)
 }
 
-/// Returns the text that explains words in a style, by a dictionary.
+/// Returns the text that explains words in a style, by a dictionary. A word that is not in NFC is explained as its NFC.
 ///
 /// Pictures and lines have an empty line between those of two words. With [`Style::Svg`] it is one document, with a drawing
 /// for each word below the one before. The only error is out of memory.

@@ -1,8 +1,7 @@
 use Rattle.std.proofs.Common.{take}
 use Rattle.hyphenation_breaks.specs.Borrowed.{texts_now}
-use Rattle.explanations.specs.Words.{IsExplanation}
-use Rattle.explain_command.specs.Explained.{AreJoined}
+use Rattle.explain_command.specs.Explained.{AreJoined, IsExplanationOfNfc}
 use Rattle.explain_command.proofs.run.joined.Given as goal
 
 abbrev pub invariant-loop-index : goal.invariant-loop-index
-invariant-loop-index l = AreJoined (IsExplanation l.dictionary l.style) (texts_now (take l.index l.words)) l.text.items
+invariant-loop-index l = AreJoined (IsExplanationOfNfc l.dictionary l.style) (texts_now (take l.index l.words)) l.text.items
