@@ -27,7 +27,7 @@ int LLVMFuzzerTestOneInput(const uint8_t *data, size_t size) {
   size_t length = word ? (size_t)(word - text) : size - 1, rest = word ? size - 2 - length : 0;
   word = word ? word + 1 : text;
   hyphenation h = HYPHENATION_NONE, o = HYPHENATION_NONE;
-  size_t line = 0, count, texts;
+  size_t line = 0, count = 0, texts;
   if (data[0] & 4) {
     hyphenation_fault fault = {0, 0, 0};
     hyphenation_patterns files = {.kind = kind,
@@ -52,6 +52,15 @@ int LLVMFuzzerTestOneInput(const uint8_t *data, size_t size) {
   status = hyphenation_breaks(&h, word, rest, places, ROOM, &count);
   need(is_known(status));
   for (size_t i = 0; status == HYPHENATION_DONE && i < count; i++) need(places[i] <= rest && (!i || places[i - 1] < places[i]));
+  /* A word as its NFC has breaks on boundaries of characters, and a word of ASCII has its own. */
+  size_t own = count, high = 0;
+  uint32_t composed = hyphenation_composed_breaks(&h, word, rest, list, ROOM, &count);
+  need(is_known(composed));
+  for (size_t i = 0; composed == HYPHENATION_DONE && i < count; i++)
+    need(list[i] <= rest && (!i || list[i - 1] < list[i]) && (list[i] == rest || (word[list[i]] & 0xc0) != 0x80));
+  for (size_t i = 0; i < rest; i++) high |= word[i] & 0x80;
+  need(high || (composed == status && count == own && (status != HYPHENATION_DONE || !memcmp(list, places, own * sizeof *list))));
+  count = own;
   /* A list of the word and an empty one has the word's breaks. A third word that ends before it begins is refused. */
   size_t ends[3] = {rest, rest, 0}, found_ends[3], found;
   uint32_t listed = hyphenation_breaks_of_words(&h, word, rest, ends, 2, list, 2 * ROOM, &found, found_ends, 3, &texts);

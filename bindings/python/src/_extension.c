@@ -22,8 +22,8 @@
 
 #define CALLS(EACH)                                                                                                        \
   EACH(kind_of) EACH(load) EACH(load_dic) EACH(load_patterns) EACH(free) EACH(share) EACH(edit) EACH(add_exceptions)       \
-  EACH(raise_minima) EACH(language) EACH(minima) EACH(breaks) EACH(breaks_of_words) EACH(values) EACH(changes)             \
-  EACH(exception) EACH(text) EACH(fill) EACH(write) EACH(paths) EACH(exception_paths) EACH(cause_message)
+  EACH(raise_minima) EACH(language) EACH(minima) EACH(breaks) EACH(composed_breaks) EACH(breaks_of_words) EACH(values)     \
+  EACH(changes) EACH(exception) EACH(text) EACH(fill) EACH(write) EACH(paths) EACH(exception_paths) EACH(cause_message)
 static struct {
 #define DECLARE(name) __typeof__(&hyphenation_##name) name;
   CALLS(DECLARE)
@@ -144,17 +144,17 @@ static PyObject *list_of(const size_t *places, size_t count, const uint8_t *text
 /* A word has seldom more breaks than these. */
 enum { USUAL = 64 };
 
-static PyObject *list_of_breaks(PyObject *self, PyObject *word, bool in_characters) {
+static PyObject *list_of_breaks(PyObject *self, PyObject *word, __typeof__(&hyphenation_breaks) ask, bool in_characters) {
   size_t length, count = 0, usual[USUAL], *places = usual;
   const uint8_t *text = utf8_of(word, &length);
   PyObject *list = NULL;
   Lent lent;
   if (!text || !lend(self, length >= LONG, &lent)) return NULL;
-  uint32_t status = calls.breaks(lent.handle, text, length, places, USUAL, &count);
+  uint32_t status = ask(lent.handle, text, length, places, USUAL, &count);
   if (status == HYPHENATION_NO_ROOM) {
     size_t room = count;
     places = room_of(room, sizeof *places);
-    status = places ? calls.breaks(lent.handle, text, length, places, room, &count) : HYPHENATION_OUT_OF_MEMORY;
+    status = places ? ask(lent.handle, text, length, places, room, &count) : HYPHENATION_OUT_OF_MEMORY;
   }
   take_back(&lent);
   if (status != HYPHENATION_DONE) {
@@ -167,9 +167,13 @@ static PyObject *list_of_breaks(PyObject *self, PyObject *word, bool in_characte
   return list;
 }
 
-static PyObject *places(PyObject *self, PyObject *word) { return list_of_breaks(self, word, false); }
+static PyObject *places(PyObject *self, PyObject *word) { return list_of_breaks(self, word, calls.breaks, false); }
 
-static PyObject *positions(PyObject *self, PyObject *word) { return list_of_breaks(self, word, true); }
+static PyObject *positions(PyObject *self, PyObject *word) { return list_of_breaks(self, word, calls.breaks, true); }
+
+static PyObject *composed_positions(PyObject *self, PyObject *word) {
+  return list_of_breaks(self, word, calls.composed_breaks, true);
+}
 
 /* ---- Breaks that make changes. */
 
@@ -658,6 +662,7 @@ static PyMethodDef methods[] = {
     {"minima", minima, METH_NOARGS, NULL},
     {"places", places, METH_O, NULL},
     {"positions", positions, METH_O, NULL},
+    {"composed_positions", composed_positions, METH_O, NULL},
     {"positions_of", positions_of, METH_O, NULL},
     {"changes", changes, METH_O, NULL},
     {"exception", exception, METH_O, NULL},

@@ -150,6 +150,14 @@ extern "C" {
         capacity: usize,
         count: *mut usize,
     ) -> u32;
+    fn hyphenation_composed_breaks(
+        handle: *mut Raw,
+        word: *const u8,
+        length: usize,
+        places: *mut usize,
+        capacity: usize,
+        count: *mut usize,
+    ) -> u32;
     fn hyphenation_breaks_of_words(
         handle: *mut Raw,
         text: *const u8,
@@ -520,6 +528,14 @@ impl Raw {
         // SAFETY: the handle is lent only to this call, the word is a slice, and the buffer and the count are local.
         filled(8, |places, room, count| unsafe {
             hyphenation_breaks(self, word.as_ptr(), word.len(), places, room, count)
+        })
+    }
+
+    /// The places of a word's breaks, as its NFC is broken.
+    pub fn composed_breaks(&mut self, word: &str) -> Result<Vec<usize>, Failure> {
+        // SAFETY: the handle is lent only to this call, the word is a slice, and the buffer and the count are local.
+        filled(8, |places, room, count| unsafe {
+            hyphenation_composed_breaks(self, word.as_ptr(), word.len(), places, room, count)
         })
     }
 

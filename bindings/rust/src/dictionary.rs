@@ -280,6 +280,31 @@ macro_rules! dictionary {
                 self.0.language()
             }
 
+            /// The places of a word's breaks, as its NFC (Unicode's composed form) is broken, without the changes that breaks may
+            /// make.
+            ///
+            /// Dictionaries know a letter with an accent as one character. A word in NFC has the places of its own breaks. Another
+            /// word is broken at the places that have the same NFC before them and after them as a break of its NFC, so none is
+            /// before a mark that NFC joins with its letter. A break is left out where there is no such place, or where it changes
+            /// letters. The places are bytes of the word as it is given.
+            ///
+            /// ```
+            /// use hyphenation::{Load, Standard};
+            ///
+            /// let mut text = "hyphenation 1 standard\nlanguage de\nminima 2 2\np ü1l\n".as_bytes();
+            /// let german = Standard::any_from_reader(&mut text)?;
+            /// assert_eq!(german.composed_breaks("Schüler"), [5]);
+            /// assert_eq!(german.composed_breaks("Schu\u{308}ler"), [6]);
+            /// # Ok::<(), hyphenation::load::Error>(())
+            /// ```
+            ///
+            /// # Panics
+            ///
+            /// Where memory is refused.
+            pub fn composed_breaks(&self, word: &str) -> Vec<usize> {
+                self.0.ask(|raw| raw.composed_breaks(word))
+            }
+
             /// The places of the breaks of each of the words, in one call, without the changes that breaks may make.
             ///
             /// # Panics

@@ -15,7 +15,7 @@ use Rattle.any_dictionary.specs.Kinds as kinds
 use Rattle.any_dictionary.specs.declared.AnyDictionary.{AnyDictionary}
 use Rattle.any_dictionary.specs.declared.AnyDictionary.TheVariants as of
 use Rattle.c_calls.specs.Contents.{Held, Dictionary}
-use Rattle.c_calls.specs.Dictionaries.{as_change, texts_of}
+use Rattle.c_calls.specs.Dictionaries.{as_change, composed_places_by, texts_of}
 use Rattle.c_calls.specs.declared.changes.BreakChange.{BreakChange}
 
 -- ---- Numbers that C passes and reads.
@@ -91,6 +91,16 @@ abbrev pub WritesBreaks : Option Held → List ℕ → List ℕ → List ℕ →
 WritesBreaks holds word old new before after status =
     IfHeld holds old new before after status
     (λ dictionary. FindsBreaks dictionary word old new before after status)
+
+-- The places of a word's breaks, by its NFC.
+abbrev pub FindsComposedBreaks : AnyDictionary → List ℕ → List ℕ → List ℕ → ℕ → ℕ → ℕ → Type 0
+FindsComposedBreaks dictionary word old new before after status =
+    Finds (IsUtf8 word) (composed_places_by dictionary word) old new before after status
+
+abbrev pub WritesComposedBreaks : Option Held → List ℕ → List ℕ → List ℕ → ℕ → ℕ → ℕ → Type 0
+WritesComposedBreaks holds word old new before after status =
+    IfHeld holds old new before after status
+    (λ dictionary. FindsComposedBreaks dictionary word old new before after status)
 
 -- The values of a word's places, from place 1 on.
 abbrev pub FindsValues : AnyDictionary → List ℕ → List ℕ → List ℕ → ℕ → ℕ → ℕ → Type 0

@@ -10,7 +10,9 @@ ghost use Rattle.hyphenation_reader.specs.Refusals.{IsRefusal};
 ghost use Rattle.hyphenation_hyphenator.specs.Opportunities.{no_change, rules_of, all_breaks_of};
 ghost use Rattle.linefill.specs.Lines.{lines_by};
 ghost use Rattle.c_calls.specs.Contents.{dictionary_of, held_in, Dictionary};
-ghost use Rattle.c_calls.specs.Statuses.{Finds, FindsBreaks, FindsMarkedText, FindsLines, FindsValues, FindChanges, into};
+ghost use Rattle.c_calls.specs.Dictionaries.{composed_places_by};
+ghost use Rattle.c_calls.specs.Statuses.{Finds, FindsBreaks, FindsComposedBreaks, FindsMarkedText, FindsLines};
+ghost use Rattle.c_calls.specs.Statuses.{FindsValues, FindChanges, into};
 
 use crate::buffers::{fill_buffer, fill_buffers};
 use crate::changes::{BreakChange, Changes};
@@ -18,6 +20,7 @@ use crate::content::{Content, Loaded};
 use crate::statuses::{NOT_UTF8, OTHER_KIND, OUT_OF_MEMORY};
 use crate::utf8::word_of;
 use any_dictionary::AnyDictionary;
+use composed_words::{carried_places, composed};
 use hyphenation_dictionary::dictionary::Standard;
 use hyphenation_grammar::form::Kind;
 use hyphenation_load::Load;
@@ -60,6 +63,46 @@ pub fn write_breaks(
     };
     let mut found = loaded.take_list(alloc);
     let Ok(_) = loaded.dictionary.places_into(alloc, word, &mut found) else {
+        return OUT_OF_MEMORY;
+    };
+    let status = fill_buffer(&found, places, count);
+    loaded.keep_list(found);
+    status
+}
+
+// Puts the places of a word's breaks, by its NFC, into a list.
+fn composed_places_into(
+    dictionary: &AnyDictionary,
+    alloc: Global,
+    word: &str,
+    found: &mut Vec<usize>,
+) -> Result<(), AllocError>
+    ensures { OnOk result (found.new.items ≡ composed_places_by dictionary.now word.now) }
+{
+    let Some(nfc) = composed(alloc, word)? else {
+        return dictionary.places_into(alloc, word, found);
+    };
+    dictionary.plain_places_into(alloc, nfc.as_str(), found)?;
+    *found = carried_places(alloc, word, nfc.as_str(), found)?;
+    Ok(())
+}
+
+/// Writes the places of a word's breaks, by its NFC, to the front of a buffer, and returns the status.
+#[tactic(auto, using(crate::proofs::Finding::finds))]
+pub fn write_composed_breaks(
+    loaded: &Loaded,
+    alloc: Global,
+    word: &[u8],
+    places: &mut [usize],
+    count: &mut usize,
+) -> u32
+    ensures { FindsComposedBreaks (dictionary_of loaded.now) word.now places.old places.new count.old count.new result }
+{
+    let Some(word) = word_of(word) else {
+        return NOT_UTF8;
+    };
+    let mut found = loaded.take_list(alloc);
+    let Ok(_) = composed_places_into(&loaded.dictionary, alloc, word, &mut found) else {
         return OUT_OF_MEMORY;
     };
     let status = fill_buffer(&found, places, count);

@@ -16,7 +16,8 @@ ghost use Rattle.c_calls.specs.Numbered.{WritesListed, WritesScores};
 ghost use Rattle.c_calls.specs.Paths.{WritesExceptionPaths, WritesPaths};
 ghost use Rattle.c_calls.specs.Patterns.{LoadsDic};
 ghost use Rattle.c_calls.specs.Statuses.{kind_numbered, Loads, Shares, Edits, WritesLanguage, WritesMinima};
-ghost use Rattle.c_calls.specs.Statuses.{kind_named, WritesBreaks, WritesValues, Changes, RaisesMinima, into, loading};
+ghost use Rattle.c_calls.specs.Statuses.{kind_named, WritesBreaks, WritesComposedBreaks, WritesValues, Changes};
+ghost use Rattle.c_calls.specs.Statuses.{RaisesMinima, into, loading};
 ghost use Rattle.c_calls.specs.Statuses.{WritesMarkedText, WritesLines, WritesCanonicalText};
 ghost use Rattle.c_calls.specs.TexFiles.{LoadsPatterns, PlacesFault};
 
@@ -326,6 +327,31 @@ pub fn write_breaks(
 {
     lend!(handle, alloc, Content::Dictionary(loaded) => {
         calls::write_breaks(loaded, alloc, word, places, count)
+    } else NO_DICTIONARY)
+}
+
+/// Writes the places of a word's breaks, as its NFC is broken, to the front of a buffer.
+///
+/// A word in NFC has the places of [`write_breaks`]. Another word is broken at the places that have the same NFC before them and
+/// after them as a break of its NFC, so none is before a mark that NFC joins with its letter. A break is left out where there is
+/// no such place, or where it changes letters. All places are bytes of the word as it is written.
+///
+/// ```text
+/// write_composed_breaks(alloc, handle, "Schu\u{308}ler".as_bytes(), places, count)   // 6, where Schüler is broken at 5
+/// ```
+pub fn write_composed_breaks(
+    alloc: Global,
+    handle: &mut Handle,
+    word: &[u8],
+    places: &mut [usize],
+    count: &mut usize,
+) -> u32
+    ensures unchanged { handle.new.slot.kept ≡ handle.old.slot.kept }
+    ensures breaks { WritesComposedBreaks (holds handle.old) word.now places.old places.new count.old count.new
+        result }
+{
+    lend!(handle, alloc, Content::Dictionary(loaded) => {
+        calls::write_composed_breaks(loaded, alloc, word, places, count)
     } else NO_DICTIONARY)
 }
 

@@ -12,7 +12,8 @@ ghost use Rattle.c_calls.specs.Numbered.{WritesListed, WritesScores};
 ghost use Rattle.c_calls.specs.Paths.{WritesExceptionPaths, WritesPaths};
 ghost use Rattle.c_calls.specs.Patterns.{LoadsDic};
 ghost use Rattle.c_calls.specs.Statuses.{kind_numbered, Loads, Shares, Edits, WritesLanguage, WritesMinima};
-ghost use Rattle.c_calls.specs.Statuses.{kind_named, WritesBreaks, WritesValues, Changes, RaisesMinima, into, loading};
+ghost use Rattle.c_calls.specs.Statuses.{kind_named, WritesBreaks, WritesComposedBreaks, WritesValues, Changes};
+ghost use Rattle.c_calls.specs.Statuses.{RaisesMinima, into, loading};
 ghost use Rattle.c_calls.specs.Statuses.{WritesMarkedText, WritesLines, WritesCanonicalText};
 ghost use Rattle.c_calls.specs.TexFiles.{LoadsPatterns, PlacesFault};
 ghost use Rattle.level_calls.specs.Levels.{Loads as LoadsLevels, minima_given, answer_by};
@@ -192,6 +193,22 @@ pub extern "C" fn hyphenation_breaks(
         result }
 {
     c_calls::write_breaks(alloc, handle, word, places, count)
+}
+
+/// Writes the places of a word's breaks, as its NFC is broken, to the front of a buffer.
+#[unsafe(no_mangle)]
+pub extern "C" fn hyphenation_composed_breaks(
+    alloc: Global,
+    handle: &mut Handle,
+    word: &[u8],
+    places: &mut [usize],
+    count: &mut usize,
+) -> u32
+    ensures unchanged { handle.new.slot.kept ≡ handle.old.slot.kept }
+    ensures breaks { WritesComposedBreaks (holds handle.old) word.now places.old places.new count.old count.new
+        result }
+{
+    c_calls::write_composed_breaks(alloc, handle, word, places, count)
 }
 
 /// Writes the places of the breaks of a list of words to one buffer, and the ends of the words' places to another one.

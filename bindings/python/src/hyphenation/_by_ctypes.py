@@ -57,10 +57,11 @@ _add_exceptions = _declare(_SHORT, "add_exceptions", _HANDLE, *_TEXT, POINTER(c_
 _raise_minima = _declare(_SHORT, "raise_minima", _HANDLE, c_uint8, c_uint8)
 _language = _declare(_SHORT, "language", _HANDLE, *_BUFFER)
 _minima = _declare(_SHORT, "minima", _HANDLE, POINTER(c_size_t), POINTER(c_size_t))
-# These two are called for each word. Their arguments have types of C already, so none is converted.
+# These three are called for each word. Their arguments have types of C already, so none is converted.
 _breaks, _breaks_of_long = _declare(_SHORT, "breaks"), _declare(_LONG, "breaks")
+_composed_breaks, _composed_breaks_of_long = _declare(_SHORT, "composed_breaks"), _declare(_LONG, "composed_breaks")
 _changes, _changes_of_long = _declare(_SHORT, "changes"), _declare(_LONG, "changes")
-for _call in _breaks, _breaks_of_long, _changes, _changes_of_long:
+for _call in _breaks, _breaks_of_long, _composed_breaks, _composed_breaks_of_long, _changes, _changes_of_long:
     _call.argtypes = None  # type: ignore[attr-defined]
 _breaks_of_words = _declare(_LONG, "breaks_of_words", _HANDLE, *_TEXT, c_void_p, c_size_t, *_BUFFER, *_BUFFER)
 _values, _values_of_long = (_declare(library, "values", _HANDLE, *_TEXT, *_BUFFER) for library in (_SHORT, _LONG))
@@ -203,12 +204,13 @@ class Handle:
         """Returns the handle that is asked for a word: a long one has one of its own, since other threads run meanwhile."""
         return self if len(text) < _LONG_WORD else self.share()
 
-    def _places(self, text: bytes) -> List[int]:
+    def _places(self, text: bytes, call: _Call = _breaks, call_of_long: _Call = _breaks_of_long) -> List[int]:
         if len(text) < 256:
-            length, call, lent = _LENGTHS[len(text)], _breaks, self
+            length, lent = _LENGTHS[len(text)], self
         else:
             length, lent = c_size_t(len(text)), self._lent(text)
-            call = _breaks if lent is self else _breaks_of_long
+            if lent is not self:
+                call = call_of_long
         try:
             rooms = self._spare.pop()
         except IndexError:
@@ -231,6 +233,11 @@ class Handle:
         """Returns the positions of a word's breaks, in characters."""
         text = encoded(word)
         return positions(text, self._places(text))
+
+    def composed_positions(self, word: str) -> List[int]:
+        """Returns the positions of a word's breaks, as its NFC is broken."""
+        text = encoded(word)
+        return positions(text, self._places(text, _composed_breaks, _composed_breaks_of_long))
 
     def changes(self, word: str) -> Tuple[List[int], Optional[List[Tuple[int, int, int, str, str]]]]:
         """Returns the positions of a word's breaks; and the breaks if one of them makes a change."""
