@@ -97,4 +97,4 @@ def exceptions_path(language: str) -> Optional[str]:
     """
     found, folder = exception_paths(language, *_values()), packaged()
     searched = _with_folder(found, folder, ".exceptions") if folder else iter(found)
-    return next(filter(os.path.isfile, searched), None)
+    return next((path for path in searched if os.path.isfile(path)), None)
