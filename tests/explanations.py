@@ -21,6 +21,8 @@ DICTIONARIES = 60
 WORDS = 40
 # Capitals whose folding takes as many bytes, fewer and more.
 FOLDED = {"A": "a", "B": "b", "É": "é", "İ": "i", "ẞ": "ß", "Ⱥ": "ⱥ"}
+# The same, and the one that a drawn word may be composed to.
+SMALL = {**FOLDED, "Á": "á"}
 LETTERS = "aabbciéßⱥ"
 SOFT_HYPHEN = "\u00ad"
 # Letters only for lines: what a field has escaped, and neighbours of that.
@@ -37,7 +39,7 @@ def size(text):
 
 
 def fold(word):
-    return "".join(FOLDED.get(c, c) for c in word)
+    return "".join(SMALL.get(c, c) for c in word)
 
 
 def escaped(text):
