@@ -7,7 +7,7 @@ use Rattle.any_dictionary.specs.declared.AnyDictionary.{AnyDictionary}
 use Rattle.command_line.specs.About.{help_or_version}
 use Rattle.command_line.specs.Dictionaries.{KnownFiles, IsOfArgument, IsFailureOf}
 use Rattle.command_line.specs.Endings.{End, Done, Refuses, Fails, IsRefusal}
-use Rattle.command_line.specs.Options.{ReadArguments, RefusedArgument, refused, after_step, last_value, read_arguments}
+use Rattle.command_line.specs.Options.{RefusedArgument, refused, after_step, last_value, read_arguments}
 use Rattle.command_line.specs.Steps.{EndsIn}
 use Rattle.command_line.specs.Usage.{options_in}
 use Rattle.command_line.specs.declared.TheConstants.{VERSION}
@@ -15,7 +15,8 @@ use Rattle.command_line.specs.declared.failure.Failure.{Failure}
 use Rattle.command_line.specs.declared.failure.Failure.TheVariants as failed
 use Rattle.command_line.specs.declared.options.Expected.TheVariants.{NoMore}
 use Rattle.hyphenation_breaks.specs.Borrowed.{texts_now}
-use Rattle.hyphenation_load.specs.Load.{AppendsTo, IsLoadError}
+use Rattle.hyphenation_grammar.specs.declared.Error.TheVariants.{Deserialization}
+use Rattle.hyphenation_load.specs.Load.{AppendsTo}
 use Rattle.canonical_command.specs.declared.TheConstants.{NAME, USAGE}
 
 -- ---- arguments
@@ -50,10 +51,10 @@ IsAsked (Some argument) bytes_of folders left dictionary = IsOfArgument bytes_of
 
 -- ---- failures
 
--- Standard input fails so: it is refused for this error, or it can't be read.
+-- Standard input fails so: its text is refused for its first faulty line, or it can't be read, or memory was refused.
 abbrev pub IsFailureOfInput : Option (List ℕ) → Failure → Type 0
-IsFailureOfInput left (failed.Dictionary path cause) = (string_bytes path ≡ codes "standard input")
-    × IfSome left (λ bytes. IsLoadError (refusal_by_head bytes) cause)
+IsFailureOfInput left (failed.Dictionary path (Deserialization line cause)) = (string_bytes path ≡ codes "standard input")
+    × IfSome left (λ bytes. refusal_by_head bytes ≡ Some (line, cause))
 IsFailureOfInput left (failed.Reading input) = string_bytes input ≡ codes "standard input"
 IsFailureOfInput left failed.Memory = ⊤
 IsFailureOfInput left _ = ⊥

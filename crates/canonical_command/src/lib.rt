@@ -84,6 +84,7 @@ fn refused(alloc: Global, cause: Error) -> Failure
 }
 
 // Returns the dictionary of a path or a language, or of standard input.
+#[tactic(auto, using(crate::proofs::Failing::input_fails))]
 fn load<F: NamedFiles, I: Read>(
     files: &F,
     alloc: Global,

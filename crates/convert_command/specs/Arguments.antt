@@ -1,10 +1,11 @@
 -- How the program `hyphenate-convert` reads its arguments.
-use Rattle.std.specs.Prelude.{◌≡◌, ◌⊎◌, ◌<◌, ◌==◌, ◌^◌, ℕ, Bool, false, List, [], ◌∷◌, codes, if◌then◌else◌, map, slice_index_or, unwrap_or, Option, Some, None}
+use Rattle.std.specs.Prelude.{◌≡◌, ◌≢◌, ◌⊎◌, ◌<◌, ◌==◌, ◌^◌, ℕ, Bool, false, List, [], ◌∷◌, codes, if◌then◌else◌, map, slice_index_or, unwrap_or, Option, Some, None}
 use Rattle.std.specs.Borrow.{Bor}
 use Rattle.std.specs.List.{ends_with}
 use Rattle.std.specs.Str.Parse.{digits_value, without_leading_plus, IsNumeral}
 use Rattle.command_line.specs.About.{help_or_version}
 use Rattle.command_line.specs.declared.TheConstants.{VERSION}
+use Rattle.hyphenation_breaks.specs.Language.{IsCode}
 use Rattle.hyphenation_grammar.specs.Form.{kind_of_name}
 use Rattle.hyphenation_grammar.specs.declared.form.Kind.{Kind}
 use Rattle.tex_files.specs.declared.group.FileForm.{FileForm}
@@ -24,10 +25,11 @@ pub record ParsedArgs : Type 0 where
   pub right : Option ℕ
   pub paths : List (List ℕ)
 
--- A minimum as an argument has it: `-` if none is given, else its digits.
+-- A minimum as an argument has it: `-` if none is given, else a number below 256 in digits.
 abbrev pub ParsesAsMinimum : List ℕ → Option ℕ → Type 0
 ParsesAsMinimum text None = text ≡ codes "-"
-ParsesAsMinimum text (Some minimum) = digits_value 10 (without_leading_plus text) ≡ minimum
+ParsesAsMinimum text (Some minimum) = IsNumeral 10 (without_leading_plus text)
+    × (digits_value 10 (without_leading_plus text) ≡ minimum) × (minimum < 2 ^ 8)
 
 -- The path of the file of a number, counted from 0.
 abbrev pub path_at : List (List ℕ) → ℕ → List ℕ
@@ -38,10 +40,16 @@ abbrev pub IsMinimum : List ℕ → Type 0
 IsMinimum text = (text ≡ codes "-")
     ⊎ (IsNumeral 10 (without_leading_plus text) × (digits_value 10 (without_leading_plus text) < 2 ^ 8))
 
+-- Arguments begin as the usage says: with the name of a kind, the code of a language, and two minima.
+abbrev pub BeginAsUsage : List (Bor (List ℕ)) → Type 0
+BeginAsUsage (kind ∷ code ∷ left ∷ right ∷ paths) =
+    (kind_of_name kind.now ≢ None) × IsCode code.now × IsMinimum left.now × IsMinimum right.now
+BeginAsUsage _ = ⊥
+
 -- Arguments `KIND CODE LEFT RIGHT FILE..` are parsed so.
 abbrev pub ParsesAs : List (Bor (List ℕ)) → ParsedArgs → Type 0
 ParsesAs (kind ∷ code ∷ left ∷ right ∷ paths) parsed =
-    (kind_of_name kind.now ≡ Some parsed.kind) × (parsed.code ≡ code.now)
+    (kind_of_name kind.now ≡ Some parsed.kind) × (parsed.code ≡ code.now) × IsCode code.now
     × ParsesAsMinimum left.now parsed.left × ParsesAsMinimum right.now parsed.right
     × (parsed.paths ≡ map (λ path. path.now) paths)
 ParsesAs _ parsed = ⊥

@@ -1,5 +1,5 @@
 -- How the program `hyphenate-convert` ends, with its messages.
-use Rattle.std.specs.Prelude.{◌≡◌, ◌≢◌, ◌⊎◌, ℕ, Bool, List, ◌∷◌, None, Err, ⊤}
+use Rattle.std.specs.Prelude.{◌≡◌, ◌≢◌, ◌⊎◌, ℕ, Bool, List, None, Err}
 use Rattle.std.specs.Borrow.{Bor}
 use Rattle.std.specs.IoError.{error_kind}
 use Rattle.std.specs.declared.io.ErrorKind.TheVariants.{OutOfMemory}
@@ -7,9 +7,9 @@ use Rattle.command_line.specs.Dictionaries.{KnownFiles}
 use Rattle.hyphenation_breaks.specs.Borrowed.{texts_now}
 use Rattle.pattern_results.specs.declared.errors.ConvertError.TheVariants.{Memory as NoMemory, Fault}
 use Rattle.pattern_results.specs.declared.notes.Note.{Note}
-use Rattle.convert_command.specs.Arguments.{ParsedArgs, ParsesAs, asked_text, is_dic_alone}
+use Rattle.convert_command.specs.Arguments.{BeginAsUsage, ParsedArgs, ParsesAs, asked_text, is_dic_alone}
 use Rattle.convert_command.specs.Failures.{IsFailureOfBytes, IsOutside}
-use Rattle.convert_command.specs.Messages.{TellsFailure, notes_text, rejection_message}
+use Rattle.convert_command.specs.Messages.{TellsFailure, files_in, notes_text, rejection_message}
 use Rattle.convert_command.specs.Rejections.{input_of}
 use Rattle.convert_command.specs.Written.{AreBytesAt, AreNotesBy}
 use Rattle.convert_command.specs.declared.Failure.{Failure}
@@ -27,11 +27,11 @@ IsStatusOf Minima status = status ≡ 2
 IsStatusOf Writing status = status ≡ 5
 IsStatusOf Memory status = status ≡ 6
 
--- Arguments are rejected so. Where a file is named, it is the first that is rejected among those after four arguments.
+-- Arguments are rejected so: they match no form of the usage, since they don't begin as it says. Or they do, and their files
+-- are rejected so. The usage wants one file at least.
 abbrev pub IsRejection : List (Bor (List ℕ)) → BadArgs → Type 0
-IsRejection args NoForm = ⊤
-IsRejection (kind ∷ code ∷ left ∷ right ∷ paths) bad = input_of (texts_now paths) ≡ Err bad
-IsRejection _ bad = ⊥
+IsRejection args bad = ((bad ≡ NoForm) × (BeginAsUsage args → ⊥))
+    ⊎ (BeginAsUsage args × (input_of (files_in (texts_now args)) ≡ Err bad))
 
 -- Parsed arguments fail so: by the bytes of their files, which are one .dic or not, or outside of them.
 abbrev pub IsFailureFor : ParsedArgs → Bool → KnownFiles → Failure → Type 0

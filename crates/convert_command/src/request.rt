@@ -203,7 +203,6 @@ fn minimum_of(text: &str) -> Option<Option<u8>>
 
 impl<'w> Request<'w> {
     /// Parses arguments `KIND CODE LEFT RIGHT FILE..`. The error says why they are rejected.
-    #[tactic(auto, using(crate::proofs::Failing::args_rejected))]
     pub fn from_args(args: &'w [&'w str]) -> Result<Request<'w>, BadArgs>
         ensures parsed { IfOk result (λ request. ParsesAs args.now (parsed_request request)) }
         ensures input { IfOk result (λ request.
