@@ -8,5 +8,6 @@ pub mod Given
 pub mod Codes
 pub mod Loaded
 pub mod Served
+pub mod Tags
 pub mod Telling
 pub mod Unread

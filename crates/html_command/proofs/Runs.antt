@@ -16,7 +16,7 @@ use Rattle.text_results.specs.Texts.{IsFailureAmong, left_after}
 use Rattle.text_results.specs.Written.{IsFailureFor}
 use Rattle.html_command.specs.Arguments.{ParsedArgs}
 use Rattle.html_command.specs.Dictionaries.{AreDictionariesFor, HasCodesOf, IsRefusedFor, code_of, tags_for}
-use Rattle.html_command.specs.Notes.{MarkedPage, note_at, note_on, note_told, notes_from}
+use Rattle.html_command.specs.Notes.{MarkedPage, notes_at, notes_from, notes_on, notes_told}
 use Rattle.html_command.specs.Private.Requests.{parsed_options}
 use Rattle.html_command.specs.Private.Runs.{AreOf}
 use Rattle.html_command.specs.Written.{AreHyphenated, AreResults, AreTextsOfResults, IsFailureBefore, IsHyphenatedPage}
@@ -28,13 +28,13 @@ use Rattle.html_command.proofs.Given.{pair_more}
 -- ---- the result of a page
 
 -- The page is cut, and its dictionaries are those that were loaded.
-pub hyphenated_so : (options : Options) (bytes_of : KnownFiles) (usual : List (List ℕ)) (page cut text : List ℕ) (note : Option Note) (dictionaries shown again : List LanguageDictionary)
+pub hyphenated_so : (options : Options) (bytes_of : KnownFiles) (usual : List (List ℕ)) (page cut text : List ℕ) (notes : List Note) (dictionaries shown again : List LanguageDictionary)
     → cut ≡ page → shown ≡ dictionaries → again ≡ dictionaries → HasCodesOf (parsed_options options) (map code_of dictionaries)
     → AreDictionariesFor bytes_of (parsed_options options) usual (tags_for (parsed_options options) cut) dictionaries
     → text ≡ marked_page options.settings shown options.language.now cut → IsPageWithMarks options.settings.mark.now cut text
-    → (options.settings.mark.now ≡ soft_hyphen → IsDone options.settings shown options.language.now cut text) → note ≡ note_told options.quiet (note_on again options.language.now options.settings cut)
-    → IsHyphenatedPage (parsed_options options) bytes_of usual page (record { text = text; note = note })
-hyphenated_so options bytes_of usual page cut text why dictionaries shown again same are alike codes files marked kept twice noted = record {
+    → (options.settings.mark.now ≡ soft_hyphen → IsDone options.settings shown options.language.now cut text) → notes ≡ notes_told options.quiet (notes_on again options.language.now options.settings cut)
+    → IsHyphenatedPage (parsed_options options) bytes_of usual page (record { text = text; notes = notes })
+hyphenated_so options bytes_of usual page cut text notes dictionaries shown again same are alike codes files marked kept twice noted = record {
   settings = options.settings;
   dictionaries = dictionaries;
   of_options = (refl, refl, refl, refl);
@@ -44,7 +44,7 @@ hyphenated_so options bytes_of usual page cut text why dictionaries shown again 
   kept = subst (λ (p : List ℕ). IsPageWithMarks options.settings.mark.now p text) same kept;
   twice = λ soft. subst (λ (p : List ℕ). IsDone options.settings dictionaries options.language.now p text) same
       (subst (λ (ds : List LanguageDictionary). IsDone options.settings ds options.language.now cut text) are (twice soft));
-  noted = noted ∙ ap (note_told options.quiet) (ap (λ ds. note_on ds options.language.now options.settings cut) alike ∙ ap (note_on dictionaries options.language.now options.settings) same);
+  noted = noted ∙ ap (notes_told options.quiet) (ap (λ ds. notes_on ds options.language.now options.settings cut) alike ∙ ap (notes_on dictionaries options.language.now options.settings) same);
 }
 
 -- ---- results, one more
@@ -55,23 +55,23 @@ add_suc n m = omega arith
 add_zero : (n : ℕ) → n ≡ n + 0
 add_zero n = omega arith
 
-notes_push : (n : ℕ) (results : List MarkedPage) (one : MarkedPage) → notes_from n (results ++ one ∷ []) ≡ notes_from n results ++ note_at (n + length results) one.note
-notes_push n [] one = append-nil (note_at n one.note) ∙ ap (λ k. note_at k one.note) (add_zero n)
+notes_push : (n : ℕ) (results : List MarkedPage) (one : MarkedPage) → notes_from n (results ++ one ∷ []) ≡ notes_from n results ++ notes_at (n + length results) one.notes
+notes_push n [] one = append-nil (notes_at n one.notes) ∙ ap (λ k. notes_at k one.notes) (add_zero n)
 notes_push n (first ∷ results) one =
-    ap (λ more. note_at n first.note ++ more) (notes_push (n + 1) results one)
-    ∙ ap (λ k. note_at n first.note ++ (notes_from (n + 1) results ++ note_at k one.note)) (add_suc n (length results))
-    ∙ sym (append_assoc (note_at n first.note) (notes_from (n + 1) results) (note_at (n + suc (length results)) one.note))
+    ap (λ more. notes_at n first.notes ++ more) (notes_push (n + 1) results one)
+    ∙ ap (λ k. notes_at n first.notes ++ (notes_from (n + 1) results ++ notes_at k one.notes)) (add_suc n (length results))
+    ∙ sym (append_assoc (notes_at n first.notes) (notes_from (n + 1) results) (notes_at (n + suc (length results)) one.notes))
 
 -- One page more has its result.
 pub hyphenated_more : {X Z : Type 0} (bytes : X → List ℕ) (R : List ℕ → MarkedPage → Type 0) (pages : List X) (i : ℕ) (page : X) (shown : List ℕ)
-    (texts longer : List (String Z)) (notes more : List PageNote) (text : String Z) (note : Option Note) (n : ℕ)
+    (texts longer : List (String Z)) (notes more : List PageNote) (text : String Z) (own : List Note) (n : ℕ)
     → i < length pages → page ≡ get_or pages i page
     → (results : List MarkedPage) × AllZip R (map bytes (take i pages)) results × AreOf results texts notes
-    → R shown (record { text = string_bytes text; note = note }) → shown ≡ bytes page → n ≡ length texts
-    → map string_bytes longer ≡ map string_bytes texts ++ string_bytes text ∷ [] → more ≡ notes ++ note_at n note
+    → R shown (record { text = string_bytes text; notes = own }) → shown ≡ bytes page → n ≡ length texts
+    → map string_bytes longer ≡ map string_bytes texts ++ string_bytes text ∷ [] → more ≡ notes ++ notes_at n own
     → (results : List MarkedPage) × AllZip R (map bytes (take (i + 1) pages)) results × AreOf results longer more
-hyphenated_more {X} {Z} bytes R pages i page shown texts longer notes more text note n lt at (results, so_far, (are, noted)) has same count pushed told =
-    let one : MarkedPage = record { text = string_bytes text; note = note } in
+hyphenated_more {X} {Z} bytes R pages i page shown texts longer notes more text own n lt at (results, so_far, (are, noted)) has same count pushed told =
+    let one : MarkedPage = record { text = string_bytes text; notes = own } in
     let one_more : map bytes (take (i + 1) pages) ≡ map bytes (take i pages) ++ bytes page ∷ [] =
     map_more bytes pages i page lt ∙ ap (λ p. map bytes (take i pages) ++ bytes p ∷ []) (sym at) in
     let as_many : n ≡ length results =
@@ -82,7 +82,7 @@ hyphenated_more {X} {Z} bytes R pages i page shown texts longer notes more text 
           (pair_more R (map bytes (take i pages)) results (bytes page) one so_far (subst (λ (p : List ℕ). R p one) same has)),
       (
         pushed ∙ ap (λ before. before ++ string_bytes text ∷ []) are ∙ sym (map_push (λ marked. marked.text) results one),
-        told ∙ ap (λ before. before ++ note_at n note) noted ∙ ap (λ k. notes_from 0 results ++ note_at k note) placed
+        told ∙ ap (λ before. before ++ notes_at n own) noted ∙ ap (λ k. notes_from 0 results ++ notes_at k own) placed
             ∙ sym (notes_push 0 results one),
       ),
     )

@@ -21,7 +21,7 @@ use Rattle.text_results.specs.Texts.{IsFailureAmong}
 use Rattle.text_results.specs.Written.{EndsFailed, EndsRefused, WritesResults}
 use Rattle.html_command.specs.declared.TheConstants.{NAME, USAGE}
 use Rattle.html_command.specs.Arguments.{ParsedArgs, ParsedOptions, Task, Marks, Removes, parsed_args}
-use Rattle.html_command.specs.Notes.{MarkedPage, note_on, note_told, notes_of, notes_text, texts_of}
+use Rattle.html_command.specs.Notes.{MarkedPage, notes_of, notes_on, notes_text, notes_told, texts_of}
 use Rattle.html_command.specs.Dictionaries.{code_of, AreDictionariesFor, HasCodesOf, IsRefusedFor, tags_for}
 
 -- The text that the arguments ask for by `--help` or `--version`, if they do.
@@ -39,8 +39,8 @@ HasSettingsOf options settings = (settings.mark.now ≡ options.mark) × (settin
 -- with those of the arguments. First come those of the paths that the arguments give. Then come those of the folders, for
 -- the language of the arguments and for those that the page names. All have the adjustments of the arguments, and those of
 -- the folders before these the exceptions of their language. Without the marks it is the page, byte for byte. With
--- soft hyphens it is done: read again as a page, it names the same languages and stays as it is. The note says why there is
--- no dictionary, or from which line on the page is left alone. With `--quiet` there is none.
+-- soft hyphens it is done: read again as a page, it names the same languages and stays as it is. The notes say which
+-- language has no dictionary, and from which line on the page is left alone. With `--quiet` there are none.
 pub record IsHyphenatedPage (options : ParsedOptions) (bytes_of : KnownFiles) (usual : List (List ℕ)) (page : List ℕ) (result : MarkedPage) : Type 0 where
   pub settings : Settings
   pub dictionaries : List LanguageDictionary
@@ -50,7 +50,7 @@ pub record IsHyphenatedPage (options : ParsedOptions) (bytes_of : KnownFiles) (u
   pub marked : result.text ≡ marked_page settings dictionaries options.language page
   pub kept : IsPageWithMarks options.mark page result.text
   pub twice : options.mark ≡ soft_hyphen → IsDone settings dictionaries options.language page result.text
-  pub noted : result.note ≡ note_told options.quiet (note_on dictionaries options.language settings page)
+  pub noted : result.notes ≡ notes_told options.quiet (notes_on dictionaries options.language settings page)
 
 -- Each of some pages has its result.
 abbrev pub AreHyphenated : ParsedOptions → KnownFiles → List (List ℕ) → List (List ℕ) → List MarkedPage → Type 0

@@ -169,9 +169,9 @@ impl<'w, F: NamedFiles, S: ReplaceFiles, I: Read, O: Write> ProgramSteps<S, I, O
 /// | 6 | memory was refused |
 ///
 /// With any status but 0 exactly its message is written to `errors`, except if the text of `--help` or `--version` can't
-/// be written. With status 0 `errors` gets a note on each page for which there was no dictionary, or that
-/// is not read to its end. The output is as it was
-/// unless the status is 0, or the output can't be written. Standard input is read only if it is one of the pages.
+/// be written. With status 0 `errors` gets a note on each language of a page for which there was no dictionary, and on each
+/// page that is not read to its end. The output is as it was unless the status is 0, or the output can't be written. Standard
+/// input is read only if it is one of the pages.
 ///
 /// ```text
 /// let call = Call { args: &["-i", "--dictionary", "en=en-us.txt", "chapter.html"], folders: &[] };

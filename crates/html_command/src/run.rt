@@ -6,10 +6,10 @@ ghost use Rattle.std.specs.String.{string_bytes};
 ghost use Rattle.command_line.specs.Inputs.{is_standard_input};
 ghost use Rattle.hyphenation_breaks.specs.Borrowed.{texts_now};
 ghost use Rattle.html_command.specs.Private.Runs.{AreLoadedBy, AreResultsBy, FailsBefore, FailsOver, HasResults, IsResultBy};
-ghost use Rattle.html_command.specs.Private.Runs.{IsFailureOfRequest, IsNoteBy, WritesRequest};
+ghost use Rattle.html_command.specs.Private.Runs.{AreNotesBy, IsFailureOfRequest, WritesRequest};
 
 use crate::dictionaries::{load_for_page, load_given};
-use crate::notes::{Note, PageNote, note_on, push_note};
+use crate::notes::{Note, PageNote, notes_on, push_notes};
 use crate::request::{Options, Request};
 use command_line::{Failure, NamedFiles};
 use hyphenation_html::{HtmlPage, LanguageDictionary, hyphenate_html};
@@ -19,33 +19,33 @@ use text_results::files::ReplaceFiles;
 use text_results::results::write_results;
 use text_results::texts::{push, read_texts};
 
-// A page with its marks, and a note if no dictionary served it, or it is not read to its end, unless none is asked for.
+// A page with its marks, and the notes on it.
 #[derive(Drop)]
 struct Marked {
     text: String,
-    note: Option<Note>,
+    notes: Vec<Note>,
 }
 
-// Pages with their marks, and a note on each that no dictionary served, or that is not read to its end.
+// Pages with their marks, and the notes on them.
 #[derive(Drop)]
 struct Results {
     texts: Vec<String>,
     notes: Vec<PageNote>,
 }
 
-// Returns the note on a page. Where the options ask for none, the page is not read for it.
-fn note_for(
+// Returns the notes on a page. Where the options ask for none, the page is not read for them.
+fn notes_for(
     alloc: Global,
     options: &Options<'_>,
     dictionaries: &[LanguageDictionary],
     page: &HtmlPage<'_>,
-) -> Result<Option<Note>, AllocError>
-    ensures { IfOk result (IsNoteBy options.now dictionaries.now page.now) }
+) -> Result<Vec<Note>, AllocError>
+    ensures { IfOk result (λ notes. AreNotesBy options.now dictionaries.now page.now notes.items) }
 {
     if options.quiet {
-        return Ok(None);
+        return Ok(Vec::new(alloc));
     }
-    note_on(
+    notes_on(
         alloc,
         dictionaries,
         options.language,
@@ -66,15 +66,15 @@ fn result_of<F: NamedFiles>(
 ) -> Result<Marked, Failure>
     requires { AreLoadedBy options.now (F.bytes files.now) folders.now all.old.items others.old.items }
     ensures result { IfOk result (λ marked.
-        IsResultBy options.now (F.bytes files.now) folders.now page.now marked.text marked.note) }
+        IsResultBy options.now (F.bytes files.now) folders.now page.now marked.text marked.notes.items) }
     ensures loaded { OnOk result (AreLoadedBy options.now (F.bytes files.now) folders.now all.new.items others.new.items) }
     ensures failure { IfErr result (FailsOver options.now (F.bytes files.now) folders.now) }
 {
     let cut = HtmlPage::new(alloc, page)?;
     load_for_page(files, alloc, options, folders, &cut, all, others)?;
     let text = hyphenate_html(alloc, all, options.language, &options.settings, &cut)?;
-    let note = note_for(alloc, options, all, &cut)?;
-    Ok(Marked { text, note })
+    let notes = notes_for(alloc, options, all, &cut)?;
+    Ok(Marked { text, notes })
 }
 
 // Returns the results of pages.
@@ -96,7 +96,7 @@ fn results_of_pages<F: NamedFiles>(
     let mut notes = Vec::new(alloc);
     for page in pages {
         let one = result_of(files, alloc, options, folders, page, &mut all, &mut others)?;
-        push_note(&mut notes, texts.len(), one.note)?;
+        push_notes(&mut notes, texts.len(), &one.notes)?;
         push(&mut texts, one.text)?;
     }
     Ok(Results { texts, notes })
@@ -123,8 +123,8 @@ fn results_of<F: NamedFiles, I: Read>(
     }
 }
 
-/// Writes the results of all pages of a request, once all of them are made. Returns a note on each page that no dictionary
-/// served, or that is not read to its end.
+/// Writes the results of all pages of a request, once all of them are made. Returns the notes on them: on each language of a
+/// page that no dictionary serves, and on each page that is not read to its end.
 ///
 /// The pages are read in their order, and then the dictionaries of each are loaded, unless a page before it needed them. So
 /// that of a language is opened once. The first step that fails gives the failure. After [`Failure::Output`] a beginning may

@@ -47,8 +47,16 @@ fn better<'l>(
     }
 }
 
-// Returns the dictionary with the longest code that serves a language tag.
-pub(crate) fn best_of<'l>(
+/// Returns the dictionary that serves a language tag: of those whose codes serve it the first with the longest code. `None`
+/// if no code serves it.
+///
+/// A code serves the tag that it is, and each one that begins with it and a hyphen. ASCII capitals and small letters are
+/// alike.
+///
+/// ```text
+/// best_of(&languages, b"de-CH")      // that of de-ch, or else that of de
+/// ```
+pub fn best_of<'l>(
     languages: &'l [LanguageDictionary],
     tag: &[u8],
 ) -> Option<&'l LanguageDictionary>

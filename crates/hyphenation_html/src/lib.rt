@@ -23,7 +23,7 @@ mod words;
 
 pub use any_dictionary::AnyDictionary;
 pub use cut::HtmlPage;
-pub use languages::LanguageDictionary;
+pub use languages::{LanguageDictionary, best_of};
 pub use left_alone::LEFT_ALONE_NAMES;
 pub use markdown::hyphenate_markdown;
 pub use page::hyphenate_html;

@@ -18,7 +18,7 @@ use Rattle.html_command.specs.Arguments.{ParsedArgs}
 use Rattle.html_command.specs.Dictionaries.{IsFailureOfFound, IsFailureOfGiven, IsRefusedFor, folders_for}
 use Rattle.html_command.specs.Private.Found.{AreFirst, AreLoaded}
 use Rattle.html_command.specs.Private.Requests.{parsed_options, parsed_request}
-use Rattle.html_command.specs.Notes.{MarkedPage, note_on, note_told, notes_of, texts_of}
+use Rattle.html_command.specs.Notes.{MarkedPage, notes_of, notes_on, notes_told, texts_of}
 use Rattle.html_command.specs.Written.{AreHyphenated, AreResults, AreTextsOfResults, IsFailureBefore, IsHyphenatedPage}
 use Rattle.html_command.specs.declared.notes.Note.{Note}
 use Rattle.html_command.specs.declared.notes.PageNote.{PageNote}
@@ -58,15 +58,15 @@ AreFirstBy options bytes_of folders =
 abbrev pub AreLoadedBy : Options → KnownFiles → List (Bor (List ℕ)) → List LanguageDictionary → List LanguageDictionary → Type 0
 AreLoadedBy options bytes_of folders = AreLoaded bytes_of (parsed_options options) (texts_now folders)
 
--- This is the note that a page with these dictionaries gets.
-abbrev pub IsNoteBy : Options → List LanguageDictionary → List ℕ → Option Note → Type 0
-IsNoteBy options dictionaries page note =
-    note ≡ note_told options.quiet (note_on dictionaries options.language.now options.settings page)
+-- These are the notes that a page with these dictionaries gets.
+abbrev pub AreNotesBy : Options → List LanguageDictionary → List ℕ → List Note → Type 0
+AreNotesBy options dictionaries page notes =
+    notes ≡ notes_told options.quiet (notes_on dictionaries options.language.now options.settings page)
 
--- This string with this note is the result of a page.
-abbrev pub IsResultBy : {Z : Type 0} → Options → KnownFiles → List (Bor (List ℕ)) → List ℕ → String Z → Option Note → Type 0
-IsResultBy options bytes_of folders page text note =
-    IsHyphenatedPage (parsed_options options) bytes_of (texts_now folders) page (record { text = string_bytes text; note = note })
+-- This string with these notes is the result of a page.
+abbrev pub IsResultBy : {Z : Type 0} → Options → KnownFiles → List (Bor (List ℕ)) → List ℕ → String Z → List Note → Type 0
+IsResultBy options bytes_of folders page text notes =
+    IsHyphenatedPage (parsed_options options) bytes_of (texts_now folders) page (record { text = string_bytes text; notes = notes })
 
 -- These strings and notes are those of some results.
 abbrev pub AreOf : {Z : Type 0} → List MarkedPage → List (String Z) → List PageNote → Type 0

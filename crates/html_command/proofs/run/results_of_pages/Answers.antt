@@ -13,9 +13,9 @@ use Rattle.html_command.proofs.run.results_of_pages.Goals as goal
 pub loop-page-preserved : goal.loop-page-preserved
 loop-page-preserved g c = (
   hyphenated_more string_bytes (IsHyphenatedPage (parsed_options c.args.options.now) (g.F.NamedFiles.bytes c.args.files.now) (texts_now c.args.folders.now))
-      c.args.pages.now c.loop-page.page-index c.page-item.result c.deref-in-loop-page.result.now c.loop-page.texts.items c.push.new.texts.items c.loop-page.notes.items c.push_note.new.notes.items
-      c.in_ok-one.one.text c.in_ok-one.one.note c.len.result
-      c.loop-page-test.true c.page-item.is c.loop-page.invariant.0 c.in_ok-one.ensures.result c.deref-in-loop-page.ensures (omega (arith, c.len.ensures, c.loop-page.texts.ok.0)) c.in_ok-push.ensures c.in_ok-push_note.ensures,
+      c.args.pages.now c.loop-page.page-index c.page-item.result c.deref-in-loop-page.result.now c.loop-page.texts.items c.push.new.texts.items c.loop-page.notes.items c.push_notes.new.notes.items
+      c.in_ok-one.one.text c.in_ok-one.one.notes.items c.len.result
+      c.loop-page-test.true c.page-item.is c.loop-page.invariant.0 c.in_ok-one.ensures.result c.deref-in-loop-page.ensures (omega (arith, c.len.ensures, c.loop-page.texts.ok.0)) c.in_ok-push.ensures c.in_ok-push_notes.ensures,
   c.in_ok-one.ensures.loaded,
 )
 
