@@ -142,8 +142,37 @@ fn are_empty_tags(tags: &[String]) -> bool
     tags.iter().all(|tag| is_empty_tag(tag.as_bytes()))
 }
 
-// Returns the notes on the language that the arguments name for a page, and on those that it names.
+// Reports whether neither the arguments name a language for a page, nor the page one.
 #[tactic(auto, using(crate::proofs::Tags::all_mapped))]
+fn is_in_no_language(language: &str, languages: &[String]) -> bool
+    ensures { result ≡ list_all is_empty_tag (language.now ∷ map string_bytes languages.now) }
+{
+    is_empty_tag(language.as_bytes()) && are_empty_tags(languages)
+}
+
+// Returns the notes on the language that the arguments name for a page, and on those that it names.
+fn notes_on_languages(
+    alloc: Global,
+    dictionaries: &[LanguageDictionary],
+    language: &str,
+    languages: &[String],
+) -> Result<Vec<Note>, AllocError>
+    ensures { IfOk result (λ notes.
+        notes.items ≡ language_notes dictionaries.now (language.now ∷ map string_bytes languages.now)) }
+{
+    let mut notes = Vec::new(alloc);
+    if is_in_no_language(language, languages) {
+        notes.push(Note::NoLanguage)?;
+        return Ok(notes);
+    }
+    push_note(&mut notes, language_note(alloc, dictionaries, language)?)?;
+    for tag in languages {
+        push_note(&mut notes, language_note(alloc, dictionaries, tag)?)?;
+    }
+    Ok(notes)
+}
+
+// Returns the notes on the languages of a page, where the arguments name this one for it.
 fn language_notes(
     alloc: Global,
     dictionaries: &[LanguageDictionary],
@@ -153,16 +182,7 @@ fn language_notes(
     ensures { IfOk result (λ notes. notes.items ≡ language_notes dictionaries.now (language.now ∷ languages_of page.now)) }
 {
     let languages = page.languages(alloc)?;
-    let mut notes = Vec::new(alloc);
-    if is_empty_tag(language.as_bytes()) && are_empty_tags(&languages) {
-        notes.push(Note::NoLanguage)?;
-        return Ok(notes);
-    }
-    push_note(&mut notes, language_note(alloc, dictionaries, language)?)?;
-    for tag in &languages {
-        push_note(&mut notes, language_note(alloc, dictionaries, tag)?)?;
-    }
-    Ok(notes)
+    notes_on_languages(alloc, dictionaries, language, &languages)
 }
 
 // Appends the note that a page with these dictionaries is not read to its end. Without any dictionary there is none.

@@ -1,8 +1,9 @@
-use Rattle.std.proofs.Common.{ap, arith, map, subst, sym}
+use Rattle.std.proofs.Common.{◌∙◌, ◌++◌, ap, arith, map, subst, sym}
 use Rattle.std.proofs.lemmas.List.{take_all}
 use Rattle.std.proofs.lemmas.Result.{err_from_is_err_and}
 use Rattle.std.specs.String.{string_bytes}
 use Rattle.hyphenation_breaks.specs.Borrowed.{texts_now}
+use Rattle.html_command.specs.Notes.{notes_at}
 use Rattle.html_command.specs.Private.Requests.{parsed_dictionary, parsed_options}
 use Rattle.html_command.specs.Private.Runs.{AreResultsBy}
 use Rattle.html_command.specs.Written.{IsHyphenatedPage}
@@ -13,9 +14,9 @@ use Rattle.html_command.proofs.run.results_of_pages.Goals as goal
 pub loop-page-preserved : goal.loop-page-preserved
 loop-page-preserved g c = (
   hyphenated_more string_bytes (IsHyphenatedPage (parsed_options c.args.options.now) (g.F.NamedFiles.bytes c.args.files.now) (texts_now c.args.folders.now))
-      c.args.pages.now c.loop-page.page-index c.page-item.result c.deref-in-loop-page.result.now c.loop-page.texts.items c.push.new.texts.items c.loop-page.notes.items c.push_notes.new.notes.items
+      c.args.pages.now c.loop-page.page-index c.page-item.result c.deref-in-loop-page.result.now c.loop-page.texts.items c.push.new.texts.items c.loop-page.notes.items c.push_notes.new.all.items
       c.in_ok-one.one.text c.in_ok-one.one.notes.items c.len.result
-      c.loop-page-test.true c.page-item.is c.loop-page.invariant.0 c.in_ok-one.ensures.result c.deref-in-loop-page.ensures (omega (arith, c.len.ensures, c.loop-page.texts.ok.0)) c.in_ok-push.ensures c.in_ok-push_notes.ensures,
+      c.loop-page-test.true c.page-item.is c.loop-page.invariant.0 c.in_ok-one.ensures.result c.deref-in-loop-page.ensures (omega (arith, c.len.ensures, c.loop-page.texts.ok.0)) c.in_ok-push.ensures (c.in_ok-push_notes.ensures ∙ ap (λ own. c.loop-page.notes.items ++ notes_at c.len.result own) c.deref-in-loop-page-2.ensures.value),
   c.in_ok-one.ensures.loaded,
 )
 
