@@ -1,5 +1,5 @@
--- A byte to which no node leads from the root begins no key.
-use Rattle.std.proofs.Common.{◌≡◌, ℕ, zero, suc, ◌==◌, true, false, ◌-◌, ◌<◌, ◌≤◌, List, [], ◌∷◌, ◌++◌, length, Option, Some, None, refl, sym, ap, ◌∙◌, arith, drop, inl, inr}
+-- A byte begins a key if a node leads to it from the root, and else it begins none.
+use Rattle.std.proofs.Common.{◌≡◌, ℕ, zero, suc, ◌==◌, true, false, ◌-◌, ◌<◌, ◌≤◌, List, [], ◌∷◌, ◌++◌, length, Option, Some, None, refl, sym, ap, ◌∙◌, arith, drop, take, subst, inl, inr}
 use Rattle.std.specs.Prelude.{not, IsSome, option_and_then, slice_get}
 use Rattle.std.proofs.lemmas.Bool.{cases_eq, ne_eqb}
 use Rattle.std.proofs.lemmas.List.{length-append}
@@ -7,9 +7,9 @@ use Rattle.hyphenation_dictionary.specs.Laws.{KeysAreLookedUp}
 use Rattle.hyphenation_dictionary.specs.Parts.{patterns_of}
 use Rattle.hyphenation_trie.specs.Laws.{KeysHaveNodes}
 use Rattle.hyphenation_trie.specs.Links.{EndsWith, IsLongest}
-use Rattle.hyphenation_trie.specs.Trie.{Tree, node_text, entries_of_key, IsTrie}
+use Rattle.hyphenation_trie.specs.Trie.{EachBeginsKey, Tree, node_text, entries_of_key, IsTrie}
 use Rattle.libhyphen_files.specs.Patterns.{Pattern}
-use Rattle.libhyphen_files.specs.Vectors.{BeginsNoKey}
+use Rattle.libhyphen_files.specs.Vectors.{BeginsNoKey, BeginsSomeKey}
 
 -- the text before the last one of two bytes or more begins with the same byte
 front : (text : List ℕ) (last byte next : ℕ) (rest : List ℕ) → text ++ last ∷ [] ≡ byte ∷ next ∷ rest → (more : List ℕ) × (text ≡ byte ∷ more) × (length more ≤ length rest)
@@ -62,3 +62,35 @@ zero_if node unset = elim (cases_eq node 0) [
   | inl is ↦ is
   | inr some ↦ let set : not (node == 0) ≡ true = ap not (ne_eqb node 0 some) in absurd cc
 ]
+
+pub some_if : (node : ℕ) → not (node == 0) ≡ true → 0 < node
+some_if zero set = absurd cc
+some_if (suc node) set = omega arith
+
+-- a text that ends one of one byte, and has some bytes, is that text
+whole_end : (byte : ℕ) (end : List ℕ) → EndsWith (byte ∷ []) end → 0 < length end → end ≡ byte ∷ []
+whole_end byte end ends some =
+    let one : length (byte ∷ []) - length end ≡ 0 = omega (arith, some) in
+    sym (ap (λ (k : ℕ). drop k (byte ∷ [])) (sym one) ∙ ends.1)
+
+-- a text that begins with that of one byte
+begins_with_one : (byte : ℕ) (q : List ℕ) → byte ∷ [] ≡ take 1 q → (rest : List ℕ) × (q ≡ byte ∷ rest)
+begins_with_one byte [] is = absurd cc
+begins_with_one byte (b ∷ bs) is = (bs, let same : b ≡ byte = cc in ap (λ (x : ℕ). x ∷ bs) same)
+
+pub begins_some_key : (tree : Tree Pattern) → IsTrie tree → KeysAreLookedUp Pattern → EachBeginsKey tree → (byte root node : ℕ) → root ≡ 0 → 0 < node → IsLongest tree.texts (node_text tree root ++ byte ∷ []) node → BeginsSomeKey (patterns_of tree) byte
+begins_some_key tree trie looked begins byte root node at_root some longest =
+    let text : node_text tree root ++ byte ∷ [] ≡ byte ∷ [] = ap (λ (k : ℕ). node_text tree k ++ byte ∷ []) at_root ∙ ap (λ (xs : List ℕ). xs ++ byte ∷ []) trie.root in
+    let key = begins node some longest.within in
+    let long : 0 < length (node_text tree node) = above (node_text tree node) (λ e. apart e) in
+    let is : node_text tree node ≡ byte ∷ [] = whole_end byte (node_text tree node) (subst (λ (t : List ℕ). EndsWith t (node_text tree node)) text longest.ends) long in
+    let front : byte ∷ [] ≡ take 1 key.0 = sym is ∙ key.2 ∙ ap (λ (t : List ℕ). take (length t) key.0) is in
+    let split = begins_with_one byte key.0 front in
+    (split.0, subst (λ (o : Option (List Pattern)). IsSome o) (sym (looked tree trie (byte ∷ split.0))) (subst (λ (q : List ℕ). IsSome (entries_of_key tree q)) split.1 key.1))
+  where
+    above : (t : List ℕ) → (t ≡ [] → ⊥) → 0 < length t
+    above [] some = absurd (some refl)
+    above (x ∷ xs) some = omega arith
+
+    apart : node_text tree node ≡ [] → ⊥
+    apart e = let same = trie.distinct node 0 longest.within trie.has_root (e ∙ sym trie.root) in absurd (omega (arith, same, some))

@@ -1,5 +1,6 @@
 -- The digits that a node's own pattern gives, as a vector of the last places.
-use Rattle.std.specs.Prelude.{◌≡◌, ℕ, ◌+◌, ◌<◌, ◌==◌, if◌then◌else◌, List, [], ◌∷◌, length, Option, None, Some, option_and_then, slice_get, slice_index, slice_index_or, Bool, false}
+use Rattle.std.specs.Prelude.{◌≡◌, ℕ, ◌+◌, ◌<◌, ◌==◌, if◌then◌else◌, List, [], ◌∷◌, length, Option, None, Some, option_and_then, slice_get, slice_index, slice_index_or, Bool, true, false, IsSome}
+use Rattle.std.specs.FinMap as finite
 use Rattle.hyphenation_breaks.specs.Ascii.{digit_zero}
 use Rattle.hyphenation_breaks.specs.Dictionary.{TextMap}
 use Rattle.hyphenation_trie.specs.Steps.{AreSteps}
@@ -57,7 +58,12 @@ AreVectors tree vectors = (numbers : List ℕ) × AreVectorsBy tree numbers vect
 abbrev pub BeginsNoKey : TextMap (List Pattern) → ℕ → Type 0
 BeginsNoKey patterns byte = (rest : List ℕ) → pattern_at patterns (byte ∷ rest) ≡ None
 
--- Each byte that begins a key is marked.
+-- A key begins with the byte.
+abbrev pub BeginsSomeKey : TextMap (List Pattern) → ℕ → Type 0
+BeginsSomeKey patterns byte = (rest : List ℕ) × IsSome (finite.get patterns (byte ∷ rest))
+
+-- The bytes that begin a key are marked, and no others.
 pub record AreFirst (patterns : TextMap (List Pattern)) (marks : List Bool) : Type 0 where
   pub bytes : length marks ≡ 256
   pub each : (byte : ℕ) → byte < 256 → slice_index_or marks byte false ≡ false → BeginsNoKey patterns byte
+  pub only : (byte : ℕ) → byte < 256 → slice_index_or marks byte false ≡ true → BeginsSomeKey patterns byte

@@ -10,7 +10,7 @@ ghost use Rattle.hyphenation_trie.specs.Trie.{EachBeginsKey, entries_of_node};
 ghost use Rattle.libhyphen_files.specs.Levels.{empty_level, with_line, with_text, HasNoChanges};
 ghost use Rattle.libhyphen_files.specs.Private.Growing.{HasDigits, IsGrowing, IsPlain, level_in, unchanging, with_key, with_spelt};
 ghost use Rattle.libhyphen_files.specs.Private.Settings.{may_be_setting};
-ghost use Rattle.libhyphen_files.specs.Vectors.{AreVectors, BeginsNoKey};
+ghost use Rattle.libhyphen_files.specs.Vectors.{AreVectors, BeginsNoKey, BeginsSomeKey};
 
 use crate::bytes::before_nul;
 use crate::minima::Minima;
@@ -102,10 +102,11 @@ impl FrozenLevel {
         (&self.patterns, &self.vectors)
     }
 
-    /// Reports whether a key may begin with a byte.
+    /// Reports whether a key begins with a byte.
     #[inline(always)]
     pub fn may_begin(&self, byte: u8) -> bool
-        ensures { IsFalse result → BeginsNoKey self.now.patterns byte }
+        ensures none { IsFalse result → BeginsNoKey self.now.patterns byte }
+        ensures some { IsTrue result → BeginsSomeKey self.now.patterns byte }
     {
         self.first_bytes[byte as usize]
     }

@@ -5,8 +5,9 @@ ghost use Rattle.std.specs.Prelude.{slice_index, take};
 ghost use Rattle.hyphenation_breaks.specs.Ascii.{digit_zero};
 ghost use Rattle.hyphenation_dictionary.specs.Parts.{patterns_of};
 ghost use Rattle.hyphenation_trie.specs.Pairs.{CanBeFound};
+ghost use Rattle.hyphenation_trie.specs.Trie.{EachBeginsKey};
 ghost use Rattle.libhyphen_files.specs.Private.Vectors.{AreNodesNumbered, AreNumbered, HasDigitsOf, IsAt, KeepsVectors};
-ghost use Rattle.libhyphen_files.specs.Vectors.{AreFirst, AreVectors, BeginsNoKey, IsNumberOf, IsVectorOf, pattern_of_node};
+ghost use Rattle.libhyphen_files.specs.Vectors.{AreFirst, AreVectors, BeginsNoKey, BeginsSomeKey, IsNumberOf, IsVectorOf, pattern_of_node};
 
 use crate::pattern::StoredPattern;
 use hyphenation_dictionary::laws::keys_are_looked_up;
@@ -193,9 +194,11 @@ pub(crate) fn vectors_of(
     Ok(Some(NodeVectors { vectors, steps }))
 }
 
-// Reports whether a node's text begins with a byte. Only then may a key.
+// Reports whether a node's text begins with a byte. Only then a key does.
 fn may_begin(patterns: &Automaton<StoredPattern>, byte: u8) -> bool
-    ensures { IsFalse result → BeginsNoKey (patterns_of patterns.now) byte }
+    requires { EachBeginsKey patterns.now }
+    ensures none { IsFalse result → BeginsNoKey (patterns_of patterns.now) byte }
+    ensures some { IsTrue result → BeginsSomeKey (patterns_of patterns.now) byte }
 {
     patterns.invariant();
     keys_have_nodes::<StoredPattern>();
@@ -205,6 +208,7 @@ fn may_begin(patterns: &Automaton<StoredPattern>, byte: u8) -> bool
 
 // Marks each byte that begins a key.
 pub(crate) fn first_bytes(patterns: &Automaton<StoredPattern>) -> [bool; 256]
+    requires { EachBeginsKey patterns.now }
     ensures { AreFirst (patterns_of patterns.now) result }
 {
     let mut marks = [true; 256];

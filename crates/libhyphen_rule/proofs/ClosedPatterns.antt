@@ -352,15 +352,19 @@ all_borne : (patterns : TextMap (List Pattern)) (frame : List ℕ) (place : ℕ)
 unfolding counted_up_to
 all_borne patterns frame place = all_given (counted_at patterns frame) 1 (length frame) place (1 + length frame) refl
 
+-- The digit of a place is 0, or some key gives it.
+pub some_gives : (patterns : TextMap (List Pattern)) (frame : List ℕ) (place : ℕ) → (digit_at (offers (counted_in patterns frame)) place ≡ 48)
+    ⊎ ((start : ℕ) × (end : ℕ) × GivesDigit patterns frame place start end (digit_at (offers (counted_in patterns frame)) place))
+some_gives patterns frame place = elim (all_borne patterns frame place) [
+  | inl nil ↦ inl nil
+  | inr b ↦ borne_gives patterns frame place (digit_at (offers (counted_in patterns frame)) place) (digit_low (offers (counted_in patterns frame)) place) b
+]
+
 pub read_alike : ClosedPatternsReadAlike
 read_alike patterns closed frame place =
-    let digit : ℕ = digit_at (offers (counted_in patterns frame)) place in
     record {
       most = λ start end other gives.
           let m = key_most patterns closed frame place start end (pattern_at patterns (slice_range frame start end)) gives.nonempty gives.within gives.before refl in
           omega (arith, m, gives.gives);
-      given = elim (all_borne patterns frame place) [
-        | inl nil ↦ inl nil
-        | inr b ↦ borne_gives patterns frame place digit (digit_low (offers (counted_in patterns frame)) place) b
-      ];
+      given = some_gives patterns frame place;
     }

@@ -172,7 +172,7 @@ call-size rules given text size =
     (found_in-size rules (part_minima (least_of rules.first_level.minima given)) most_depth (length (take size text))
     (record { text = take size text; behind = drop size text; at_left = true; at_right = true })))
 
-kept-length : (rules : Rules) (given : Option CallMinima) (text digits : List ℕ) → length (digits_by_no_hyphen rules given text digits) ≡ length digits
+pub kept-length : (rules : Rules) (given : Option CallMinima) (text digits : List ℕ) → length (digits_by_no_hyphen rules given text digits) ≡ length digits
 kept-length rules given text digits = length-map-range_with_len _ 0 (length digits)
 
 -- ---- Characters.
@@ -261,7 +261,7 @@ answer_by-size rules text size found digits whole long long_changes =
           )
     ]
 
-some_answer : (b : Bool) (made answer : Answer) → cond b None (Some made) ≡ Some answer → (b ≡ false) × (made ≡ answer)
+pub some_answer : (b : Bool) (made answer : Answer) → cond b None (Some made) ≡ Some answer → (b ≡ false) × (made ≡ answer)
 some_answer true made answer is = cc
 some_answer false made answer is = (refl, cc)
 

@@ -5,13 +5,11 @@ use Rattle.std.proofs.lemmas.Bool.{cases_Bool, cases_lt}
 use Rattle.std.proofs.lemmas.List.FromFn.{get_or-map-range_with_len, length-map-range_with_len}
 use Rattle.std.proofs.lemmas.List.{get_or_past}
 use Rattle.libhyphen_files.specs.Bytes.{before_nul}
-use Rattle.libhyphen_files.specs.Files.{Rules}
 use Rattle.libhyphen_rule.specs.Calls.{at_least_two, found_by_call, least_of, part_minima}
 use Rattle.libhyphen_rule.specs.Laws.{ChangesKeepMinima}
 use Rattle.libhyphen_rule.specs.Minima.{change_is_short_after, change_is_short_before, changes_but, goes_after, goes_before, is_short_after, is_short_before, left_goes, right_goes}
 use Rattle.libhyphen_rule.specs.OneLevel.{ChangeAt}
 use Rattle.libhyphen_rule.specs.Parts.{Found, word_found}
-use Rattle.libhyphen_rule.specs.declared.calls.CallMinima.{CallMinima}
 
 -- A change that is left was there, and did not go.
 left_there : (goes : ℕ → Bool) (changes : List (Option ChangeAt)) (k : ℕ) (change : ChangeAt)

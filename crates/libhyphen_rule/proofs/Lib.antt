@@ -32,3 +32,5 @@ pub mod PlainCompounds
 pub mod OrdinaryWords
 pub mod KeptChanges
 pub mod UnchangingCalls
+pub mod Whence
+pub mod AsciiDigits

@@ -60,7 +60,7 @@ parted_past ask whole found byte p ends before =
     (filter_range_more (ends_part found.digits) byte false ends ∙ append_none (filter (ends_part found.digits) (range_with_len 0 byte)))
     ∙ before
 
-parted_at : (ask : Asking) (whole : Asked) (found : Found) (byte : ℕ) (p : Parting) → ends_part found.digits byte ≡ true →
+pub parted_at : (ask : Asking) (whole : Asked) (found : Found) (byte : ℕ) (p : Parting) → ends_part found.digits byte ≡ true →
     parted_up_to ask whole found byte ≡ p → parted_up_to ask whole found (byte + 1) ≡ with_part_to ask whole p byte
 unfolding parted_up_to
 parted_at ask whole found byte p ends before =
@@ -78,7 +78,7 @@ parted_short ask whole found byte p ends short before =
     parted_at ask whole found byte p ends before
     ∙ ap (λ b. cond b (part_asked ask whole p byte (get_or p.found.changes byte None)) (record p { begin = byte + 1 })) short
 
-with_part_asked : (ask : Asking) (whole : Asked) (byte : ℕ) (p : Parting) → nat_lt (p.begin + 1) byte ≡ true →
+pub with_part_asked : (ask : Asking) (whole : Asked) (byte : ℕ) (p : Parting) → nat_lt (p.begin + 1) byte ≡ true →
     with_part_to ask whole p byte ≡ part_asked ask whole p byte (get_or p.found.changes byte None)
 unfolding with_part_to
 with_part_asked ask whole byte p long =

@@ -12,6 +12,8 @@ use Rattle.std.proofs.lemmas.List.FromFn.{fill_by_all}
 use Rattle.libhyphen_files.specs.Bytes.{before_nul}
 use Rattle.libhyphen_files.specs.Files.{Rules}
 use Rattle.libhyphen_files.specs.Levels.{Level}
+use Rattle.libhyphen_files.specs.Vectors.{BeginsSomeKey}
+use Rattle.libhyphen_rule.specs.Calls.{MayCount, SomeMayCount}
 use Rattle.libhyphen_rule.specs.Counting.{shown}
 use Rattle.libhyphen_rule.specs.Minima.{changes_but, digits_but, left_goes, right_goes, goes_before, goes_after}
 use Rattle.libhyphen_rule.specs.OneLevel.{ChangeAt, is_odd, level_changes, level_digits}
@@ -67,7 +69,7 @@ none_with n m begin count p same =
 
 -- ---- Minima.
 
-with_nothing_behind : (asked : Asked) → asked.behind ≡ [] → before_nul asked.text ≡ with_behind asked
+pub with_nothing_behind : (asked : Asked) → asked.behind ≡ [] → before_nul asked.text ≡ with_behind asked
 unfolding with_behind
 with_nothing_behind asked is = ap before_nul (sym (ap (λ b. asked.text ++ b) is ∙ append_none asked.text))
 
@@ -195,6 +197,23 @@ pub part_length : (whole part : Asked) (begin end : ℕ) → part ≡ plain_part
 unfolding part_text
 part_length whole part begin end is le within =
     ap (λ a. length a.text) is ∙ length-take-le (end - begin) (drop begin whole.text) (omega (arith, length-drop begin whole.text))
+
+-- A pattern that may count in a part may count in the whole.
+part_may_count : (level : Level) (whole part : Asked) (begin end : ℕ) → part ≡ plain_part_of whole begin end → begin ≤ end → end ≤ length whole.text
+    → MayCount level part.text → MayCount level whole.text
+unfolding part_text
+part_may_count level whole part begin end is le within (inl dotted) = inl dotted
+part_may_count level whole part begin end is le within (inr some) =
+    let size = part_length whole part begin end is le within in
+    let at : get_or part.text some.0 0 ≡ get_or whole.text (begin + some.0) 0 =
+    ap (λ (a : Asked). get_or a.text some.0 0) is
+    ∙ get_or-take (end - begin) (drop begin whole.text) some.0 0 (omega (arith, size, some.1)) ∙ get_or-drop begin whole.text some.0 0 in
+    inr (begin + some.0, omega (arith, size, some.1, le, within), subst (λ (b : ℕ). BeginsSomeKey level.patterns b) at some.2)
+
+pub part_some_may_count : (rules : Rules) (whole part : Asked) (begin end : ℕ) → part ≡ plain_part_of whole begin end → begin ≤ end → end ≤ length whole.text
+    → SomeMayCount rules part.text → SomeMayCount rules whole.text
+part_some_may_count rules whole part begin end is le within (inl first) = inl (part_may_count rules.first_level whole part begin end is le within first)
+part_some_may_count rules whole part begin end is le within (inr next) = inr (part_may_count rules.next_level whole part begin end is le within next)
 
 pub part_behind : (whole part : Asked) (begin end : ℕ) → part ≡ plain_part_of whole begin end → part.behind ≡ []
 unfolding part_text

@@ -33,7 +33,7 @@ none_either_way true change none = refl
 none_either_way false change none = none
 
 -- No place has a change.
-abbrev NoneThere : List (Option ChangeAt) → Type 0
+abbrev pub NoneThere : List (Option ChangeAt) → Type 0
 NoneThere changes = (k : ℕ) → get_or changes k None ≡ None
 
 none_of_mapped : (f : ℕ → Option ChangeAt) (n : ℕ) → ((k : ℕ) → f k ≡ None) → NoneThere (map f (range_with_len 0 n))
@@ -131,7 +131,7 @@ by_next_level_none rules next minima parts asked tops none =
     let kept : Found = without_left_of_part rules.utf8 minima asked found in
     right_of_part_none rules.utf8 minima asked kept (left_of_part_none rules.utf8 minima asked found (next_level_none rules next parts asked.text tops none))
 
-first_level_none : (rules : Rules) → HasNoChanges rules.first_level.patterns → (parts : ℕ) (text : List ℕ) → NoneThere (first_level_found rules parts text).changes
+pub first_level_none : (rules : Rules) → HasNoChanges rules.first_level.patterns → (parts : ℕ) (text : List ℕ) → NoneThere (first_level_found rules parts text).changes
 unfolding first_level_found
 first_level_none rules first parts text = none_of_level rules.first_level first text
 
@@ -169,7 +169,7 @@ call_none rules first next given text size =
     none_of_changes_but (right_goes rules.utf8 (at_least_two least.right) (take size text) (before_nul text) kept.changes) kept.changes
     (none_of_changes_but (left_goes rules.utf8 (at_least_two least.left) (before_nul text) base.changes) base.changes none)
 
-any_none : (changes : List (Option ChangeAt)) → NoneThere changes → list_any is_some changes ≡ false
+pub any_none : (changes : List (Option ChangeAt)) → NoneThere changes → list_any is_some changes ≡ false
 any_none [] none = refl
 any_none (None ∷ changes) none = any_none changes (λ k. none (suc k))
 any_none (Some change ∷ changes) none = let no : Some change ≡ None = none zero in absurd (cc)

@@ -1,11 +1,13 @@
 -- The answers of libhyphen's calls for a word.
 -- Source: libhyphen 2.8.8, hyphen.h and hyphen.c.
-use Rattle.std.specs.Prelude.{ℕ, ℤ, pos, ◌+◌, ◌&&◌, int_le, int_lt, nat_lt, Bool, true, false, if◌then◌else◌, List, [], ◌∷◌, ◌++◌, length, map, replicate, take, drop, Option, None, Some, slice_index}
-use Rattle.std.specs.List.{range_with_len}
-use Rattle.hyphenation_breaks.specs.Ascii.{digit_zero}
+use Rattle.std.specs.Prelude.{ℕ, ℤ, pos, ◌+◌, ◌&&◌, ◌≡◌, ◌<◌, ◌⊎◌, int_le, int_lt, nat_lt, Bool, true, false, if◌then◌else◌, List, [], ◌∷◌, ◌++◌, length, map, replicate, take, drop, Option, None, Some, slice_index}
+use Rattle.std.specs.Char.{is_ascii_digit}
+use Rattle.std.specs.List.{list_any, range_with_len}
+use Rattle.hyphenation_breaks.specs.Ascii.{digit_zero, dot}
 use Rattle.libhyphen_files.specs.Bytes.{before_nul, continues}
 use Rattle.libhyphen_files.specs.Files.{Rules}
 use Rattle.libhyphen_files.specs.Levels.{Level}
+use Rattle.libhyphen_files.specs.Vectors.{BeginsSomeKey}
 use Rattle.libhyphen_files.specs.declared.minima.Minima.{Minima}
 use Rattle.libhyphen_rule.specs.OneLevel.{ChangeAt, digits_given_by}
 use Rattle.libhyphen_rule.specs.Parts.{Found, PartMinima, word_found, without_left, without_right}
@@ -105,6 +107,23 @@ unfoldable pub answer_of : Rules → Option CallMinima → List ℕ → ℕ → 
 answer_of rules given text size =
     if begins_within rules text then None
     else Some (answer_of_found rules given text size (found_by_call rules given text size))
+
+-- ---- Short words.
+
+-- A byte of the word's frame begins a key of the level, so a pattern of it may count.
+abbrev pub MayCount : Level → List ℕ → Type 0
+MayCount level word =
+    BeginsSomeKey level.patterns dot
+    ⊎ ((byte : ℕ) × (byte < length word) × BeginsSomeKey level.patterns (slice_index word byte))
+
+-- A pattern of a level may count.
+abbrev pub SomeMayCount : Rules → List ℕ → Type 0
+SomeMayCount rules word = MayCount rules.first_level word ⊎ MayCount rules.next_level word
+
+-- A short word may have to be broken in the general way: it begins within a character, has a digit, or a pattern may count.
+abbrev pub IsNotSimple : Rules → List ℕ → ℕ → Type 0
+IsNotSimple rules text size =
+    (begins_within rules text ≡ true) ⊎ ((list_any is_ascii_digit (take size text) ≡ true) ⊎ SomeMayCount rules (take size text))
 
 -- ---- The word, written.
 

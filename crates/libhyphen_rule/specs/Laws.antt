@@ -1,17 +1,19 @@
 -- Laws of words written with their breaks.
 use Rattle.std.specs.Prelude.{◌≡◌, ◌≢◌, ℕ, ◌+◌, ◌-◌, ◌<◌, ◌≤◌, not, false, List, [], ◌∷◌, ◌++◌, ◌||◌, ◌⊎◌, max, Bool, true, if◌then◌else◌, length, map, drop, take, filter, Option, None, Some, is_some, slice_index, slice_index_or, slice_range}
+use Rattle.std.specs.Char.{is_ascii_digit}
 use Rattle.std.specs.List.{list_any, range_with_len}
 use Rattle.hyphenation_breaks.specs.Ascii.{digit_zero, equals_sign}
 use Rattle.libhyphen_files.specs.Bytes.{before_nul}
-use Rattle.libhyphen_files.specs.Files.{Rules}
+use Rattle.libhyphen_files.specs.Files.{Rules, rules_of}
 use Rattle.libhyphen_files.specs.Levels.{HasNoChanges, Level, pattern_at}
 use Rattle.libhyphen_files.specs.Patterns.{Pattern}
 use Rattle.hyphenation_breaks.specs.Dictionary.{TextMap}
-use Rattle.libhyphen_rule.specs.Counting.{begins_key, counted_in}
+use Rattle.libhyphen_rule.specs.Counting.{begins_key, counted_in, framed, shown}
 use Rattle.libhyphen_rule.specs.declared.calls.CallMinima.{CallMinima}
-use Rattle.libhyphen_rule.specs.Calls.{Answer, answer_of, at_least_two, digits_by_no_hyphen, found_by_call, least_of, no_hyphen_digit, text_of_call}
-use Rattle.libhyphen_rule.specs.Minima.{change_is_short_after, change_is_short_before, has_equals, is_equals, is_short_after, is_short_before}
+use Rattle.libhyphen_rule.specs.Calls.{Answer, answer_of, at_least_two, digits_by_no_hyphen, found_by_call, least_of, no_hyphen_digit, part_minima, text_of_call}
+use Rattle.libhyphen_rule.specs.Minima.{change_is_short_after, change_is_short_before, goes_after, goes_before, has_equals, is_equals, is_short_after, is_short_before}
 use Rattle.libhyphen_rule.specs.OneLevel.{ChangeAt, digit_at, is_odd, level_changes, level_digits, offers}
+use Rattle.libhyphen_rule.specs.Parts.{PartMinima}
 use Rattle.libhyphen_rule.specs.Words.{characters, is_beside, written_word}
 
 -- A text without its equals signs.
@@ -205,3 +207,51 @@ abbrev pub ClosedPatternsReadAlike : Type 0
 ClosedPatternsReadAlike =
     (patterns : TextMap (List Pattern)) → IsClosed patterns → (frame : List ℕ) (place : ℕ)
     → IsGreatestDigit patterns frame place (digit_at (offers (counted_in patterns frame)) place)
+
+-- ---- Whence a break comes.
+
+-- The place behind a byte of a word is within a part of the word, which goes from one byte to another one. In the part's frame
+-- a key of the level gives the place this digit.
+pub record GivesInPart (level : Level) (word : List ℕ) (byte digit begin end : ℕ) : Type 0 where
+  pub from : begin ≤ byte
+  pub to : byte + 1 < end
+  pub within : end ≤ length word
+  pub start : ℕ
+  pub stop : ℕ
+  pub gives : GivesDigit level.patterns (framed (slice_range word begin end)) (byte - begin + 2) start stop digit
+
+-- The next level gives the place its digit, in a part whose text is asked; in the text digits of the word may be dots. At an end
+-- of the part that is within the word, the place keeps the minimum of parts: it has enough letters, or its change has.
+pub record BreaksPart (rules : Rules) (least : PartMinima) (word : List ℕ) (byte digit begin end : ℕ) : Type 0 where
+  pub given : GivesInPart rules.next_level word byte digit begin end
+  pub text : List ℕ
+  pub seen : map shown text ≡ map shown (slice_range word begin end)
+  pub left : begin ≢ 0
+      → goes_before rules.utf8 least.left (before_nul text) (byte - begin)
+      (slice_index_or (level_changes rules.next_level text) (byte - begin) None) ≡ false
+  pub right : end ≢ length word
+      → goes_after rules.utf8 least.right text (before_nul text) (byte - begin)
+      (slice_index_or (level_changes rules.next_level text) (byte - begin) None) ≡ false
+
+-- Each break of a call is one of the first level, or one of the next level in a part of the word. The first level changes no
+-- letters: else a part may have letters that the word has not.
+abbrev pub BreaksComeFromPatterns : Type 0
+BreaksComeFromPatterns =
+    (rules : Rules) (given : Option CallMinima) (text : List ℕ) (size byte : ℕ) → HasNoChanges rules.first_level.patterns
+    → byte < length (found_by_call rules given text size).digits
+    → is_odd (slice_index (digits_by_no_hyphen rules given text (found_by_call rules given text size).digits) byte) ≡ true
+    → (begin : ℕ) × (end : ℕ)
+    × (GivesInPart rules.first_level (take size text) byte
+    (slice_index (digits_by_no_hyphen rules given text (found_by_call rules given text size).digits) byte) begin end
+    ⊎ BreaksPart rules (part_minima (least_of rules.first_level.minima given)) (take size text) byte
+    (slice_index (digits_by_no_hyphen rules given text (found_by_call rules given text size).digits) byte) begin end)
+
+-- ---- The digits of an answer.
+
+-- By the patterns of any file, each digit of an answer is one of ASCII; or it is beside a text without breaks.
+abbrev pub AnswersHaveAsciiDigits : Type 0
+AnswersHaveAsciiDigits =
+    (file : List ℕ) (given : Option CallMinima) (text : List ℕ) (size : ℕ) (answer : Answer)
+    → answer_of (rules_of file) given text size ≡ Some answer
+    → (place : ℕ) → place < length answer.digits
+    → (is_ascii_digit (slice_index answer.digits place) ≡ true) ⊎ (slice_index answer.digits place ≡ no_hyphen_digit given)

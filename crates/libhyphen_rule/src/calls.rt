@@ -1,13 +1,15 @@
 //! The calls of libhyphen.
 
-ghost use Rattle.std.specs.Prelude.{◌≡◌, ◌*◌, ◌<◌, ◌≤◌, ◌++◌, ◌∷◌, [], IfOk, IfSome, IsFalse, IsTrue, None, Some, length};
-ghost use Rattle.std.specs.Prelude.{replicate, take, drop, slice_index, false, if◌then◌else◌};
+ghost use Rattle.std.specs.Prelude.{◌≡◌, ◌*◌, ◌<◌, ◌≤◌, ◌++◌, ◌∷◌, [], IfNone, IfOk, IfSome, IsFalse, IsTrue, None, Some, length};
+ghost use Rattle.std.specs.Prelude.{replicate, take, drop, slice_index, true, false, if◌then◌else◌};
 ghost use Rattle.std.specs.Option.{option_map};
+ghost use Rattle.std.specs.Char.{is_ascii_digit};
+ghost use Rattle.std.specs.List.{list_any};
 ghost use Rattle.libhyphen_rule.specs.Found.{placed_all, found_of, answer_view};
 ghost use Rattle.libhyphen_files.specs.Bytes.{before_nul, continues};
 ghost use Rattle.libhyphen_rule.specs.Calls.{answer_of, begins_within, digits_by_no_hyphen, inner_digit, inner_digits, plain_digits};
 ghost use Rattle.libhyphen_rule.specs.Calls.{found_by_call, changes_in_characters, no_hyphen_digit, greater, least_of};
-ghost use Rattle.libhyphen_rule.specs.Calls.{at_least_two, plain_answer, text_of_call};
+ghost use Rattle.libhyphen_rule.specs.Calls.{at_least_two, plain_answer, text_of_call, IsNotSimple, SomeMayCount};
 ghost use Rattle.libhyphen_rule.specs.Parts.{without_left, without_right};
 ghost use Rattle.libhyphen_rule.specs.Private.Ordinary.{AllAscii, AllOrdinary};
 ghost use Rattle.libhyphen_rule.specs.Private.PlainWords.{BeginsNone, HasNoDigits, FindsPlain};
@@ -234,7 +236,7 @@ fn look_at(dictionary: &LevelDictionary, text: &[u8]) -> Looked
 
 // Finds the digits of both levels in a word without digits, the first bytes of a text, at most 64. Those of places too
 // near to its ends are left out. Returns false, with anything in the list, where the word has to be broken in the
-// general way. `seen` is the text up to its first byte 0. `counts` is whether a pattern of the first level may
+// general way; a byte of its frame begins a key then. `seen` is the text up to its first byte 0. `counts` is whether a pattern of the first level may
 // count.
 #[inline(always)]
 fn put_digits_by_call(
@@ -253,6 +255,7 @@ fn put_digits_by_call(
     requires short { size ≤ 64 }
     requires digits { length digits.old ≡ size }
     ensures found { IsTrue result → FindsPlain (found_by_call dictionary.now minima text.now size) digits.new }
+    ensures none { IsFalse result → SomeMayCount dictionary.now (take size text.now) }
     ensures digits { length digits.new ≡ size }
 {
     let (word, behind) = text.split_at(size);
@@ -268,7 +271,7 @@ fn put_digits_by_call(
     true
 }
 
-// Returns a text up to its first byte 0. `None` if the word that it begins has a digit. `ordinary` is whether each byte
+// Returns a text up to its first byte 0. It is `None` only if the word that it begins has a digit. `ordinary` is whether each byte
 // is known to be neither.
 #[inline(always)]
 fn seen_text(text: &[u8], size: usize, ordinary: bool) -> Option<&[u8]>
@@ -276,6 +279,7 @@ fn seen_text(text: &[u8], size: usize, ordinary: bool) -> Option<&[u8]>
     requires ordinary { IsTrue ordinary → HasNoDigits (take size text.now) × (before_nul text.now ≡ text.now) }
     ensures seen { IfSome result (λ seen. seen.now ≡ before_nul text.now) }
     ensures word { IfSome result (λ _. HasNoDigits (take size text.now)) }
+    ensures none { IfNone result (list_any is_ascii_digit (take size text.now) ≡ true) }
 {
     if ordinary {
         return Some(text);
@@ -314,6 +318,7 @@ fn find_short(
     ensures apart { IfSome result (λ word. IsTrue word.apart
         → digits.new ≡ digits_by_no_hyphen dictionary.now minima text.now digits.new) }
     ensures ascii { IfSome result (λ word. IsTrue word.ascii → AllAscii (take size text.now)) }
+    ensures none { IfNone result (IsNotSimple dictionary.now text.now size) }
     ensures digits { length digits.new ≡ size }
 {
     if dictionary.is_utf8() && begins_within(text) {
@@ -389,8 +394,8 @@ fn select_characters(utf8: bool, ascii: bool, word: &[u8], digits: &mut [u8]) ->
 /// anything in the list, where [`hyphenate`] must be asked. No memory is taken.
 ///
 /// The answer of [`hyphenate`] has these digits then, and no changes. The word has at most 64 bytes, and the list a
-/// place for each. The result is `None` if the word has a digit or begins within a character, if a pattern counts that
-/// may change letters, and if a level has no table of steps.
+/// place for each. The result is `None` if the word has a digit or begins within a character. It may be `None` if a byte
+/// of the word, or a dot, begins a key: where a pattern counts that may change letters, or a level has no table of steps.
 ///
 /// ```text
 /// let dictionary = load(alloc, b"UTF-8\nr5kin\n")?;
@@ -409,6 +414,7 @@ pub fn short_digits(
     ensures answer { IfSome result
         (λ count. Some (plain_answer (take count digits.new)) ≡ answer_of dictionary.now minima text.now size) }
     ensures count { IfSome result (λ count. count ≤ size) }
+    ensures none { IfNone result (IsNotSimple dictionary.now text.now size) }
     ensures digits { length digits.new ≡ size }
 {
     let word = find_short(dictionary, minima, text, size, digits)?;
@@ -474,6 +480,7 @@ pub fn short_word(
     ensures text { IfSome result
         (λ counts. take counts.1 written.new ≡ text_of_call dictionary.now minima text.now size) }
     ensures counts { IfSome result (λ counts. (counts.0 ≤ size) × (counts.1 ≤ 2 * size)) }
+    ensures none { IfNone result (IsNotSimple dictionary.now text.now size) }
     ensures digits { length digits.new ≡ size }
     ensures written { length written.new ≡ length written.old }
 {

@@ -2,7 +2,8 @@
 //!
 //! Each function here does nothing: its contract is a law, which the check proves.
 
-ghost use Rattle.libhyphen_rule.specs.Laws.{CallsLoseNoLetter, ChangesKeepMinima, ClosedPatternsReadAlike};
+ghost use Rattle.libhyphen_rule.specs.Laws.{AnswersHaveAsciiDigits, BreaksComeFromPatterns, CallsLoseNoLetter};
+ghost use Rattle.libhyphen_rule.specs.Laws.{ChangesKeepMinima, ClosedPatternsReadAlike};
 ghost use Rattle.libhyphen_rule.specs.Laws.{DigitsLieWithinTheWord, ForbiddenPlacesAreEven, MarksTakenOut, NoLetterIsLost};
 ghost use Rattle.libhyphen_rule.specs.Laws.{RegionsLieWithinTheWord};
 
@@ -49,4 +50,16 @@ pub fn regions_lie_within_the_word()
 /// Where no pattern hides a digit, the longest beginnings give the digits that all patterns give.
 pub fn closed_patterns_read_alike()
     ensures { ClosedPatternsReadAlike }
+{}
+
+/// Each break of a call comes from a pattern: of the first level, or of the next level in a part of the word. In a part,
+/// it keeps the minima of parts at ends that are within the word. The first level changes no letters.
+pub fn breaks_come_from_patterns()
+    ensures { BreaksComeFromPatterns }
+{}
+
+/// Each digit of an answer is one of ASCII, by any file. Beside a text without breaks it is a byte 0, where the caller
+/// gives minima.
+pub fn answers_have_ascii_digits()
+    ensures { AnswersHaveAsciiDigits }
 {}

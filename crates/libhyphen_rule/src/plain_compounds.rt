@@ -1,9 +1,10 @@
 //! Compounds of at most 64 bytes in which no pattern counts that changes letters. A part is then some bytes of the word,
 //! so nothing is copied.
 
-ghost use Rattle.std.specs.Prelude.{◌≡◌, ◌⊎◌, ◌≤◌, [], IfSome, IsFalse, IsTrue, length};
+ghost use Rattle.std.specs.Prelude.{◌≡◌, ◌⊎◌, ◌≤◌, [], IfNone, IfSome, IsFalse, IsTrue, length};
 ghost use Rattle.std.specs.Char.{is_ascii_digit};
 ghost use Rattle.std.specs.List.{list_any};
+ghost use Rattle.libhyphen_rule.specs.Calls.{MayCount, SomeMayCount};
 ghost use Rattle.libhyphen_rule.specs.Found.{asked_in, minima_of};
 ghost use Rattle.libhyphen_rule.specs.Parts.{found_in};
 ghost use Rattle.libhyphen_rule.specs.Private.PlainWords.{BeginsNone, HasNoDigits, FindsPlain};
@@ -62,7 +63,8 @@ fn take_right_end(levels: BothLevels<'_>, asked: AskedText<'_>, digits: &mut [u8
 }
 
 // Finds the digits of a text in which the first level finds no break and no change. Returns false, with anything
-// in the list, where the next level has to be asked in the general way. The text has no digits, and at most 64 bytes.
+// in the list, where the next level has to be asked in the general way; a byte of the text's frame begins a key of it
+// then. The text has no digits, and at most 64 bytes.
 #[inline(always)]
 fn plain_by_next_level(levels: BothLevels<'_>, asked: AskedText<'_>, digits: &mut [u8]) -> bool
     requires text { HasNoDigits asked.text.now }
@@ -70,6 +72,7 @@ fn plain_by_next_level(levels: BothLevels<'_>, asked: AskedText<'_>, digits: &mu
     requires behind { IsFalse asked.at_left ⊎ IsFalse asked.at_right → asked.behind.now ≡ [] }
     requires digits { length digits.old ≡ length asked.text.now }
     ensures found { IsTrue result → FindsByNextLevel levels.entry asked.entry digits.new }
+    ensures none { IsFalse result → MayCount levels.entry.dictionary.now.next_level asked.entry.text.now }
     ensures digits_length { length digits.new ≡ length digits.old }
 {
     let Some(_) = read_plain_word(levels.dictionary.next_level(), asked.text, digits) else {
@@ -96,7 +99,7 @@ fn part_of(whole: AskedText<'_>, begin: usize, end: usize) -> AskedText<'_>
 
 // Finds the digits of a text by both levels. Its parts are parted again, up to a depth, and while more parts may be
 // asked. Returns how many more may be asked then; `None`, with anything in the list, where a level has to be asked in
-// the general way. The text has no digits, and at most 64 bytes.
+// the general way. A byte of the text's frame begins a key then. The text has no digits, and at most 64 bytes.
 fn plain_in(
     levels: BothLevels<'_>,
     depth: usize,
@@ -114,6 +117,7 @@ fn plain_in(
     ensures parts { IfSome result (λ left.
         (found_in levels.entry.dictionary.now (minima_of levels.entry) depth parts (asked_in asked.entry)).parts
         ≡ left) }
+    ensures none { IfNone result (SomeMayCount levels.entry.dictionary.now asked.entry.text.now) }
     ensures digits_length { length digits.new ≡ length digits.old }
 {
     let parted = read_plain_word(levels.dictionary.first_level(), asked.text, digits)?;
@@ -150,7 +154,7 @@ fn plain_in(
 }
 
 // Finds the digits of a word by both levels, before the minima of the whole word. Returns false, with anything in the
-// list, where a level has to be asked in the general way.
+// list, where a level has to be asked in the general way. A byte of the word's frame begins a key then.
 //
 // The word has at most 64 bytes, and no digits. `behind` is what follows it; `left` and `right` are the least numbers
 // of letters in its parts. `counts` is whether a pattern of the first level may count.
@@ -169,6 +173,7 @@ pub(crate) fn read_word(
     requires short { length word.now ≤ 64 }
     requires digits { length digits.old ≡ length word.now }
     ensures found { IsTrue result → IsPlainWord dictionary.now left right word.now behind.now digits.new }
+    ensures none { IsFalse result → SomeMayCount dictionary.now word.now }
     ensures digits { length digits.new ≡ length digits.old }
 {
     let levels = BothLevels {

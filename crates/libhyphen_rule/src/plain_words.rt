@@ -9,13 +9,14 @@
 //! A vector with a lane above 9 does not tell the node's pattern. The pass goes on then, and its digits are not used.
 //! Such a word, a longer one than 64 bytes, and one of a level without a table are left to the general way.
 
-ghost use Rattle.std.specs.Prelude.{◌≡◌, ℕ, List, ◌+◌, ◌%◌, ◌<◌, ◌≤◌, None, IfSome, IsTrue, IsFalse, false, true};
+ghost use Rattle.std.specs.Prelude.{◌≡◌, ℕ, List, ◌+◌, ◌%◌, ◌<◌, ◌≤◌, None, IfNone, IfSome, IsTrue, IsFalse, false, true};
 ghost use Rattle.std.specs.Prelude.{drop, length, replicate, slice_index, take};
 ghost use Rattle.std.specs.List.{list_any};
 ghost use Rattle.hyphenation_breaks.specs.Ascii.{digit_zero};
 ghost use Rattle.hyphenation_dictionary.specs.Parts.{patterns_of};
 ghost use Rattle.hyphenation_trie.specs.Trie.{EachBeginsKey};
 ghost use Rattle.libhyphen_files.specs.Vectors.{AreVectors};
+ghost use Rattle.libhyphen_rule.specs.Calls.{MayCount};
 ghost use Rattle.libhyphen_rule.specs.OneLevel.{changes_by, digits_by, is_odd, level_changes, level_digits};
 ghost use Rattle.libhyphen_rule.specs.Private.Lanes.{AllKnown, AtRow, IsReadWhole, PassesByte, TakesVector};
 ghost use Rattle.libhyphen_rule.specs.Private.PlainWords.{BeginsNone, HasNoDigits};
@@ -240,10 +241,11 @@ fn read_frame(
     Some(put_short(&mut list, digits))
 }
 
-// Reports whether some byte of a word's frame may begin a key. The word has no digits.
+// Reports whether some byte of a word's frame begins a key. The word has no digits.
 #[inline(always)]
 pub(crate) fn may_count(level: &FrozenLevel, word: &[u8]) -> bool
-    ensures { IsFalse result → BeginsNone level.now.patterns word.now }
+    ensures none { IsFalse result → BeginsNone level.now.patterns word.now }
+    ensures some { IsTrue result → MayCount level.now word.now }
 {
     if level.may_begin(b'.') {
         return true;
@@ -258,7 +260,8 @@ pub(crate) fn may_count(level: &FrozenLevel, word: &[u8]) -> bool
 
 // Finds the digits of a word's places by one level: for each byte of the word that of the place behind it. Returns
 // whether some digit is odd; `None`, with anything in the list, where a pattern counts that may change letters, or the
-// level has no table of steps. The word has no digits, and at most 64 bytes.
+// level has no table of steps. Where no byte of the word's frame begins a key, it is not `None`. The word has no digits,
+// and at most 64 bytes.
 #[inline(always)]
 pub(crate) fn read_plain_word(level: &FrozenLevel, word: &[u8], digits: &mut [u8]) -> Option<bool>
     requires word { HasNoDigits word.now }
@@ -267,6 +270,7 @@ pub(crate) fn read_plain_word(level: &FrozenLevel, word: &[u8], digits: &mut [u8
     ensures digits { IfSome result (λ _. digits.new ≡ level_digits level.now word.now) }
     ensures changes { IfSome result (λ _. level_changes level.now word.now ≡ replicate (length word.now) None) }
     ensures odd { IfSome result (λ odd. odd ≡ list_any is_odd digits.new) }
+    ensures none { IfNone result (MayCount level.now word.now) }
     ensures digits_length { length digits.new ≡ length digits.old }
 {
     if !may_count(level, word) {

@@ -26,7 +26,7 @@ loop-byte-preserved c =
     let was = c.loop-byte.invariant in
     let first_level : c.first_level-first_level.result.now ≡ c.args.dictionary.now.first_level = c.first_level-first_level.ensures in
     let begins_at : IsFalse c.may_begin-counts-in-loop-byte.result → BeginsNoKey c.args.dictionary.now.first_level.patterns (slice_index text index) =
-    λ none. subst (λ (level : Level). BeginsNoKey level.patterns (slice_index text index)) first_level (c.may_begin-counts-in-loop-byte.ensures none) in
+    λ none. subst (λ (level : Level). BeginsNoKey level.patterns (slice_index text index)) first_level (c.may_begin-counts-in-loop-byte.ensures.none none) in
     record {
       ordinary = λ both.
           let parts = and_parts c.loop-byte.ordinary c.is_ordinary-ordinary.result both in

@@ -1,7 +1,7 @@
 use Rattle.std.proofs.Common.{◌≡◌, ◌∙◌, rules, sym, take, drop, [], w32, to_z, of_z, subst, List, ℕ}
 use Rattle.std.specs.Prelude.{ℤ}
 use Rattle.libhyphen_files.specs.Bytes.{before_nul}
-use Rattle.libhyphen_rule.specs.Calls.{found_by_call, least_of, at_least_two, part_minima}
+use Rattle.libhyphen_rule.specs.Calls.{SomeMayCount, found_by_call, least_of, at_least_two, part_minima}
 use Rattle.libhyphen_rule.specs.Minima.{digits_but, left_goes, right_goes}
 use Rattle.libhyphen_rule.specs.Parts.{Found, PartMinima, word_found}
 use Rattle.libhyphen_rule.specs.Private.PlainWords.{BeginsNone, HasNoDigits, FindsPlain}
@@ -49,3 +49,8 @@ returns-clause-found c done =
     ∙ (λ i. digits_but (right_goes (utf8 i) (least_right i) (word i) (text i) []) c.take_left.new.digits) in
     plain_right rules_now.utf8 (at_least_two least.right) (take c.args.size c.args.text.now) (before_nul c.args.text.now) _ _ _
     (plain_left rules_now.utf8 (at_least_two least.left) (before_nul c.args.text.now) _ _ _ found left) right
+
+pub returns-then-not-read_word-clause-none : goal.returns-then-not-read_word-clause-none
+returns-then-not-read_word-clause-none c = λ _.
+    let word : c.split_at.result.0.now ≡ take c.args.size c.args.text.now = search rules in
+    subst (λ (xs : List ℕ). SomeMayCount c.args.dictionary.now xs) word (c.read_word.ensures.none c.if-not-read_word.true)

@@ -2,12 +2,14 @@ use Rattle.std.proofs.Common.{None, ◌≡◌, ℕ, ◌+◌, ◌-◌, ◌<◌, �
 use Rattle.std.proofs.lemmas.List.{length-drop, length-take-le}
 use Rattle.std.proofs.lemmas.Bool.Decides.{nat_tests}
 use Rattle.std.specs.List.{list_any}
+use Rattle.std.specs.Prelude.{IfNone, Option}
 use Rattle.libhyphen_rule.specs.OneLevel.{is_odd}
+use Rattle.libhyphen_rule.specs.Calls.{SomeMayCount}
 use Rattle.libhyphen_rule.specs.Found.{asked_in, minima_of}
 use Rattle.libhyphen_rule.specs.Parts.{ends_part, found_in, parted_up_to, with_part}
 use Rattle.libhyphen_rule.specs.Private.PlainCompounds.{plain_found, plain_part_of}
 use Rattle.libhyphen_rule.proofs.Partings.{ask_at, asked_some, asked_none_deep, asked_none_left, found_parted, parted_none, parted_past, parted_short, with_none, with_some}
-use Rattle.libhyphen_rule.proofs.PlainCompounds.{ends_alike, has_parts, finds_plain, part_behind, part_has_no_digits, part_length, part_plain_put, parted_more, parting, put_back, put_back-behind, put_back-is, put_back-length, first_level_plain, whole_plain}
+use Rattle.libhyphen_rule.proofs.PlainCompounds.{ends_alike, has_parts, finds_plain, part_behind, part_has_no_digits, part_length, part_plain_put, parted_more, parting, put_back, put_back-behind, put_back-is, put_back-length, first_level_plain, part_some_may_count, whole_plain}
 use Rattle.libhyphen_rule.proofs.plain_compounds.+plain_in.Goals as goal
 use Rattle.libhyphen_rule.proofs.plain_compounds.+plain_in.Goals.{then-byte-begin+then-depth-gt0+then-left-gt0+in_ok-left, else-byte-begin, else-byte-begin-via-then-byte-begin+then-depth-gt0+else-left-gt0, else-byte-begin-via-then-byte-begin+else-depth-gt0, else-byte-begin-via-else-byte-begin}
 
@@ -156,3 +158,19 @@ returns-clause-found t c = finds_plain _ c.loop-byte.digits c.loop-byte.left (fo
 
 pub returns-clause-parts : goal.returns-clause-parts
 returns-clause-parts t c = has_parts _ c.loop-byte.digits c.loop-byte.left (found_is t c)
+
+if_none : {A : Type 0} (o : Option A) (X : Type 0) → X → IfNone o X
+if_none None X x = x
+if_none (Some v) X x = tt
+
+pub returns-in_err-left-clause-none : goal.returns-in_err-left-clause-none
+returns-in_err-left-clause-none t c =
+    let part = asked_in c.part_of-part.result in
+    let asked = asked_in c.args.asked in
+    let begin = c.loop-byte.begin in
+    let end : ℕ = c.loop-byte.byte + 1 in
+    let is : part ≡ plain_part_of asked begin end = c.part_of-part.ensures in
+    let begun : begin ≤ end = omega arith in
+    let within : end ≤ length asked.text = omega arith in
+    if_none c.from_residual-in_err-left.result (SomeMayCount c.args.levels.dictionary.now asked.text)
+    (part_some_may_count c.args.levels.dictionary.now asked part begin end is begun within c.in_err-left.ensures.none)

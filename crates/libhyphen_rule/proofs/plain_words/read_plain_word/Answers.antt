@@ -14,13 +14,13 @@ weaker P Q (Some odd) follows holds = follows odd holds
 pub returns-then-not-may_count-clause-digits : goal.returns-then-not-may_count-clause-digits
 unfolding level_digits
 returns-then-not-may_count-clause-digits c =
-    empty_digits c.args.level.now.patterns c.args.word.now c.requires.word (c.may_count.ensures c.if-not-may_count.true)
+    empty_digits c.args.level.now.patterns c.args.word.now c.requires.word (c.may_count.ensures.none c.if-not-may_count.true)
     c.clear.new.digits (c.clear.auto.digits ∙ c.requires.digits) c.clear.ensures
 
 pub returns-then-not-may_count-clause-changes : goal.returns-then-not-may_count-clause-changes
 unfolding level_changes
 returns-then-not-may_count-clause-changes c =
-    empty_plain c.args.level.now.patterns c.args.word.now c.requires.word (c.may_count.ensures c.if-not-may_count.true)
+    empty_plain c.args.level.now.patterns c.args.word.now c.requires.word (c.may_count.ensures.none c.if-not-may_count.true)
 
 pub returns-then-not-may_count-clause-odd : goal.returns-then-not-may_count-clause-odd
 returns-then-not-may_count-clause-odd c =

@@ -14,3 +14,6 @@ invariant_of-result c =
       c.in_ok-vectors.ensures,
       c.first_bytes-first_bytes.ensures,
     )
+
+pub first_bytes-first_bytes-requires : goal.first_bytes-first_bytes-requires
+first_bytes-first_bytes-requires c = subst (λ (t : Tree Pattern). EachBeginsKey t) (sym c.in_ok-patterns.ensures) c.requires.begins
