@@ -8,7 +8,7 @@ use Rattle.command_line.specs.Dictionaries.{KnownFiles}
 use Rattle.command_line.specs.Inputs.{AreTextsOf, IsFailureOfInput}
 use Rattle.command_line.specs.declared.failure.Failure.{Failure}
 use Rattle.command_line.specs.declared.failure.Failure.TheVariants as failed
-use Rattle.hyphenation_html.specs.Laws.{IsPageWithMarks, soft_hyphen}
+use Rattle.hyphenation_text.specs.Laws.{IsPageWithMarks, soft_hyphen}
 use Rattle.hyphenation_html.specs.Places.{IsDone, marked_page}
 use Rattle.hyphenation_html.specs.declared.languages.LanguageDictionary.{LanguageDictionary}
 use Rattle.text_results.specs.Files.{WrittenFiles}

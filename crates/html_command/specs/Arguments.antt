@@ -7,7 +7,7 @@ use Rattle.command_line.specs.Usage.{options_in}
 use Rattle.command_line.specs.declared.options.Expected.TheVariants.{CodeAlone, CodeAndPath}
 use Rattle.hyphenation_breaks.specs.Borrowed.{texts_now}
 use Rattle.hyphenation_breaks.specs.Language.{is_code}
-use Rattle.hyphenation_html.specs.Laws.{soft_hyphen}
+use Rattle.hyphenation_text.specs.Laws.{soft_hyphen}
 use Rattle.text_results.specs.Removals.{ParsedRemoval, removal_of}
 use Rattle.text_results.specs.declared.removal.Source.TheVariants.{Page}
 use Rattle.text_results.specs.Targets.{Target, target_of, names_for}

@@ -9,7 +9,7 @@ use Rattle.html_pieces.specs.Languages.{languages_of}
 use Rattle.hyphenation_html.specs.Languages.{best_of, coded}
 use Rattle.hyphenation_html.specs.Unread.{unread_line}
 use Rattle.hyphenation_html.specs.declared.languages.LanguageDictionary.{LanguageDictionary}
-use Rattle.hyphenation_html.specs.declared.settings.Settings.{Settings}
+use Rattle.hyphenation_text.specs.declared.settings.Settings.{Settings}
 use Rattle.language_search.specs.Tags.{codes_of, underscore}
 use Rattle.html_command.specs.declared.notes.Note.{Note}
 use Rattle.html_command.specs.declared.notes.Note.TheVariants.{NoDictionary, NoCode, NoLanguage, LeftAlone}

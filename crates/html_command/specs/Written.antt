@@ -11,10 +11,10 @@ use Rattle.command_line.specs.Steps.{EndsIn}
 use Rattle.command_line.specs.declared.TheConstants.{VERSION}
 use Rattle.command_line.specs.declared.failure.Failure.{Failure}
 use Rattle.command_line.specs.declared.failure.Failure.TheVariants as failed
-use Rattle.hyphenation_html.specs.Laws.{IsPageWithMarks, soft_hyphen}
+use Rattle.hyphenation_text.specs.Laws.{IsPageWithMarks, soft_hyphen}
 use Rattle.hyphenation_html.specs.Places.{marked_page, IsDone}
 use Rattle.hyphenation_html.specs.declared.languages.LanguageDictionary.{LanguageDictionary}
-use Rattle.hyphenation_html.specs.declared.settings.Settings.{Settings}
+use Rattle.hyphenation_text.specs.declared.settings.Settings.{Settings}
 use Rattle.text_results.specs.Files.{WrittenFiles}
 use Rattle.text_results.specs.Removals.{EndsRemoval}
 use Rattle.text_results.specs.Texts.{IsFailureAmong}

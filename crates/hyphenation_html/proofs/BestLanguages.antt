@@ -1,14 +1,16 @@
 -- The best language is the same, whatever is beside the codes.
 use Rattle.std.proofs.Common.{◌≡◌, ℕ, ◌&&◌, Bool, true, false, List, [], ◌∷◌, map, length, nat_lt, refl, ap, sym, ◌∙◌, Option, Some, None, if◌then◌else◌}
 use Rattle.std.specs.Option.{option_map}
-use Rattle.hyphenation_html.specs.Languages.{breaks_under, coded, breaking, languages_by, code_length, better, best_from, best_of, serves}
+use Rattle.hyphenation_text.specs.Words.{breaks_under}
+use Rattle.hyphenation_html.specs.Languages.{coded, breaking, languages_by, code_length, better, best_from, best_of, serves}
 use Rattle.any_dictionary.specs.declared.AnyDictionary.{AnyDictionary}
 use Rattle.hyphenation_html.specs.declared.languages.LanguageDictionary.{LanguageDictionary}
 use Rattle.html_pieces.specs.Elements.{Element}
 use Rattle.hyphenation_html.specs.LeftAlone.{is_left_alone}
-use Rattle.hyphenation_html.specs.Private.Marked.{dictionary_in, marked_in, marked_text}
+use Rattle.hyphenation_text.specs.Texts.{marked_text}
+use Rattle.hyphenation_html.specs.Private.Marked.{dictionary_in, marked_in}
 use Rattle.std.specs.Option.{option_map_or}
-use Rattle.hyphenation_html.specs.declared.settings.Settings.{Settings}
+use Rattle.hyphenation_text.specs.declared.settings.Settings.{Settings}
 
 same_length : (settings : Settings) (best : Option (List ℕ × AnyDictionary)) → code_length (option_map (breaking settings) best) ≡ code_length best
 same_length settings None = refl

@@ -13,15 +13,15 @@ use Rattle.html_pieces.specs.Laws.{joined_pieces, AreUtf8, HaveOtherTexts, Keeps
 use Rattle.html_pieces.specs.Pieces.{Piece, pieces_of}
 use Rattle.html_pieces.specs.Readings.{Reading, at_start, parent_of_text, reading_after}
 use Rattle.hyphenation_html.specs.Languages.{Language, best_of}
-use Rattle.hyphenation_html.specs.Laws.{soft_hyphen}
+use Rattle.hyphenation_text.specs.Laws.{soft_hyphen}
 use Rattle.hyphenation_html.specs.LeftAlone.{left_alone_elements, has_text_left_alone}
 use Rattle.hyphenation_html.specs.Places.{places_in}
 use Rattle.hyphenation_html.specs.Touching.{touched_after, touched_before}
 use Rattle.hyphenation_html.specs.Private.Fit.{AllFit}
-use Rattle.hyphenation_html.specs.Private.Marked.{marked_text, marked_piece, marked_pieces}
+use Rattle.hyphenation_text.specs.Texts.{marked_text}
+use Rattle.hyphenation_html.specs.Private.Marked.{marked_piece, marked_pieces}
 use Rattle.hyphenation_html.proofs.Contents.{marks_begin_none}
-use Rattle.hyphenation_html.proofs.MarkedPages.{piece_marked}
-use Rattle.hyphenation_html.proofs.MarkedTexts.{Laws}
+use Rattle.hyphenation_html.proofs.MarkedPages.{Laws, piece_marked}
 use Rattle.hyphenation_html.proofs.SecondPages.{marked_list, marked_list-joins, other_texts}
 
 -- ---- the byte order mark

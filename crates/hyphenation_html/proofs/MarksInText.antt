@@ -9,15 +9,15 @@ use Rattle.html_pieces.specs.Readings.{Reading, at_start, parent_of_text, readin
 use Rattle.html_pieces.specs.Laws.{joined_pieces, AreUtf8}
 use Rattle.html_pieces.specs.declared.tokenizer.PieceKind.{PieceKind}
 use Rattle.html_pieces.specs.declared.tokenizer.PieceKind.TheVariants.{Text, Reference, StartTag, EmptyTag, EndTag, Other}
+use Rattle.hyphenation_text.specs.Laws.{Within}
 use Rattle.hyphenation_html.specs.Languages.{Language}
 use Rattle.hyphenation_html.specs.Laws.{IsInText}
 use Rattle.hyphenation_html.specs.LeftAlone.{left_alone_elements}
-use Rattle.hyphenation_html.specs.Places.{shifted, places_in, piece_places, pieces_places, places_of}
+use Rattle.hyphenation_text.specs.Places.{shifted}
+use Rattle.hyphenation_html.specs.Places.{places_in, piece_places, pieces_places, places_of}
 use Rattle.hyphenation_html.specs.Touching.{touched_after, touched_before}
 use Rattle.hyphenation_html.specs.Private.Fit.{AllFit}
-use Rattle.hyphenation_html.proofs.MarkedPages.{piece_marked}
-use Rattle.hyphenation_html.proofs.MarkedTexts.{Laws}
-use Rattle.hyphenation_html.proofs.Marks.{Within}
+use Rattle.hyphenation_html.proofs.MarkedPages.{Laws, piece_marked}
 
 -- A fact of each place, by recursion.
 abbrev Each : (ℕ → Type 0) → List ℕ → Type 0

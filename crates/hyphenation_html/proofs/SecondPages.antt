@@ -1,6 +1,6 @@
 -- A page that has its marks has no places left, where it is cut as it was without them.
 use Rattle.std.proofs.Common.{◌≡◌, ℕ, ◌==◌, ◌||◌, ◌&&◌, Bool, true, false, not, nat_lt, List, [], ◌∷◌, ◌++◌, length, take, drop, suc, zero, arith, refl, ap, sym, ◌∙◌, subst, Option, Some, None, if◌then◌else◌}
-use Rattle.std.proofs.lemmas.Bool.{or_left, or_right}
+use Rattle.std.proofs.lemmas.Bool.{eq-eqb, or_left, or_right}
 use Rattle.std.specs.Option.{option_map_or}
 use Rattle.std.proofs.lemmas.Bool.Decides.{nat_tests}
 use Rattle.std.specs.Str.{IsUtf8}
@@ -15,16 +15,16 @@ use Rattle.html_pieces.specs.declared.tokenizer.PieceKind.{PieceKind}
 use Rattle.html_pieces.specs.declared.tokenizer.PieceKind.TheVariants.{Text, Reference, StartTag, EmptyTag, EndTag, Other}
 use Rattle.hyphenation_segments.specs.Laws.{with_marks}
 use Rattle.hyphenation_html.specs.Languages.{Language, best_of}
-use Rattle.hyphenation_html.specs.Laws.{soft_hyphen}
+use Rattle.hyphenation_text.specs.Laws.{Implies, soft_hyphen}
 use Rattle.hyphenation_html.specs.LeftAlone.{left_alone_elements, is_left_alone}
-use Rattle.hyphenation_html.specs.Places.{shifted, text_places, places_in, piece_places, pieces_places, places_of}
+use Rattle.hyphenation_text.specs.Places.{shifted, text_places}
+use Rattle.hyphenation_html.specs.Places.{places_in, piece_places, pieces_places, places_of}
 use Rattle.hyphenation_html.specs.Touching.{goes_on_over, begins_touching, ends_touching, touched_after, touched_before}
 use Rattle.hyphenation_html.specs.Private.Fit.{AllFit}
-use Rattle.hyphenation_html.specs.Private.Marked.{marked_text, marked_in, marked_piece, marked_pieces}
-use Rattle.hyphenation_html.proofs.MarkedPages.{IfChosen, chosen, piece_marked}
+use Rattle.hyphenation_text.specs.Texts.{marked_text}
+use Rattle.hyphenation_html.specs.Private.Marked.{marked_in, marked_piece, marked_pieces}
+use Rattle.hyphenation_html.proofs.MarkedPages.{IfChosen, Laws, chosen, none_either, piece_marked}
 use Rattle.hyphenation_html.proofs.Contents.{same_text}
-use Rattle.hyphenation_html.proofs.MarkedTexts.{Laws}
-use Rattle.hyphenation_html.proofs.SecondRun.{Implies, none_left}
 use Rattle.hyphenation_html.proofs.WordEdges.{still_begins, still_ends}
 
 -- The pieces of a page, each with its marks.
@@ -47,11 +47,7 @@ marked_list-joins languages form class page reading before (p ∷ ps) =
 none_by_language : (laws : Laws) (before after before' after' : Bool) (text : List ℕ) (o : Option Language) → IfChosen o → Implies before before' → Implies after after' → IsUtf8 text
     → option_map_or (λ language. text_places language.1 before' after' (option_map_or (λ l. marked_text l.1 soft_hyphen before after text) o text)) o [] ≡ []
 none_by_language laws before after before' after' text None f i j u = refl
-none_by_language laws before after before' after' text (Some language) f i j u = none_left laws language.1 before after before' after' [] text i j f u tt
-
-none_in_either : (c : Bool) (xs : List ℕ) → xs ≡ [] → (if c then [] else xs) ≡ []
-none_in_either true xs e = refl
-none_in_either false xs e = e
+none_by_language laws before after before' after' text (Some language) f i j u = laws.none_left language.1 before after before' after' text f u i j
 
 none_in_cases : (element : Element) (c : Bool) (o : Option Language) (before after before' after' : Bool) (text : List ℕ) → is_left_alone element text ≡ c
     → option_map_or (λ language. text_places language.1 before' after' (option_map_or (λ l. marked_text l.1 soft_hyphen before after text) o text)) o [] ≡ []
@@ -60,8 +56,8 @@ none_in_cases : (element : Element) (c : Bool) (o : Option Language) (before aft
 none_in_cases element true o before after before' after' text alone e =
     ap (λ c. if c then [] else option_map_or (λ language. text_places language.1 before' after' text) o []) alone
 none_in_cases element false o before after before' after' text alone e =
-    none_in_either (is_left_alone element (option_map_or (λ l. marked_text l.1 soft_hyphen before after text) o text))
-    (option_map_or (λ language. text_places language.1 before' after' (option_map_or (λ l. marked_text l.1 soft_hyphen before after text) o text)) o []) e
+    let own = option_map_or (λ l. marked_text l.1 soft_hyphen before after text) o text in
+    ap (λ places. if is_left_alone element own then [] else places) e ∙ none_either (is_left_alone element own)
 
 none_in : (laws : Laws) (languages : List Language) (element : Option Element) (before after before' after' : Bool) (text : List ℕ) → AllFit languages → Implies before before' → Implies after after' → IsUtf8 text
     → places_in languages element before' after' (marked_in languages soft_hyphen element before after text) ≡ []
@@ -174,7 +170,7 @@ same_reading : (laws : Laws) (languages : List Language) (form : PageForm) (clas
 same_reading laws languages form class page reading before after Text bytes f u =
     let element = parent_of_text form page reading in
     let m = piece_marked laws languages soft_hyphen element before after Text bytes f u in
-    ap (after_content form page reading) (ap has_text m.is ∙ same_text languages element before after bytes)
+    ap (after_content form page reading) (ap has_text m.is ∙ same_text laws.white languages element before after bytes)
 same_reading laws languages form class page reading before after Reference bytes f u = refl
 same_reading laws languages form class page reading before after StartTag bytes f u = refl
 same_reading laws languages form class page reading before after EmptyTag bytes f u = refl
@@ -193,7 +189,7 @@ root_as_well form selection languages element before after Other bytes = refl
 read_as_well : (laws : Laws) (languages : List Language) (element : Option Element) (before after : Bool) (kind : PieceKind) (bytes : List ℕ) → AllFit languages → IsUtf8 bytes
     → is_read_text kind (marked_piece languages soft_hyphen element before after kind bytes) ≡ is_read_text kind bytes
 read_as_well laws languages element before after Text bytes f u =
-    ap has_text (piece_marked laws languages soft_hyphen element before after Text bytes f u).is ∙ same_text languages element before after bytes
+    ap has_text (piece_marked laws languages soft_hyphen element before after Text bytes f u).is ∙ same_text laws.white languages element before after bytes
 read_as_well laws languages element before after Reference bytes f u = refl
 read_as_well laws languages element before after StartTag bytes f u = refl
 read_as_well laws languages element before after EmptyTag bytes f u = refl
@@ -250,14 +246,11 @@ plain-marks text (p ∷ ps) w =
     (plain-append (take p text) soft_hyphen (plain-take p text w) (refl, (refl, tt)))
     (plain-drop p (with_marks soft_hyphen text ps) (plain-marks text ps w))
 
-pub same_number : (b : ℕ) → b == b ≡ true
-same_number b = grind (arith, nat_tests)
-
 marks_begin_alike : (text places : List ℕ) → begins_alike text (with_marks soft_hyphen text places) ≡ true
 marks_begin_alike [] places = refl
-marks_begin_alike (b ∷ bs) [] = or_left (b == b) (b == 0xC2) (same_number b)
+marks_begin_alike (b ∷ bs) [] = or_left (b == b) (b == 0xC2) (eq-eqb b b refl)
 marks_begin_alike (b ∷ bs) (zero ∷ ps) = or_right (0xC2 == b) (0xC2 == 0xC2) refl
-marks_begin_alike (b ∷ bs) (suc p ∷ ps) = or_left (b == b) (b == 0xC2) (same_number b)
+marks_begin_alike (b ∷ bs) (suc p ∷ ps) = or_left (b == b) (b == 0xC2) (eq-eqb b b refl)
 
 other_text : (laws : Laws) (languages : List Language) (element : Option Element) (before after : Bool) (kind : PieceKind) (bytes : List ℕ) → AllFit languages → IsUtf8 bytes
     → IsOtherText kind bytes (marked_piece languages soft_hyphen element before after kind bytes)

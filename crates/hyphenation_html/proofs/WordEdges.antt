@@ -3,7 +3,7 @@ use Rattle.std.proofs.Common.{◌≡◌, ℕ, ◌-◌, Bool, true, false, List, 
 use Rattle.std.specs.Option.{option_map_or}
 use Rattle.std.proofs.lemmas.List.{take-append-drop}
 use Rattle.hyphenation_segments.specs.Laws.{with_marks}
-use Rattle.hyphenation_html.specs.Laws.{soft_hyphen}
+use Rattle.hyphenation_text.specs.Laws.{soft_hyphen}
 use Rattle.hyphenation_html.specs.Touching.{begins_in_word, ends_in_word}
 use Rattle.text_words.specs.Names.{is_of_word}
 

@@ -4,14 +4,11 @@ use Rattle.std.specs.Prelude.{ℕ, ◌==◌, ◌||◌, ◌&&◌, Bool, List, map
 use Rattle.std.specs.Option.{option_map_or}
 use Rattle.std.specs.String.{string_bytes}
 use Rattle.html_pieces.specs.Bytes.{is_same_name}
-use Rattle.any_dictionary.specs.Dictionaries.{places_by}
-use Rattle.composed_words.specs.Composed.{through_composed}
-use Rattle.text_words.specs.Words.{unless_mixed}
-use Rattle.hyphenation_html.specs.Dictionaries.{Breaks}
-use Rattle.hyphenation_html.specs.Words.{within_limits}
+use Rattle.hyphenation_text.specs.Dictionaries.{Breaks}
+use Rattle.hyphenation_text.specs.Words.{breaks_under}
+use Rattle.hyphenation_text.specs.declared.settings.Settings.{Settings}
 use Rattle.any_dictionary.specs.declared.AnyDictionary.{AnyDictionary}
 use Rattle.hyphenation_html.specs.declared.languages.LanguageDictionary.{LanguageDictionary}
-use Rattle.hyphenation_html.specs.declared.settings.Settings.{Settings}
 
 -- A code, and the breaks of words by the dictionary that serves it.
 abbrev pub Language : Type 0
@@ -20,15 +17,6 @@ Language = List ℕ × Breaks
 -- A dictionary with its code.
 abbrev pub coded : LanguageDictionary → List ℕ × AnyDictionary
 coded language = (string_bytes language.code, language.dictionary)
-
--- The breaks of words in NFC by a dictionary and some settings. A word with a letter beside a digit has none.
-abbrev pub composed_breaks_under : Settings → AnyDictionary → Breaks
-composed_breaks_under settings dictionary =
-    within_limits settings.min_word settings.skip_capitals (unless_mixed (places_by dictionary))
-
--- The breaks of words by a dictionary and some settings: each word is broken as its NFC is.
-abbrev pub breaks_under : Settings → AnyDictionary → Breaks
-breaks_under settings dictionary = through_composed (composed_breaks_under settings dictionary)
 
 -- A code with the breaks of words by its dictionary and some settings.
 abbrev pub breaking : Settings → List ℕ × AnyDictionary → Language

@@ -1,11 +1,7 @@
-pub mod Dictionaries
-pub mod Words
 pub mod Touching
 pub mod Unread
 pub mod Languages
 pub mod LeftAlone
 pub mod Places
-pub mod Texts
-pub mod Markdown
 pub mod Laws
 pub mod Private

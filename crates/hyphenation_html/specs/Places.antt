@@ -1,8 +1,6 @@
 -- Where marks are put into a page. Places are byte offsets.
-use Rattle.std.specs.Prelude.{◌≡◌, ℕ, ◌+◌, ◌||◌, Bool, false, List, [], ◌∷◌, ◌++◌, map, length, Option, Some, None, if◌then◌else◌}
+use Rattle.std.specs.Prelude.{◌≡◌, ℕ, Bool, false, List, [], ◌∷◌, ◌++◌, length, Option, Some, None, if◌then◌else◌}
 use Rattle.std.specs.Option.{option_map_or}
-use Rattle.text_words.specs.Words.{text_words}
-use Rattle.html_pieces.specs.Bytes.{is_white_space}
 use Rattle.html_pieces.specs.declared.bytes.PageForm.{PageForm}
 use Rattle.html_pieces.specs.Forms.{form_of}
 use Rattle.html_pieces.specs.Languages.{languages_of}
@@ -12,40 +10,12 @@ use Rattle.html_pieces.specs.Readings.{Reading, at_start, parent_of_text, readin
 use Rattle.html_pieces.specs.declared.tokenizer.PieceKind.{PieceKind}
 use Rattle.html_pieces.specs.declared.tokenizer.PieceKind.TheVariants.{Text}
 use Rattle.hyphenation_segments.specs.Laws.{with_marks}
-use Rattle.hyphenation_html.specs.Dictionaries.{Breaks}
+use Rattle.hyphenation_text.specs.Places.{shifted, text_places}
+use Rattle.hyphenation_text.specs.declared.settings.Settings.{Settings}
 use Rattle.hyphenation_html.specs.Languages.{Language, languages_by, best_of}
 use Rattle.hyphenation_html.specs.LeftAlone.{left_alone_elements, is_left_alone}
 use Rattle.hyphenation_html.specs.Touching.{touched_after, touched_before}
-use Rattle.hyphenation_html.specs.Words.{is_left_whole}
 use Rattle.hyphenation_html.specs.declared.languages.LanguageDictionary.{LanguageDictionary}
-use Rattle.hyphenation_html.specs.declared.settings.Settings.{Settings}
-
--- Places that are n bytes further on.
-abbrev pub shifted : ℕ → List ℕ → List ℕ
-shifted n places = map (λ p. n + p) places
-
--- The breaks of words that follow one another.
-abbrev pub words_places : Breaks → List (List ℕ) → List ℕ
-words_places breaks [] = []
-words_places breaks (word ∷ words) = breaks word ++ shifted (length word) (words_places breaks words)
-
--- The breaks of the words of a token, which is between white space; none where it is left whole.
-unfoldable pub token_places : Breaks → List ℕ → List ℕ
-token_places breaks token = if is_left_whole token then [] else words_places breaks (text_words token)
-
--- The breaks of a text from a token on, whose bytes so far are `front`. A token whose word goes on outside of the text has
--- none. It is the first one where something touches the text from before, and the last one where it does from after.
-abbrev pub tokens_places : Breaks → Bool → Bool → List ℕ → List ℕ → List ℕ
-tokens_places breaks before after front [] = if before || after then [] else token_places breaks front
-tokens_places breaks before after front (b ∷ bs) =
-    if is_white_space b
-    then (if before then [] else token_places breaks front)
-    ++ shifted (length front) (shifted 1 (tokens_places breaks false after [] bs))
-    else tokens_places breaks before after (front ++ b ∷ []) bs
-
--- The breaks of a text.
-abbrev pub text_places : Breaks → Bool → Bool → List ℕ → List ℕ
-text_places breaks before after text = tokens_places breaks before after [] text
 
 -- The breaks of a text in an element: by the dictionary of its language, if there is one and the text is not left alone. There
 -- are none where the element is not known.

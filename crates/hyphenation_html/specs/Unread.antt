@@ -6,7 +6,7 @@ use Rattle.html_pieces.specs.Pieces.{Piece, pieces_of}
 use Rattle.html_pieces.specs.Elements.{Element, page_element}
 use Rattle.html_pieces.specs.Readings.{Reading, at_start, reading_after}
 use Rattle.hyphenation_html.specs.LeftAlone.{left_alone_elements}
-use Rattle.hyphenation_html.specs.declared.settings.Settings.{Settings}
+use Rattle.hyphenation_text.specs.declared.settings.Settings.{Settings}
 
 -- The number of line feeds in bytes.
 abbrev pub line_feeds : List ℕ → ℕ

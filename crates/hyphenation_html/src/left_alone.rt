@@ -6,9 +6,9 @@ ghost use Rattle.std.specs.Prelude.{◌≡◌};
 ghost use Rattle.html_pieces.specs.Elements.{as_element, as_selection};
 ghost use Rattle.hyphenation_html.specs.LeftAlone.{left_alone_elements, is_left_alone};
 
-use crate::settings::Settings;
 use html_pieces::elements::{Element, Selection};
 use html_pieces::forms::begins_with_order_mark;
+use hyphenation_text::Settings;
 
 /// Elements whose text is left as it is: code and the like, drawings and formulas, and texts that forms send or windows
 /// show. So are those that are not shown, or read otherwise with scripting than without.

@@ -6,20 +6,19 @@ ghost use Rattle.std.specs.String.{string_bytes};
 ghost use Rattle.html_pieces.specs.Pieces.{as_piece, pieces_of};
 ghost use Rattle.html_pieces.specs.Forms.{form_of};
 ghost use Rattle.html_pieces.specs.Elements.{as_element};
+ghost use Rattle.hyphenation_text.specs.Laws.{IsPageWithMarks, soft_hyphen};
+ghost use Rattle.hyphenation_text.specs.Texts.{so_far};
 ghost use Rattle.hyphenation_html.specs.Languages.{coded, languages_by};
 ghost use Rattle.hyphenation_html.specs.Places.{page_places, marked_page, IsDone};
 ghost use Rattle.hyphenation_html.specs.Touching.{touched_after};
-ghost use Rattle.hyphenation_html.specs.Laws.{IsPageWithMarks, IsInText, soft_hyphen};
+ghost use Rattle.hyphenation_html.specs.Laws.{IsInText};
 ghost use Rattle.hyphenation_html.specs.Private.Fit.{AllFit};
-ghost use Rattle.hyphenation_html.specs.Private.Marked.{so_far, dictionary_in, is_text, marked_in_by};
+ghost use Rattle.hyphenation_html.specs.Private.Marked.{dictionary_in, is_text, marked_in_by};
 ghost use Rattle.hyphenation_html.specs.Private.Marked.{marked_piece_by, marked_pieces_by, marked_page_by};
 
 use crate::cut::HtmlPage;
-use crate::dictionary::limited_breaks_fit;
 use crate::languages::{LanguageDictionary, best_of};
 use crate::left_alone::{is_left_alone, left_alone_by};
-use crate::settings::Settings;
-use crate::text::{Output, push_text};
 use crate::touching::{touched_after, touched_before};
 use html_pieces::bytes::PageForm;
 use html_pieces::elements::{Element, page_element};
@@ -29,10 +28,12 @@ use html_pieces::laws::{
 use html_pieces::readings::{Reading, advance, parent_of_text};
 use html_pieces::references::read;
 use html_pieces::tokenizer::{Piece, PieceKind};
-use hyphenation_hyphenator::hyphenator::laws::plain_breaks_fit_where_ascending;
-use hyphenation_segments::iter::laws::{marked_segments_join, segments_join};
+use hyphenation_text::laws::{
+    limited_breaks_fit, marked_texts_have_none_left, marked_texts_join, texts_are_marked,
+    white_space_has_no_breaks,
+};
+use hyphenation_text::{Output, Settings, push_text};
 use std::alloc::{AllocError, Global};
-use text_words::laws::words_are_slices;
 
 // Returns the dictionary for the words of a text: none where it is left alone, or in no element that is known.
 fn dictionary_in<'l>(
@@ -219,10 +220,10 @@ pub fn hyphenate_html(
         IsDone settings.now languages.now language.now page.now (string_bytes output)) }
     ensures without { languages.now ≡ [] → IfOk result (λ output. string_bytes output ≡ page.now) }
 {
-    plain_breaks_fit_where_ascending();
-    words_are_slices();
-    segments_join();
-    marked_segments_join();
+    texts_are_marked();
+    marked_texts_join();
+    marked_texts_have_none_left();
+    white_space_has_no_breaks();
     pieces_join();
     pieces_are_utf8();
     other_texts_are_cut_alike();

@@ -7,11 +7,11 @@ ghost use Rattle.hyphenation_html.specs.Unread.{line_feeds, unread_in, unread_li
 
 use crate::cut::HtmlPage;
 use crate::left_alone::left_alone_by;
-use crate::settings::Settings;
 use html_pieces::bytes::PageForm;
 use html_pieces::elements::{Element, page_element};
 use html_pieces::readings::{Reading, advance};
 use html_pieces::tokenizer::Piece;
+use hyphenation_text::Settings;
 use std::alloc::{AllocError, Global};
 
 // Returns the number of line feeds in bytes.

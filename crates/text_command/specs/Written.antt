@@ -16,10 +16,10 @@ use Rattle.command_line.specs.declared.failure.Failure.{Failure}
 use Rattle.command_line.specs.declared.failure.Failure.TheVariants as failed
 use Rattle.composed_words.specs.Composed.{through_composed}
 use Rattle.text_words.specs.Words.{unless_mixed}
-use Rattle.hyphenation_html.specs.Dictionaries.{Breaks}
-use Rattle.hyphenation_html.specs.Markdown.{hyphenated_markdown_by}
-use Rattle.hyphenation_html.specs.Texts.{hyphenated_by}
-use Rattle.hyphenation_html.specs.Words.{within_limits}
+use Rattle.hyphenation_text.specs.Dictionaries.{Breaks}
+use Rattle.hyphenation_text.specs.Markdown.{hyphenated_markdown_by}
+use Rattle.hyphenation_text.specs.Texts.{hyphenated_by}
+use Rattle.hyphenation_text.specs.Words.{within_limits}
 use Rattle.text_results.specs.Files.{WrittenFiles}
 use Rattle.text_results.specs.Removals.{EndsRemoval}
 use Rattle.text_results.specs.Texts.{IsFailureAmong}

@@ -14,7 +14,7 @@ use crate::request::{Options, Request};
 use any_dictionary::AnyDictionary;
 use command_line::adjustments::load_adjusted;
 use command_line::{Failure, NamedFiles};
-use hyphenation_html::{Settings, hyphenate_markdown, hyphenate_text};
+use hyphenation_text::{Settings, hyphenate_markdown, hyphenate_text};
 use std::alloc::{AllocError, Global};
 use std::io::{Read, Write};
 use text_results::files::ReplaceFiles;

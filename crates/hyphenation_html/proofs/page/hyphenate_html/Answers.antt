@@ -8,8 +8,7 @@ use Rattle.std.proofs.lemmas.Result.{IfOk-weaker}
 use Rattle.hyphenation_segments.specs.Laws.{with_marks}
 use Rattle.hyphenation_html.specs.Languages.{languages_by}
 use Rattle.hyphenation_html.specs.LeftAlone.{left_alone_elements}
-use Rattle.hyphenation_html.proofs.MarkedTexts.{Laws}
-use Rattle.hyphenation_html.proofs.MarkedPages.{page_marked, page_without}
+use Rattle.hyphenation_html.proofs.MarkedPages.{Laws, page_marked, page_without}
 use Rattle.hyphenation_html.proofs.KeptForms.{form_kept, languages_kept}
 use Rattle.hyphenation_html.proofs.SecondPages.{page_done}
 use Rattle.hyphenation_html.specs.Places.{places_of}
@@ -19,31 +18,31 @@ use Rattle.hyphenation_html.proofs.page.hyphenate_html.Goals as goal
 
 pub returns-clause-marked : goal.returns-clause-marked
 returns-clause-marked c =
-    let laws : Laws = record { words = c.words_are_slices.ensures.slices; words_join = c.words_are_slices.ensures.join; join = c.segments_join.ensures; joins = c.marked_segments_join.ensures; fit = c.plain_breaks_fit_where_ascending.ensures } in
+    let laws : Laws = record { marked = c.texts_are_marked.ensures; unmarked = c.marked_texts_join.ensures.none; join = c.marked_texts_join.ensures.join; none_left = c.marked_texts_have_none_left.ensures; white = c.white_space_has_no_breaks.ensures } in
     let marked = page_marked laws _ (form_of c.args.page.now) c.args.settings.now.class.now c.args.language.now c.args.settings.now.mark.now c.args.page.now c.all_fit.ensures (c.pieces_join.ensures (form_of c.args.page.now) c.args.page.now) (c.pieces_are_utf8.ensures (form_of c.args.page.now) c.args.page.now c.invariant.ensures) in
     IfOk-weaker c.page_with_marks.result _ _ (λ output e. e ∙ marked.is) c.page_with_marks.ensures
 
 pub returns-clause-kept : goal.returns-clause-kept
 returns-clause-kept c =
-    let laws : Laws = record { words = c.words_are_slices.ensures.slices; words_join = c.words_are_slices.ensures.join; join = c.segments_join.ensures; joins = c.marked_segments_join.ensures; fit = c.plain_breaks_fit_where_ascending.ensures } in
+    let laws : Laws = record { marked = c.texts_are_marked.ensures; unmarked = c.marked_texts_join.ensures.none; join = c.marked_texts_join.ensures.join; none_left = c.marked_texts_have_none_left.ensures; white = c.white_space_has_no_breaks.ensures } in
     let marked = page_marked laws _ (form_of c.args.page.now) c.args.settings.now.class.now c.args.language.now c.args.settings.now.mark.now c.args.page.now c.all_fit.ensures (c.pieces_join.ensures (form_of c.args.page.now) c.args.page.now) (c.pieces_are_utf8.ensures (form_of c.args.page.now) c.args.page.now c.invariant.ensures) in
     IfOk-weaker c.page_with_marks.result _ _ (λ output e. (marked.parts.0, marked.parts.1, marked.parts.2 ∙ sym e)) c.page_with_marks.ensures
 
 pub returns-clause-in_text : goal.returns-clause-in_text
 returns-clause-in_text c =
-    let laws : Laws = record { words = c.words_are_slices.ensures.slices; words_join = c.words_are_slices.ensures.join; join = c.segments_join.ensures; joins = c.marked_segments_join.ensures; fit = c.plain_breaks_fit_where_ascending.ensures } in
+    let laws : Laws = record { marked = c.texts_are_marked.ensures; unmarked = c.marked_texts_join.ensures.none; join = c.marked_texts_join.ensures.join; none_left = c.marked_texts_have_none_left.ensures; white = c.white_space_has_no_breaks.ensures } in
     page_in_text laws _ (form_of c.args.page.now) c.args.settings.now.class.now c.args.language.now c.args.page.now c.all_fit.ensures (c.pieces_are_utf8.ensures (form_of c.args.page.now) c.args.page.now c.invariant.ensures)
 
 pub returns-clause-without : goal.returns-clause-without
 returns-clause-without c = λ e.
-    let laws : Laws = record { words = c.words_are_slices.ensures.slices; words_join = c.words_are_slices.ensures.join; join = c.segments_join.ensures; joins = c.marked_segments_join.ensures; fit = c.plain_breaks_fit_where_ascending.ensures } in
+    let laws : Laws = record { marked = c.texts_are_marked.ensures; unmarked = c.marked_texts_join.ensures.none; join = c.marked_texts_join.ensures.join; none_left = c.marked_texts_have_none_left.ensures; white = c.white_space_has_no_breaks.ensures } in
     let marked = page_marked laws _ (form_of c.args.page.now) c.args.settings.now.class.now c.args.language.now c.args.settings.now.mark.now c.args.page.now c.all_fit.ensures (c.pieces_join.ensures (form_of c.args.page.now) c.args.page.now) (c.pieces_are_utf8.ensures (form_of c.args.page.now) c.args.page.now c.invariant.ensures) in
     let none = page_without _ (form_of c.args.page.now) c.args.settings.now.class.now c.args.language.now c.args.page.now (ap (languages_by c.args.settings.now) e) in
     IfOk-weaker c.page_with_marks.result _ _ (λ output is. is ∙ marked.is ∙ ap (with_marks c.args.settings.now.mark.now c.args.page.now) none) c.page_with_marks.ensures
 
 pub returns-clause-twice : goal.returns-clause-twice
 returns-clause-twice c = λ e.
-    let laws : Laws = record { words = c.words_are_slices.ensures.slices; words_join = c.words_are_slices.ensures.join; join = c.segments_join.ensures; joins = c.marked_segments_join.ensures; fit = c.plain_breaks_fit_where_ascending.ensures } in
+    let laws : Laws = record { marked = c.texts_are_marked.ensures; unmarked = c.marked_texts_join.ensures.none; join = c.marked_texts_join.ensures.join; none_left = c.marked_texts_have_none_left.ensures; white = c.white_space_has_no_breaks.ensures } in
     let settings = c.args.settings.now in
     let page = c.args.page.now in
     let language = c.args.language.now in

@@ -1,0 +1,12 @@
+pub mod Boundaries
+pub mod Slices
+pub mod TextSteps
+pub mod Limits
+pub mod WordMarks
+pub mod PassedWords
+pub mod LetterTokens
+pub mod Marks
+pub mod MarkedTexts
+pub mod SecondRun
+pub mod MarkdownSteps
+pub mod MarkedMarkdown
