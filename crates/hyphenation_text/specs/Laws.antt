@@ -7,7 +7,7 @@ use Rattle.hyphenation_text.specs.Dictionaries.{Breaks, AllAscend}
 use Rattle.hyphenation_text.specs.Places.{shifted, text_places}
 use Rattle.hyphenation_text.specs.Texts.{marked_text}
 
--- A page in parts, with nothing or a mark between them: the parts without the marks.
+-- A text or a page in parts, with nothing or a mark between them: the parts without the marks.
 abbrev pub without_marks : List (Option (List ℕ)) → List ℕ
 without_marks [] = []
 without_marks (Some part ∷ parts) = part ++ without_marks parts
@@ -19,7 +19,7 @@ joined_with mark [] = []
 joined_with mark (Some part ∷ parts) = part ++ joined_with mark parts
 joined_with mark (None ∷ parts) = mark ++ joined_with mark parts
 
--- The output is the page, in parts, with marks between them. So without the marks the output is the page, byte for byte.
+-- The output is the text or the page, in parts, with marks between them. So without the marks it is that, byte for byte.
 abbrev pub IsPageWithMarks : List ℕ → List ℕ → List ℕ → Type 0
 IsPageWithMarks mark page output =
     (parts : List (Option (List ℕ))) × (without_marks parts ≡ page) × (joined_with mark parts ≡ output)
