@@ -1,5 +1,5 @@
 -- One piece more of a text in Markdown that is written.
-use Rattle.std.proofs.Common.{◌≡◌, ℕ, ◌+◌, ◌<◌, ◌≤◌, Bool, List, [], ◌∷◌, ◌++◌, map, length, drop, slice_get, get_or, Option, Some, refl, ap, sym, ◌∙◌, append_assoc, append-nil, add-one, drop-cons, suc}
+use Rattle.std.proofs.Common.{◌≡◌, ℕ, ◌+◌, ◌<◌, ◌≤◌, Bool, List, [], ◌∷◌, ◌++◌, map, length, drop, slice_get, Some, refl, ap, sym, ◌∙◌, append_assoc, append-nil, add-one, drop-cons, suc}
 use Rattle.std.proofs.lemmas.List.{drop_all}
 use Rattle.std.proofs.lemmas.Option.{get_or_from_slice_get}
 use Rattle.markdown_pieces.specs.Pieces.{Piece, as_piece}

@@ -1,5 +1,5 @@
 -- A text in Markdown that is written piece by piece is the text with marks at its places, and has no places left then.
-use Rattle.std.proofs.Common.{◌≡◌, ℕ, ◌==◌, ◌||◌, not, IsUtf8, Bool, true, false, List, [], ◌∷◌, ◌++◌, length, take, drop, suc, zero, arith, refl, ap, sym, ◌∙◌, subst, if◌then◌else◌}
+use Rattle.std.proofs.Common.{◌≡◌, ℕ, ◌==◌, not, IsUtf8, Bool, true, false, List, [], ◌∷◌, ◌++◌, length, take, drop, suc, zero, refl, ap, sym, ◌∙◌, subst, if◌then◌else◌}
 use Rattle.std.proofs.lemmas.Bool.{eq-eqb, or_left, or_right}
 use Rattle.hyphenation_segments.specs.Laws.{with_marks}
 use Rattle.markdown_pieces.specs.Laws.{joined_pieces, AreUtf8, AreCutAlike, IsPlain, begins_alike, IsOtherText, HaveOtherTexts}

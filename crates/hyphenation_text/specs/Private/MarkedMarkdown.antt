@@ -1,7 +1,7 @@
 -- A text in Markdown with marks, piece by piece, as it is written.
 use Rattle.std.specs.Prelude.{ℕ, Bool, false, List, [], ◌∷◌, ◌++◌, map, if◌then◌else◌}
 use Rattle.any_dictionary.specs.declared.AnyDictionary.{AnyDictionary}
-use Rattle.markdown_pieces.specs.Pieces.{Piece, as_piece, pieces_of}
+use Rattle.markdown_pieces.specs.Pieces.{Piece, as_piece}
 use Rattle.markdown_pieces.specs.declared.cutting.Piece as cut
 use Rattle.markdown_pieces.specs.declared.cutting.PieceKind.{PieceKind}
 use Rattle.hyphenation_text.specs.Dictionaries.{Breaks}

@@ -4,7 +4,6 @@ use Rattle.std.proofs.lemmas.Result.{IfOk-weaker}
 use Rattle.hyphenation_segments.specs.Laws.{with_marks}
 use Rattle.markdown_pieces.specs.Pieces.{pieces_of}
 use Rattle.hyphenation_text.specs.Words.{breaks_under}
-use Rattle.hyphenation_text.specs.Markdown.{markdown_places}
 use Rattle.hyphenation_text.specs.Private.MarkedMarkdown.{marked_markdown}
 use Rattle.hyphenation_text.proofs.MarkedTexts.{Laws}
 use Rattle.hyphenation_text.proofs.MarkedMarkdown.{markdown_marked, markdown_done}
