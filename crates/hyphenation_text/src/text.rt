@@ -347,10 +347,10 @@ fn push_tokens(
 /// The part of the text up to white space is left as it is then. The error says that memory was refused.
 ///
 /// ```text
-/// let mut output = Output::with_capacity(alloc, 64)?;
+/// let mut marked = Output::with_capacity(alloc, 64)?;
 /// let settings = Settings { mark: "-", ..Settings::new() };
-/// push_text(&mut output, &dictionary, &settings, "firkin firkin", false, true)?;
-/// output.text     // fir-kin firkin
+/// push_text(&mut marked, &dictionary, &settings, "firkin firkin", false, true)?;
+/// marked.text     // fir-kin firkin
 /// ```
 pub fn push_text(
     output: &mut Output,
