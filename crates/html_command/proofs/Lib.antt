@@ -3,6 +3,7 @@ pub mod Endings
 pub mod EqualsSign
 pub mod Refused
 pub mod Requests
+pub mod Rivals
 pub mod Runs
 pub mod Given
 pub mod Codes

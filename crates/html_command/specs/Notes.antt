@@ -1,8 +1,9 @@
--- The notes on pages: on languages without a dictionary, and on rests that are not read.
+-- The notes on pages: on languages without a dictionary of their own, and on rests that are not read.
 use Rattle.std.specs.Prelude.{ℕ, ◌+◌, ◌==◌, Bool, true, false, List, [], ◌∷◌, ◌++◌, codes, map, if◌then◌else◌, slice_index_or, Option, Some, None}
 use Rattle.std.specs.Fmt.{decimal}
 use Rattle.std.specs.List.{flat_map, list_all, list_any}
 use Rattle.std.specs.Str.{bytes_eq}
+use Rattle.any_dictionary.specs.Dictionaries.{language_by}
 use Rattle.any_dictionary.specs.declared.AnyDictionary.{AnyDictionary}
 use Rattle.command_line.specs.Inputs.{is_standard_input}
 use Rattle.html_pieces.specs.Languages.{languages_of}
@@ -11,8 +12,9 @@ use Rattle.hyphenation_html.specs.Unread.{unread_line}
 use Rattle.hyphenation_html.specs.declared.languages.LanguageDictionary.{LanguageDictionary}
 use Rattle.hyphenation_text.specs.declared.settings.Settings.{Settings}
 use Rattle.language_search.specs.Tags.{codes_of, underscore}
+use Rattle.html_command.specs.Varieties.{are_other_varieties}
 use Rattle.html_command.specs.declared.notes.Note.{Note}
-use Rattle.html_command.specs.declared.notes.Note.TheVariants.{NoDictionary, NoCode, NoLanguage, LeftAlone}
+use Rattle.html_command.specs.declared.notes.Note.TheVariants.{NoDictionary, NoCode, NoLanguage, OtherVariety, LeftAlone}
 use Rattle.html_command.specs.declared.notes.PageNote.{PageNote}
 
 -- The result of a page: its text, and the notes on it.
@@ -31,10 +33,17 @@ note_by_codes (code ∷ more) = NoDictionary code
 abbrev pub note_without : List ℕ → Note
 note_without tag = if list_any (λ byte. byte == underscore) tag then NoCode else note_by_codes (codes_of tag)
 
--- The note on the language of a tag, by the dictionary that serves it, if one does.
+-- The note on a language of these codes, which a dictionary of that code serves: the dictionary is one of another variety.
+abbrev pub variety_note : List (List ℕ) → List ℕ → Option Note
+variety_note [] dictionary = None
+variety_note (code ∷ more) dictionary =
+    if are_other_varieties code dictionary then Some (OtherVariety code dictionary) else None
+
+-- The note on the language of a tag, by the dictionary that serves it, if one does. The first of the tag's codes names it, and
+-- the code that the dictionary's text names is the dictionary's.
 abbrev pub note_by : List ℕ → Option (List ℕ × AnyDictionary) → Option Note
 note_by tag None = Some (note_without tag)
-note_by tag (Some one) = None
+note_by tag (Some one) = variety_note (codes_of tag) (language_by one.1)
 
 -- The note on the language of a tag where there are these dictionaries. An empty tag is that of no language.
 abbrev pub language_note : List LanguageDictionary → List ℕ → Option Note
@@ -44,6 +53,7 @@ language_note dictionaries (byte ∷ bytes) = note_by (byte ∷ bytes) (best_of 
 -- Two notes are on the same language.
 abbrev pub is_on_same : Note → Note → Bool
 is_on_same (NoDictionary code) (NoDictionary other) = bytes_eq code other
+is_on_same (OtherVariety code dictionary) (OtherVariety other its) = bytes_eq code other
 is_on_same NoCode NoCode = true
 is_on_same _ _ = false
 
@@ -67,7 +77,7 @@ abbrev pub is_empty_tag : List ℕ → Bool
 is_empty_tag [] = true
 is_empty_tag (byte ∷ bytes) = false
 
--- The notes on the languages of some tags: on each that has no dictionary, once. If all tags are empty there is one, too.
+-- The notes on the languages of some tags: on each that has no dictionary of its own, once. If all tags are empty there is one, too.
 abbrev pub language_notes : List LanguageDictionary → List (List ℕ) → List Note
 language_notes dictionaries tags =
     if list_all is_empty_tag tags then NoLanguage ∷ [] else with_languages dictionaries [] tags
@@ -116,6 +126,7 @@ abbrev pub words_of : Note → List ℕ
 words_of (NoDictionary code) = codes "no dictionary for the language " ++ (code ++ codes ": its text is left alone")
 words_of NoCode = codes "a language of the page is no code, such as en-gb: its text is left alone"
 words_of NoLanguage = codes "the page names no language, so nothing is changed; --lang names it"
+words_of (OtherVariety code dictionary) = code ++ (codes " is hyphenated by the dictionary " ++ dictionary)
 words_of (LeftAlone line) =
     codes "line " ++ (decimal line ++ codes ": left alone from here on, since parsers may read it in different ways")
 

@@ -17,6 +17,7 @@ mod dictionaries;
 mod notes;
 mod request;
 mod run;
+mod varieties;
 
 use command_line::options::ReadError;
 use command_line::{Failure, Messages, NamedFiles, Notes, ProgramSteps, ProgramTexts, VERSION};

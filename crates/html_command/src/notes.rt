@@ -1,15 +1,19 @@
-//! Notes on pages: on their languages that have no dictionary, and on rests that are not read.
+//! Notes on pages: on their languages that have no dictionary of their own, and on rests that are not read.
 
 ghost use Rattle.std.specs.Prelude.{◌≡◌, ◌==◌, ◌++◌, ◌∷◌, slice_index_or, [], map, IfOk, OnOk};
 ghost use Rattle.std.specs.List.{list_all, list_any};
 ghost use Rattle.std.specs.String.{string_bytes};
+ghost use Rattle.any_dictionary.specs.Dictionaries.{language_by};
 ghost use Rattle.command_line.specs.Endings.{Tells, TellsMore};
 ghost use Rattle.hyphenation_breaks.specs.Borrowed.{texts_now};
 ghost use Rattle.html_pieces.specs.Languages.{languages_of};
-ghost use Rattle.language_search.specs.Tags.{underscore};
+ghost use Rattle.language_search.specs.Tags.{codes_of, underscore};
 ghost use Rattle.html_command.specs.Notes.{is_empty_tag, is_on_same, language_note, language_notes, note_by_codes, note_without};
+ghost use Rattle.html_command.specs.Notes.{variety_note};
 ghost use Rattle.html_command.specs.Notes.{line_on, note_line, notes_at, notes_on, notes_text, unread_note, with_new, with_note, words_of};
 
+use crate::varieties::are_other_varieties;
+use any_dictionary::AnyDictionary;
 use command_line::Messages;
 use command_line::inputs::is_standard_input;
 use hyphenation_breaks::language::Language;
@@ -19,7 +23,7 @@ use std::alloc::{AllocError, Global};
 use std::fmt;
 use std::io::Write;
 
-/// A note on a page: which of its languages has no dictionary, or how far it is read.
+/// A note on a page: which of its languages has no dictionary of its own, or how far it is read.
 #[derive(Clone, Copy)]
 pub enum Note {
     /// The language of this code has no dictionary.
@@ -28,6 +32,11 @@ pub enum Note {
     NoCode,
     /// It names no language, and the arguments name none for it.
     NoLanguage,
+    /// The language of this code is hyphenated by a dictionary of another variety of it, which has that code.
+    OtherVariety {
+        language: Language,
+        dictionary: Language,
+    },
     /// From this line on, counted from 1, it is left alone, since parsers may read it in different ways.
     LeftAlone(u64),
 }
@@ -67,7 +76,42 @@ fn note_without(alloc: Global, tag: &str) -> Result<Note, AllocError>
     Ok(note_by_codes(&codes))
 }
 
-// Returns the note on the language of a tag, if it has no dictionary. An empty tag is that of no language.
+// Returns the note on a language of these codes, if the dictionary that serves it is one of another variety.
+fn variety_note(
+    alloc: Global,
+    codes: &[Language],
+    dictionary: &Language,
+) -> Result<Option<Note>, AllocError>
+    ensures { IfOk result (λ note. note ≡ variety_note codes.now dictionary.now) }
+{
+    match codes {
+        [] => Ok(None),
+        [code, ..] => {
+            if are_other_varieties(alloc, code, dictionary)? {
+                Ok(Some(Note::OtherVariety {
+                    language: *code,
+                    dictionary: *dictionary,
+                }))
+            } else {
+                Ok(None)
+            }
+        }
+    }
+}
+
+// Returns the note on the language of a tag, if the dictionary that serves it is one of another variety.
+fn served_note(
+    alloc: Global,
+    tag: &str,
+    dictionary: &AnyDictionary,
+) -> Result<Option<Note>, AllocError>
+    ensures { IfOk result (λ note. note ≡ variety_note (codes_of tag.now) (language_by dictionary.now)) }
+{
+    let codes = codes_of(alloc, tag)?;
+    variety_note(alloc, &codes, &dictionary.language())
+}
+
+// Returns the note on the language of a tag, if it has no dictionary of its own. An empty tag is that of no language.
 fn language_note(
     alloc: Global,
     dictionaries: &[LanguageDictionary],
@@ -79,7 +123,7 @@ fn language_note(
         return Ok(None);
     }
     match best_of(dictionaries, tag.as_bytes()) {
-        Some(_) => Ok(None),
+        Some(one) => served_note(alloc, tag, &one.dictionary),
         None => Ok(Some(note_without(alloc, tag)?)),
     }
 }
@@ -91,6 +135,13 @@ fn is_on_same(one: &Note, other: &Note) -> bool
     match one {
         Note::NoDictionary(one) => match other {
             Note::NoDictionary(other) => one.code() == other.code(),
+            _ => false,
+        },
+        Note::OtherVariety { language: one, .. } => match other {
+            Note::OtherVariety {
+                language: other,
+                ..
+            } => one.code() == other.code(),
             _ => false,
         },
         Note::NoCode => matches!(other, Note::NoCode),
@@ -251,6 +302,10 @@ impl fmt::Display for Note {
             Note::NoLanguage => {
                 f.write_str("the page names no language, so nothing is changed; --lang names it")
             }
+            Note::OtherVariety {
+                language,
+                dictionary,
+            } => write!(f, "{language} is hyphenated by the dictionary {dictionary}"),
             Note::LeftAlone(line) => write!(
                 f,
                 "line {line}: left alone from here on, since parsers may read it in different ways"
